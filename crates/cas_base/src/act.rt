@@ -1,0 +1,30 @@
+/// Why a step of the source language has no defined result.
+#[derive(Clone, Copy, Debug, PartialEq, Eq)]
+pub enum Why {
+    /// A division or remainder by zero.
+    DivZero,
+    /// The signed division or remainder of -2147483648 by -1.
+    DivRange,
+    /// An index, an access or a pointer outside its object.
+    Index,
+    /// A null pointer where an object is needed.
+    Null,
+    /// A pointer to an object whose activation has returned.
+    Dead,
+    /// Places of different objects where one object is needed.
+    Across,
+}
+
+/// What a step of a thread does beyond its own state. A lock is named by its word's number.
+#[derive(Clone, Copy, Debug, PartialEq, Eq)]
+pub enum Act {
+    Quiet,
+    Lock(u32),
+    Unlock(u32),
+    /// Puts this word out.
+    Out(u32),
+    /// The thread has ended.
+    Done,
+    /// The step has no defined result.
+    Bad(Why),
+}

@@ -1,0 +1,23 @@
+//! What every part of the compiler speaks of: words, kinds and types, names, places, declarations, and
+//! the acts of a step. It stands on the standard library alone.
+#![tactic(auto)]
+
+mod act;
+mod decl;
+mod kind;
+mod memory;
+mod name;
+mod place;
+mod seq;
+mod text;
+mod word;
+
+pub use act::{Act, Why};
+pub use decl::{Decl, Form, Global, Unit};
+pub use kind::{Kind, Ty};
+pub use memory::NoMemory;
+pub use name::{Name, NameFault};
+pub use place::Place;
+pub use seq::Seq;
+pub use text::Text;
+pub use word::{add, narrow};
