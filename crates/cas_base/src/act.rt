@@ -1,5 +1,5 @@
 /// Why a step of the source language has no defined result.
-#[derive(Clone, Copy, Debug, PartialEq, Eq)]
+#[derive(Clone, Copy, Debug, PartialEq, Eq, Hash)]
 pub enum Why {
     /// A division or remainder by zero.
     DivZero,
@@ -16,10 +16,13 @@ pub enum Why {
 }
 
 /// What a step of a thread does beyond its own state. A lock is named by its word's number.
-#[derive(Clone, Copy, Debug, PartialEq, Eq)]
+#[derive(Clone, Copy, Debug, PartialEq, Eq, Hash)]
 pub enum Act {
+    /// Nothing beyond the thread's own state.
     Quiet,
+    /// Takes the lock with this word's number.
     Lock(u32),
+    /// Gives the lock with this word's number back.
     Unlock(u32),
     /// Puts this word out.
     Out(u32),

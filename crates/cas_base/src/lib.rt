@@ -9,6 +9,8 @@ mod memory;
 mod name;
 mod place;
 mod seq;
+#[cfg(test)]
+mod tests;
 mod text;
 mod word;
 
@@ -16,7 +18,7 @@ pub use act::{Act, Why};
 pub use decl::{Decl, Form, Global, Unit};
 pub use kind::{Kind, Ty};
 pub use memory::NoMemory;
-pub use name::{Name, NameFault};
+pub use name::{NAME_LIMIT, Name, NameFault};
 pub use place::Place;
 pub use seq::Seq;
 pub use text::Text;

@@ -1,9 +1,10 @@
-ghost use Rattle.std.specs.Prelude.{◌≡◌, ◌↔◌, IfOk, IfErr, IsTrue, false, string_bytes};
+ghost use Rattle.std.specs.Prelude.{◌≡◌, ◌↔◌, IfOk, OnOk, IsErrOf, IsTrue, false};
 ghost use Rattle.std.specs.List.{list_all};
 ghost use Rattle.cas_base.specs.Name.{is_name, is_first_byte, is_name_byte};
+ghost use Rattle.cas_base.specs.declared.name.NameFault.TheVariants.{Memory};
 
 use crate::memory::NoMemory;
-use std::alloc::Global;
+use std::alloc::{AllocError, Global};
 use std::marker::Model;
 
 /// The most bytes that a name has.
@@ -28,7 +29,7 @@ impl Model for Name {
 }
 
 /// Why a text gives no name.
-#[derive(Clone, Copy, Debug, PartialEq, Eq)]
+#[derive(Clone, Copy, Debug, PartialEq, Eq, Hash)]
 pub enum NameFault {
     /// The text isn't of a name's shape, or is longer than 63 bytes.
     Shape,
@@ -36,21 +37,28 @@ pub enum NameFault {
     Memory,
 }
 
+impl From<AllocError> for NameFault {
+    ghost from_gives = { λ _ fault. fault ≡ Memory };
+
+    fn from(_error: AllocError) -> Self {
+        NameFault::Memory
+    }
+}
+
 impl Name {
     /// The name with this text.
+    ///
+    /// Errors: `Shape` exactly where the text is no name; `Memory`.
     pub fn new(alloc: Global, text: &str) -> Result<Name, NameFault>
         ensures named { IfOk result (λ name. name ≡ text.now) }
-        ensures shaped { IfOk result (λ _. IsTrue (is_name text.now)) }
-        ensures misshapen { IfErr result (λ fault. fault ≡ NameFault.Shape → is_name text.now ≡ false) }
-        ensures only { is_name text.now ≡ false → result ≡ Err NameFault.Shape }
+        ensures shaped { OnOk result (IsTrue (is_name text.now)) }
+        ensures misshapen { IsErrOf result NameFault.Shape ↔ (is_name text.now ≡ false) }
     {
         if !has_name_shape(text.as_bytes()) {
             return Err(NameFault::Shape);
         }
-        match String::from_str(alloc, text) {
-            Ok(text) => Ok(Name { text }),
-            Err(_) => Err(NameFault::Memory),
-        }
+        let text = String::from_str(alloc, text)?;
+        Ok(Name { text })
     }
 
     /// Another name with the same text.
@@ -61,6 +69,7 @@ impl Name {
         Ok(Name { text })
     }
 
+    /// The name's text.
     pub fn as_str(&self) -> &str
         ensures text { result.now ≡ self.now }
         ensures shaped { IsTrue (is_name result.now) }
@@ -93,4 +102,48 @@ fn goes_on(bytes: &[u8]) -> bool
     bytes
         .iter()
         .all(|byte| byte.is_ascii_alphanumeric() || *byte == b'_')
+}
+
+#[cfg(test)]
+mod tests {
+    use super::*;
+    use std::process::Abort;
+
+    fn assert_name(rt: &impl Abort, alloc: Global, text: &str, is_name: bool) {
+        match Name::new(alloc, text) {
+            Ok(name) => {
+                assert!(rt; is_name, "{text} is no name");
+                assert_eq!(rt; name.as_str(), text);
+            }
+            Err(fault) => {
+                assert_eq!(rt; fault, NameFault::Shape, "at {text}");
+                assert!(rt; !is_name, "{text} is a name");
+            }
+        }
+    }
+
+    #[test]
+    fn names_are_letters_digits_and_underscores(rt: HostRuntime) {
+        let longest = "abcdefghijabcdefghijabcdefghijabcdefghijabcdefghijabcdefghij_12";
+        let too_long = "abcdefghijabcdefghijabcdefghijabcdefghijabcdefghijabcdefghij_123";
+        assert_eq!(rt; longest.len(), 63);
+        let table = [
+            ("", false),
+            ("a", true),
+            ("Z9_z", true),
+            ("_", true),
+            ("_1", true),
+            ("1a", false),
+            ("a b", false),
+            ("a-b", false),
+            ("a.", false),
+            ("é", false),
+            ("aé", false),
+            (longest, true),
+            (too_long, false),
+        ];
+        for (text, is_name) in table {
+            assert_name(&rt, rt.alloc(), text, is_name);
+        }
+    }
 }

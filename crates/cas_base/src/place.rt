@@ -1,6 +1,8 @@
-/// A place in a text: its line and its column, both counted from 1, the column in bytes.
-#[derive(Clone, Copy, Debug, PartialEq, Eq)]
+/// A place in a text. Places compare as they stand in the text.
+#[derive(Clone, Copy, Debug, PartialEq, Eq, PartialOrd, Ord, Hash)]
 pub struct Place {
+    /// The line, counted from 1.
     pub line: u32,
+    /// The column in its line, in bytes, counted from 1.
     pub col: u32,
 }

@@ -26,6 +26,7 @@ impl<T> Seq<T> {
         Seq { items }
     }
 
+    /// The items, in their order.
     pub fn as_slice(&self) -> &[T]
         ensures { result.now ≡ self.now }
     {

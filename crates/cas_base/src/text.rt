@@ -24,6 +24,7 @@ impl Text {
         Text { text }
     }
 
+    /// The text, lent.
     pub fn as_str(&self) -> &str
         ensures { result.now ≡ self.now }
     {

@@ -35,3 +35,58 @@ fn extend(low: u32, half: u32, size: u32) -> u32
         u32::MAX - (size - 1) + low
     }
 }
+
+#[cfg(test)]
+mod tests {
+    use super::*;
+
+    #[test]
+    fn sums_wrap(rt: HostRuntime) {
+        let table = [
+            (0, 0, 0),
+            (1, 41, 42),
+            (2147483647, 1, 2147483648),
+            (2147483648, 2147483648, 0),
+            (4294967295, 1, 0),
+            (4294967295, 4294967295, 4294967294),
+        ];
+        for (a, b, sum) in table {
+            assert_eq!(rt; add(a, b), sum, "{a} + {b}");
+        }
+    }
+
+    // C's conversions to each type: -1 is the word 4294967295, -128 is 4294967168, -32768 is 4294934528.
+    #[test]
+    fn conversions_keep_the_low_bits(rt: HostRuntime) {
+        let table = [
+            (0, Kind::I8, 0),
+            (127, Kind::I8, 127),
+            (128, Kind::I8, 4294967168),
+            (200, Kind::I8, 4294967240),
+            (255, Kind::I8, 4294967295),
+            (256, Kind::I8, 0),
+            (2147483647, Kind::I8, 4294967295),
+            (4294967168, Kind::I8, 4294967168),
+            (4294967167, Kind::I8, 127),
+            (255, Kind::U8, 255),
+            (256, Kind::U8, 0),
+            (4294967295, Kind::U8, 255),
+            (32767, Kind::I16, 32767),
+            (32768, Kind::I16, 4294934528),
+            (65535, Kind::I16, 4294967295),
+            (65536, Kind::I16, 0),
+            (4294934528, Kind::I16, 4294934528),
+            (4294934527, Kind::I16, 32767),
+            (65535, Kind::U16, 65535),
+            (65536, Kind::U16, 0),
+            (4294967295, Kind::U16, 65535),
+            (2147483648, Kind::I32, 2147483648),
+            (4294967295, Kind::I32, 4294967295),
+            (2147483648, Kind::U32, 2147483648),
+            (4294967295, Kind::U32, 4294967295),
+        ];
+        for (word, kind, value) in table {
+            assert_eq!(rt; narrow(word, kind), value, "{word} as {kind:?}");
+        }
+    }
+}
