@@ -1,0 +1,4 @@
+pub mod Calls
+pub mod Shelf
+pub mod Sink
+pub mod Streams
