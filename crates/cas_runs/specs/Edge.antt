@@ -1,0 +1,116 @@
+-- What stands at the edge of a unit: the words by number, and the functions by name.
+use Rattle.std.specs.Prelude.{◌≡◌, ℕ, ◌+◌, ◌^◌, ◌<◌, ◌≤◌, nat_eq, Bool, true, false, List, [], ◌∷◌, length, Option, Some, None, slice_get, if◌then◌else◌}
+use Rattle.cas_base.specs.Word.{narrowed}
+use Rattle.cas_base.specs.declared.kind.Kind.{Kind}
+use Rattle.cas_base.specs.declared.kind.Ty.{Ty}
+use Rattle.cas_base.specs.declared.kind.Ty.TheVariants.{Void, Int, Ptr, Array}
+use Rattle.cas_runs.specs.Label.{NameBytes, Shown, Word, Place, Object, Held, Share}
+
+-- what a word is: a lock, a shared word with its kind and the lock that guards it, if its guard is a lock, or a word of a table of constants
+pub data Cell : Type 0 where
+  LockWord : Cell
+  SharedWord : (kind : Kind) (guard : Option ℕ) (initial : ℕ) → Cell
+  TableWord : (value : ℕ) → Cell
+
+-- a function as calls see it: which locks it holds, and whether its body is inside, where the outside may enter it
+pub record Signature : Type 0 where
+  pub name : NameBytes
+  pub ret : Ty
+  pub params : List Ty
+  pub holds : List ℕ
+  pub inside : Bool
+
+-- a lock goes by the number of its word
+pub record Edge : Type 0 where
+  pub cells : List Cell
+  pub functions : List Signature
+
+-- the word is a value of the kind
+pub record IsOfKind (word : ℕ) (kind : Kind) : Type 0 where
+  pub below : word < 2 ^ 32
+  pub narrow : narrowed word kind ≡ word
+
+abbrev pub AreOfKind : List ℕ → Kind → Type 0
+AreOfKind [] kind = Unit {0}
+AreOfKind (w ∷ ws) kind = IsOfKind w kind × AreOfKind ws kind
+
+-- the kind of a word that this lock guards
+abbrev pub kind_under : Option ℕ → ℕ → Kind → Option Kind
+kind_under None lock kind = None
+kind_under (Some guard) lock kind = if nat_eq guard lock then Some kind else None
+
+abbrev pub kind_if_guarded : ℕ → Cell → Option Kind
+kind_if_guarded lock LockWord = None
+kind_if_guarded lock (SharedWord kind guard initial) = kind_under guard lock kind
+kind_if_guarded lock (TableWord value) = None
+
+abbrev pub and_kind : Option Kind → List Kind → List Kind
+and_kind None kinds = kinds
+and_kind (Some kind) kinds = kind ∷ kinds
+
+-- the kinds of the words that the lock guards, in the order of their numbers
+abbrev pub guarded : ℕ → List Cell → List Kind
+guarded lock [] = []
+guarded lock (c ∷ cs) = and_kind (kind_if_guarded lock c) (guarded lock cs)
+
+-- as many words as kinds, and each a value of its kind
+abbrev pub AreOfKinds : List ℕ → List Kind → Type 0
+AreOfKinds [] [] = Unit {0}
+AreOfKinds [] (k ∷ ks) = ⊥
+AreOfKinds (w ∷ ws) [] = ⊥
+AreOfKinds (w ∷ ws) (k ∷ ks) = IsOfKind w k × AreOfKinds ws ks
+
+-- the words are such as the lock can guard
+pub record AreGuarded (edge : Edge) (lock : ℕ) (words : List ℕ) : Type 0 where
+  pub is_lock : slice_get edge.cells lock ≡ Some LockWord
+  pub kinds : AreOfKinds words (guarded lock edge.cells)
+
+-- all locks of the share are greater than this one
+abbrev pub AreAbove : ℕ → Share → Type 0
+AreAbove lock [] = Unit {0}
+AreAbove lock (h ∷ hs) = (lock < h.lock) × AreAbove lock hs
+
+-- the share is in order, and its words are such as its locks can guard
+abbrev pub IsShare : Edge → Share → Type 0
+IsShare edge [] = Unit {0}
+IsShare edge (h ∷ hs) = AreGuarded edge h.lock h.words × AreAbove h.lock hs × IsShare edge hs
+
+-- a place that a pointer to cells of this kind can have: up to the object's end
+pub record IsPlace (objects : List Object) (kind : Kind) (object place : ℕ) : Type 0 where
+  pub it : Object
+  pub there : slice_get objects object ≡ Some it
+  pub same_kind : it.kind ≡ kind
+  pub in_reach : place ≤ it.size
+
+-- the value is of the type, where these objects have crossed
+abbrev pub IsOfType : List Object → Ty → Shown → Type 0
+IsOfType objects (Int kind) (Word w) = IsOfKind w kind
+IsOfType objects (Ptr kind) (Word w) = w ≡ 0
+IsOfType objects (Ptr kind) (Place object place) = IsPlace objects kind object place
+IsOfType objects (Int kind) (Place object place) = ⊥
+IsOfType objects Void value = ⊥
+IsOfType objects (Array kind size) value = ⊥
+
+abbrev pub AreOfTypes : List Object → List Ty → List Shown → Type 0
+AreOfTypes objects [] [] = Unit {0}
+AreOfTypes objects [] (v ∷ vs) = ⊥
+AreOfTypes objects (t ∷ ts) [] = ⊥
+AreOfTypes objects (t ∷ ts) (v ∷ vs) = IsOfType objects t v × AreOfTypes objects ts vs
+
+-- the types of what a function returns: none, or one value
+abbrev pub returned : Ty → List Ty
+returned Void = []
+returned (Int kind) = Int kind ∷ []
+returned (Ptr kind) = Ptr kind ∷ []
+returned (Array kind size) = []
+
+-- the function of this name
+abbrev pub named : List ℕ → List ℕ → Bool
+named [] [] = true
+named [] (b ∷ bs) = false
+named (a ∷ as') [] = false
+named (a ∷ as') (b ∷ bs) = if nat_eq a b then named as' bs else false
+
+abbrev pub signature_of : List Signature → NameBytes → Option Signature
+signature_of [] name = None
+signature_of (f ∷ fs) name = if named f.name name then Some f else signature_of fs name

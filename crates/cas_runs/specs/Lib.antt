@@ -1,0 +1,12 @@
+pub mod Bounds
+pub mod Determined
+pub mod Edge
+pub mod Label
+pub mod Legal
+pub mod Machine
+pub mod Naming
+pub mod Outside
+pub mod Refines
+pub mod Rules
+pub mod Simulation
+pub mod Unit

@@ -1,0 +1,108 @@
+-- A unit, a function or a thread that runs alone against an outside: its steps, its labels and what they cost.
+use Rattle.std.specs.Prelude.{◌≡◌, ℕ, ◌+◌, List, [], ◌∷◌, ◌++◌, Option, Some}
+use Rattle.cas_runs.specs.Label.{NameBytes, RunLabel, Lock, Unlock, Out, Done, Enter, Back, Call, Leave}
+use Rattle.cas_runs.specs.Edge.{Edge, AreGuarded}
+use Rattle.cas_runs.specs.Outside.{MayBring}
+
+-- the shared words that a step reads and writes, by number
+pub record Footprint : Type 0 where
+  pub reads : List ℕ
+  pub writes : List ℕ
+
+-- what a unit says of itself alone
+pub data Saying : Type 0 where
+  Unlocks : (lock : ℕ) (words : List ℕ) → Saying
+  Prints : (word : ℕ) → Saying
+  Ends : Saying
+
+abbrev pub label_of : Saying → RunLabel
+label_of (Unlocks lock words) = Unlock lock words
+label_of (Prints word) = Out word
+label_of Ends = Done
+
+-- the labels by which the unit goes over its edge
+abbrev pub CanCross : RunLabel → Type 0
+CanCross (Call f crossing) = Unit {0}
+CanCross (Leave crossing) = Unit {0}
+CanCross (Lock l words) = ⊥
+CanCross (Unlock l words) = ⊥
+CanCross (Out w) = ⊥
+CanCross Done = ⊥
+CanCross (Enter f crossing) = ⊥
+CanCross (Back crossing) = ⊥
+
+-- what is next at a state
+pub data Act (S : Type 0) : Type 0 where
+  -- a step without a label
+  Quiet : (next : S) → Act S
+  -- an Unlock, an Out or a Done
+  Says : (saying : Saying) (next : S) → Act S
+  -- a Call or a Leave, with each label that can name what crosses
+  Crosses : (next : RunLabel → Option S) → Act S
+  -- a Lock, whose words come from the outside
+  Locks : (lock : ℕ) (next : List ℕ → S) → Act S
+  -- an Enter or a Back, which comes from the outside
+  Hears : (next : RunLabel → S) → Act S
+  -- a step without a meaning
+  Bad : Act S
+  -- no next step: the run has ended, its stack is full, or the lock is in the share already
+  Stops : Act S
+
+-- a language at one unit. The price and the footprint at a state are those of the step that is next there
+pub record Machine (S : Type 0) : Type 0 where
+  pub start : S
+  pub act : S → Act S
+  pub price : S → ℕ
+  pub footprint : S → Footprint
+  -- the functions of the activations, the oldest first, and after them the called one where a call is next
+  pub open_functions : S → List NameBytes
+
+-- after these labels, the act leads by this label to this state
+abbrev pub Leads : {S : Type 0} → Edge → List RunLabel → Act S → RunLabel → S → Type 0
+Leads edge before (Says saying next) l y = (label_of saying ≡ l) × (next ≡ y)
+Leads edge before (Crosses next) l y = CanCross l × (next l ≡ Some y)
+Leads edge before (Locks lock next) l y = (words : List ℕ) × (l ≡ Lock lock words) × AreGuarded edge lock words × (next words ≡ y)
+Leads edge before (Hears next) l y = MayBring edge before l × (next l ≡ y)
+Leads edge before (Quiet next) l y = ⊥
+Leads edge before Bad l y = ⊥
+Leads edge before Stops l y = ⊥
+
+-- the step has no meaning
+abbrev pub IsBad : {S : Type 0} → Act S → Type 0
+IsBad Bad = Unit {0}
+IsBad (Quiet next) = ⊥
+IsBad (Says saying next) = ⊥
+IsBad (Crosses next) = ⊥
+IsBad (Locks lock next) = ⊥
+IsBad (Hears next) = ⊥
+IsBad Stops = ⊥
+
+-- the part of a run between two labels: what its steps, and the step at which it stands, have paid and touched
+pub record Block : Type 0 where
+  pub price : ℕ
+  pub reads : List ℕ
+  pub writes : List ℕ
+
+-- a block with one step more
+abbrev pub and_step : Block → ℕ → Footprint → Block
+and_step b price foot = record { price = b.price + price; reads = b.reads ++ foot.reads; writes = b.writes ++ foot.writes }
+
+-- a block that goes on to a state, at whose step the run then stands
+abbrev pub onward : {S : Type 0} → Machine S → Block → S → Block
+onward m b x = and_step b (m.price x) (m.footprint x)
+
+-- a block that begins at a state
+abbrev pub begun : {S : Type 0} → Machine S → S → Block
+begun m x = record { price = m.price x; reads = (m.footprint x).reads; writes = (m.footprint x).writes }
+
+-- a run from the start: its labels and the blocks that they ended, the newest first, the block in which it is, and where it stands
+pub data Run {S : Type 0} (edge : Edge) (m : Machine S) : List RunLabel → List Block → Block → S → Type 0 where
+  starts : Run edge m [] [] (begun m m.start) m.start
+  quiet : {ls : List RunLabel} {bs : List Block} {b : Block} {x : S} (y : S) → Run edge m ls bs b x → m.act x ≡ Quiet y → Run edge m ls bs (onward m b y) y
+  labelled : {ls : List RunLabel} {bs : List Block} {b : Block} {x : S} (l : RunLabel) (y : S) → Run edge m ls bs b x → Leads edge ls (m.act x) l y → Run edge m (l ∷ ls) (b ∷ bs) (begun m y) y
+
+-- how many quiet steps a run has
+abbrev pub quiet_steps : {S : Type 0} {edge : Edge} {m : Machine S} {ls : List RunLabel} {bs : List Block} {b : Block} {x : S} → Run edge m ls bs b x → ℕ
+quiet_steps starts = 0
+quiet_steps (quiet y r e) = quiet_steps r + 1
+quiet_steps (labelled l y r e) = quiet_steps r

@@ -1,0 +1,134 @@
+-- What the outside may bring, after the labels of a run so far. It rests on labels alone, and on no language.
+use Rattle.std.specs.Prelude.{◌≡◌, ℕ, ◌+◌, nat_eq, nat_lt, true, List, [], ◌∷◌, length, Option, Some, None, if◌then◌else◌}
+use Rattle.cas_base.specs.declared.kind.Kind.{Kind}
+use Rattle.cas_runs.specs.Label.{NameBytes, Shown, Word, Place, Inside, Outside, Object, Share, Crossing, RunLabel, Lock, Unlock, Out, Done, Enter, Back, Call, Leave, locks_of}
+use Rattle.cas_runs.specs.Edge.{Signature, Edge, IsOfKind, AreGuarded, IsShare, AreOfTypes, returned, signature_of}
+
+-- a call or an entry that hasn't returned yet
+pub data Pending : Type 0 where
+  Called : (function : NameBytes) (locks : List ℕ) → Pending
+  Entered : (function : NameBytes) → Pending
+
+abbrev pub without_newest : List Pending → List Pending
+without_newest [] = []
+without_newest (p ∷ ps) = ps
+
+-- the calls and entries that haven't returned, the newest first. Labels are the newest first
+abbrev pub pending : List RunLabel → List Pending
+pending [] = []
+pending (Enter f crossing ∷ ls) = Entered f ∷ pending ls
+pending (Call f crossing ∷ ls) = Called f (locks_of crossing.share) ∷ pending ls
+pending (Back crossing ∷ ls) = without_newest (pending ls)
+pending (Leave crossing ∷ ls) = without_newest (pending ls)
+pending (Lock l words ∷ ls) = pending ls
+pending (Unlock l words ∷ ls) = pending ls
+pending (Out w ∷ ls) = pending ls
+pending (Done ∷ ls) = pending ls
+
+-- the objects that have crossed, as the newest crossing shows them
+abbrev pub crossed : List RunLabel → List Object
+crossed [] = []
+crossed (Enter f crossing ∷ ls) = crossing.objects
+crossed (Call f crossing ∷ ls) = crossing.objects
+crossed (Back crossing ∷ ls) = crossing.objects
+crossed (Leave crossing ∷ ls) = crossing.objects
+crossed (Lock l words ∷ ls) = crossed ls
+crossed (Unlock l words ∷ ls) = crossed ls
+crossed (Out w ∷ ls) = crossed ls
+crossed (Done ∷ ls) = crossed ls
+
+-- contents that the outside may leave: words of the kind
+abbrev pub AreWordsOf : Kind → List Shown → Type 0
+AreWordsOf kind [] = Unit {0}
+AreWordsOf kind (Word w ∷ vs) = IsOfKind w kind × AreWordsOf kind vs
+AreWordsOf kind (Place object place ∷ vs) = ⊥
+
+-- new contents of an object: as many words as it has cells, each of its kind
+pub record Fills (object : Object) (contents : List Shown) : Type 0 where
+  pub size : length contents ≡ object.size
+  pub kinds : AreWordsOf object.kind contents
+
+-- what the outside may make of an object's contents: an object of its own may die, and a dead one stays dead
+abbrev pub ChangesTo : Object → Option (List Shown) → Option (List Shown) → Type 0
+ChangesTo o (Some old) (Some new) = Fills o new
+ChangesTo o (Some old) None = o.owner ≡ Outside
+ChangesTo o None None = Unit {0}
+ChangesTo o None (Some new) = ⊥
+
+-- the same object, as the outside may leave it
+pub record Changes (old new : Object) : Type 0 where
+  pub owner : new.owner ≡ old.owner
+  pub kind : new.kind ≡ old.kind
+  pub size : new.size ≡ old.size
+  pub contents : ChangesTo old old.contents new.contents
+
+-- a live object of the outside's, which comes for the first time
+pub record IsNew (object : Object) : Type 0 where
+  pub owner : object.owner ≡ Outside
+  pub contents : List Shown
+  pub live : object.contents ≡ Some contents
+  pub fills : Fills object contents
+
+abbrev pub AreNew : List Object → Type 0
+AreNew [] = Unit {0}
+AreNew (o ∷ os) = IsNew o × AreNew os
+
+-- the objects that crossed before are still there, and the others are new
+abbrev pub Continues : List Object → List Object → Type 0
+Continues [] news = AreNew news
+Continues (o ∷ os) [] = ⊥
+Continues (o ∷ os) (n ∷ ns) = Changes o n × Continues os ns
+
+-- how many objects have crossed with these values, where each crosses under the next number: none if a number is skipped
+abbrev pub numbered : ℕ → List Shown → Option ℕ
+numbered n [] = Some n
+numbered n (Word w ∷ vs) = numbered n vs
+numbered n (Place object place ∷ vs) = if nat_lt object n then numbered n vs else if nat_eq object n then numbered (n + 1) vs else None
+
+-- what the outside may bring with an entry or a return: values of these types, a share, and the objects
+pub record Brings (edge : Edge) (before : List Object) (crossing : Crossing) : Type 0 where
+  pub share : IsShare edge crossing.share
+  pub objects : Continues before crossing.objects
+  pub numbers : numbered (length before) crossing.values ≡ Some (length crossing.objects)
+
+-- the lock is one of these
+pub data IsAmong : ℕ → List ℕ → Type 0 where
+  first : {l : ℕ} {ls : List ℕ} → IsAmong l (l ∷ ls)
+  later : {l k : ℕ} {ls : List ℕ} → IsAmong l ls → IsAmong l (k ∷ ls)
+
+-- each of the second locks is one of the first
+abbrev pub Holds : List ℕ → List ℕ → Type 0
+Holds locks [] = Unit {0}
+Holds locks (l ∷ ls) = IsAmong l locks × Holds locks ls
+
+-- the outside enters a function of the unit, with values of its parameters' types and at least the locks that it holds
+pub record MayEnter (edge : Edge) (before : List RunLabel) (function : NameBytes) (crossing : Crossing) : Type 0 where
+  pub signature : Signature
+  pub known : signature_of edge.functions function ≡ Some signature
+  pub inside : signature.inside ≡ true
+  pub values : AreOfTypes crossing.objects signature.params crossing.values
+  pub holds : Holds (locks_of crossing.share) signature.holds
+  pub brings : Brings edge (crossed before) crossing
+
+-- the outside returns from the newest call, with a value of the result's type and the locks that were there at the call
+pub record MayReturn (edge : Edge) (before : List RunLabel) (crossing : Crossing) : Type 0 where
+  pub function : NameBytes
+  pub locks : List ℕ
+  pub older : List Pending
+  pub newest : pending before ≡ Called function locks ∷ older
+  pub signature : Signature
+  pub known : signature_of edge.functions function ≡ Some signature
+  pub values : AreOfTypes crossing.objects (returned signature.ret) crossing.values
+  pub same_locks : locks_of crossing.share ≡ locks
+  pub brings : Brings edge (crossed before) crossing
+
+-- the outside may bring this label after these
+abbrev pub MayBring : Edge → List RunLabel → RunLabel → Type 0
+MayBring edge before (Enter f crossing) = MayEnter edge before f crossing
+MayBring edge before (Back crossing) = MayReturn edge before crossing
+MayBring edge before (Lock l words) = ⊥
+MayBring edge before (Unlock l words) = ⊥
+MayBring edge before (Out w) = ⊥
+MayBring edge before Done = ⊥
+MayBring edge before (Call f crossing) = ⊥
+MayBring edge before (Leave crossing) = ⊥

@@ -1,0 +1,95 @@
+-- What it means that one machine refines another.
+use Rattle.std.specs.Prelude.{◌≡◌, ℕ, ◌≤◌, List, [], ◌∷◌, ◌++◌, ◌⊎◌, Option, Some}
+use Rattle.cas_runs.specs.Label.{NameBytes, RunLabel}
+use Rattle.cas_runs.specs.Edge.{Edge}
+use Rattle.cas_runs.specs.Outside.{IsAmong}
+use Rattle.cas_runs.specs.Machine.{Act, Quiet, Says, Crosses, Locks, Hears, Bad, Stops, Machine, CanCross, Leads, IsBad, Block, Run}
+
+-- the same names in order, with some left out
+pub data Subsequence : List NameBytes → List NameBytes → Type 0 where
+  done : Subsequence [] []
+  keep : {x : NameBytes} {xs ys : List NameBytes} → Subsequence xs ys → Subsequence (x ∷ xs) (x ∷ ys)
+  skip : {y : NameBytes} {xs ys : List NameBytes} → Subsequence xs ys → Subsequence xs (y ∷ ys)
+
+-- a block of the target is within one of the source: it pays at most as much, writes only what that writes, and reads only what that reads or writes
+pub record Within (b c : Block) : Type 0 where
+  pub price : b.price ≤ c.price
+  pub writes : (w : ℕ) → IsAmong w b.writes → IsAmong w c.writes
+  pub reads : (w : ℕ) → IsAmong w b.reads → IsAmong w c.reads ⊎ IsAmong w c.writes
+
+-- each block of the target is within that of the source
+pub data EachWithin : List Block → List Block → Type 0 where
+  none : EachWithin [] []
+  more : {b c : Block} {bs cs : List Block} → Within b c → EachWithin bs cs → EachWithin (b ∷ bs) (c ∷ cs)
+
+-- the source has a run with these labels
+pub record HasRun {S : Type 0} (edge : Edge) (s : Machine S) (labels : List RunLabel) : Type 0 where
+  pub blocks : List Block
+  pub block : Block
+  pub at : S
+  pub run : Run edge s labels blocks block at
+
+-- the source has a run whose labels are the first of these and whose next step is Bad
+pub record BadBefore {S : Type 0} (edge : Edge) (s : Machine S) (labels : List RunLabel) : Type 0 where
+  pub since : List RunLabel
+  pub before : List RunLabel
+  pub prefix : labels ≡ since ++ before
+  pub blocks : List Block
+  pub block : Block
+  pub at : S
+  pub run : Run edge s before blocks block at
+  pub bad : IsBad (s.act at)
+
+-- the source has a run with these labels, within whose blocks and open functions those of the target's run are. The target's next step isn't Bad, and isn't free
+pub record Kept {T S : Type 0} (edge : Edge) (t : Machine T) (s : Machine S) (labels : List RunLabel) (blocks : List Block) (block : Block) (at : T) : Type 0 where
+  pub s_blocks : List Block
+  pub s_block : Block
+  pub s_at : S
+  pub run : Run edge s labels s_blocks s_block s_at
+  pub fine : IsBad (t.act at) → ⊥
+  pub costs : 1 ≤ t.price at
+  pub within : EachWithin blocks s_blocks
+  pub within_now : Within block s_block
+  pub opened : Subsequence (t.open_functions at) (s.open_functions s_at)
+
+-- the source comes to a Call or Leave, and each label that it can have there is one that the target can have
+pub record NamedAs {T S : Type 0} (edge : Edge) (s : Machine S) (labels : List RunLabel) (next : RunLabel → Option T) : Type 0 where
+  pub blocks : List Block
+  pub block : Block
+  pub at : S
+  pub run : Run edge s labels blocks block at
+  pub s_next : RunLabel → Option S
+  pub crosses : s.act at ≡ Crosses s_next
+  pub some_label : RunLabel
+  pub some_next : S
+  pub can_cross : CanCross some_label
+  pub names : s_next some_label ≡ Some some_next
+  pub each : (l : RunLabel) (y : S) → CanCross l → s_next l ≡ Some y → (x : T) × (next l ≡ Some x)
+
+-- the act is a Call or a Leave
+abbrev pub IsCrossing : {S : Type 0} → Act S → Type 0
+IsCrossing (Crosses next) = Unit {0}
+IsCrossing (Quiet next) = ⊥
+IsCrossing (Says saying next) = ⊥
+IsCrossing (Locks lock next) = ⊥
+IsCrossing (Hears next) = ⊥
+IsCrossing Bad = ⊥
+IsCrossing Stops = ⊥
+
+-- the target does only what the source does, until the source is Bad. A Call or Leave of the target can have several labels, as one address can be
+-- the end of an object and the beginning of the next: its labels are those by which the source names what crosses
+pub record Refines {T S : Type 0} (edge : Edge) (t : Machine T) (s : Machine S) : Type 0 where
+  -- each run of the target is kept by the source
+  pub kept : (ls : List RunLabel) (bs : List Block) (b : Block) (x : T) → Run edge t ls bs b x → HasRun edge s ls → BadBefore edge s ls ⊎ Kept edge t s ls bs b x
+  -- each further label of the target, but a Call or a Leave, is one of the source
+  pub follows : (ls : List RunLabel) (bs : List Block) (b : Block) (x : T) → Run edge t ls bs b x → HasRun edge s ls → (IsCrossing (t.act x) → ⊥) → (l : RunLabel) (y : T) → Leads edge ls (t.act x) l y → BadBefore edge s ls ⊎ HasRun edge s (l ∷ ls)
+  -- where the target is at a Call or a Leave, the source comes to one, and names what crosses in a way that the target can
+  pub names : (ls : List RunLabel) (bs : List Block) (b : Block) (x : T) → Run edge t ls bs b x → HasRun edge s ls → (next : RunLabel → Option T) → t.act x ≡ Crosses next → BadBefore edge s ls ⊎ NamedAs edge s ls next
+
+-- each Call and each Leave of the machine has at most one label
+pub record NamesAlone {T : Type 0} (t : Machine T) : Type 0 where
+  pub alone : (x : T) (next : RunLabel → Option T) → t.act x ≡ Crosses next → (k l : RunLabel) (y z : T) → CanCross k → next k ≡ Some y → CanCross l → next l ≡ Some z → k ≡ l
+
+-- each run of the target meets one of the two cases
+pub record EachKept {T S : Type 0} (edge : Edge) (t : Machine T) (s : Machine S) : Type 0 where
+  pub each : (ls : List RunLabel) (bs : List Block) (b : Block) (x : T) → Run edge t ls bs b x → BadBefore edge s ls ⊎ Kept edge t s ls bs b x

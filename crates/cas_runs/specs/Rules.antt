@@ -1,0 +1,111 @@
+-- The rules that each language's machine keeps, whatever the unit does: what would break them is Bad, or has no next step.
+use Rattle.std.specs.Prelude.{◌≡◌, ℕ, ◌^◌, ◌<◌, ◌≤◌, nat_eq, nat_lt, List, [], ◌∷◌, length, Option, Some, None, slice_get, if◌then◌else◌}
+use Rattle.cas_base.specs.declared.kind.Kind.{Kind}
+use Rattle.cas_runs.specs.Label.{NameBytes, Shown, Inside, Object, Crossing, RunLabel, Lock, Unlock, Out, Done, Enter, Back, Call, Leave, locks_of}
+use Rattle.cas_runs.specs.Edge.{SharedWord, Edge, AreGuarded, IsShare}
+use Rattle.cas_runs.specs.Outside.{Pending, Entered, IsAmong, pending, crossed}
+use Rattle.cas_runs.specs.Machine.{Says, Crosses, Locks, Machine, Saying, label_of, CanCross, Block, Run}
+
+-- the lock and these, in ascending order
+abbrev pub and_lock : ℕ → List ℕ → List ℕ
+and_lock lock [] = lock ∷ []
+and_lock lock (l ∷ ls) = if nat_lt lock l then lock ∷ l ∷ ls else l ∷ and_lock lock ls
+
+abbrev pub without_lock : ℕ → List ℕ → List ℕ
+without_lock lock [] = []
+without_lock lock (l ∷ ls) = if nat_eq lock l then ls else l ∷ without_lock lock ls
+
+-- the locks of the share after these labels, in ascending order. A thread begins with none
+abbrev pub locks_after : List RunLabel → List ℕ
+locks_after [] = []
+locks_after (Lock l words ∷ ls) = and_lock l (locks_after ls)
+locks_after (Unlock l words ∷ ls) = without_lock l (locks_after ls)
+locks_after (Enter f crossing ∷ ls) = locks_of crossing.share
+locks_after (Back crossing ∷ ls) = locks_of crossing.share
+locks_after (Call f crossing ∷ ls) = locks_of crossing.share
+locks_after (Leave crossing ∷ ls) = locks_of crossing.share
+locks_after (Out w ∷ ls) = locks_after ls
+locks_after (Done ∷ ls) = locks_after ls
+
+-- the word is in the share: it is guarded by one of these locks
+pub record IsShared (edge : Edge) (locks : List ℕ) (word : ℕ) : Type 0 where
+  pub kind : Kind
+  pub guard : ℕ
+  pub initial : ℕ
+  pub there : slice_get edge.cells word ≡ Some (SharedWord kind (Some guard) initial)
+  pub held : IsAmong guard locks
+
+-- what the unit may make of an object's contents: one of its own may die, those of the outside stay, and a dead one stays dead
+abbrev pub LeavesContents : Object → Option (List Shown) → Option (List Shown) → Type 0
+LeavesContents o (Some old) (Some new) = length new ≡ o.size
+LeavesContents o (Some old) None = o.owner ≡ Inside
+LeavesContents o None None = Unit {0}
+LeavesContents o None (Some new) = ⊥
+
+-- the same object, as the unit may leave it
+pub record Leaves (old new : Object) : Type 0 where
+  pub owner : new.owner ≡ old.owner
+  pub kind : new.kind ≡ old.kind
+  pub size : new.size ≡ old.size
+  pub contents : LeavesContents old old.contents new.contents
+
+-- a live object of the unit's own
+pub record IsOwn (o : Object) : Type 0 where
+  pub owner : o.owner ≡ Inside
+  pub contents : List Shown
+  pub live : o.contents ≡ Some contents
+  pub size : length contents ≡ o.size
+
+abbrev pub AreOwn : List Object → Type 0
+AreOwn [] = Unit {0}
+AreOwn (o ∷ os) = IsOwn o × AreOwn os
+
+-- the objects that crossed before are still there, and the others are the unit's own
+abbrev pub LeavesAll : List Object → List Object → Type 0
+LeavesAll [] news = AreOwn news
+LeavesAll (o ∷ os) [] = ⊥
+LeavesAll (o ∷ os) (n ∷ ns) = Leaves o n × LeavesAll os ns
+
+-- what the unit shows with a call or a return
+pub record Carries (edge : Edge) (before : List RunLabel) (crossing : Crossing) : Type 0 where
+  pub share : IsShare edge crossing.share
+  pub same_locks : locks_of crossing.share ≡ locks_after before
+  pub objects : LeavesAll (crossed before) crossing.objects
+
+-- the unit returns from the newest entry
+pub record IsReturn (before : List RunLabel) : Type 0 where
+  pub function : NameBytes
+  pub older : List Pending
+  pub newest : pending before ≡ Entered function ∷ older
+
+-- a label that the unit may say after these. An Unlock is of a lock in the share, and carries the values of its words
+abbrev pub MaySay : Edge → List RunLabel → RunLabel → Type 0
+MaySay edge before (Unlock l words) = IsAmong l (locks_after before) × AreGuarded edge l words
+MaySay edge before (Out w) = w < 2 ^ 32
+MaySay edge before Done = Unit {0}
+MaySay edge before (Lock l words) = ⊥
+MaySay edge before (Enter f crossing) = ⊥
+MaySay edge before (Back crossing) = ⊥
+MaySay edge before (Call f crossing) = ⊥
+MaySay edge before (Leave crossing) = ⊥
+
+abbrev pub MayCross : Edge → List RunLabel → RunLabel → Type 0
+MayCross edge before (Call f crossing) = Carries edge before crossing
+MayCross edge before (Leave crossing) = IsReturn before × Carries edge before crossing
+MayCross edge before (Unlock l words) = ⊥
+MayCross edge before (Out w) = ⊥
+MayCross edge before Done = ⊥
+MayCross edge before (Lock l words) = ⊥
+MayCross edge before (Enter f crossing) = ⊥
+MayCross edge before (Back crossing) = ⊥
+
+-- the machine keeps the rules: no step is free; it touches shared words of its share alone; it unlocks what is in the share, and locks what isn't;
+-- and what crosses has a label
+pub record KeepsRules {S : Type 0} (edge : Edge) (m : Machine S) : Type 0 where
+  pub costs : (x : S) → 1 ≤ m.price x
+  pub reads : (ls : List RunLabel) (bs : List Block) (b : Block) (x : S) → Run edge m ls bs b x → (w : ℕ) → IsAmong w (m.footprint x).reads → IsShared edge (locks_after ls) w
+  pub writes : (ls : List RunLabel) (bs : List Block) (b : Block) (x : S) → Run edge m ls bs b x → (w : ℕ) → IsAmong w (m.footprint x).writes → IsShared edge (locks_after ls) w
+  pub says : (ls : List RunLabel) (bs : List Block) (b : Block) (x : S) → Run edge m ls bs b x → (saying : Saying) (y : S) → m.act x ≡ Says saying y → MaySay edge ls (label_of saying)
+  pub locks : (ls : List RunLabel) (bs : List Block) (b : Block) (x : S) → Run edge m ls bs b x → (lock : ℕ) (next : List ℕ → S) → m.act x ≡ Locks lock next → IsAmong lock (locks_after ls) → ⊥
+  pub crosses : (ls : List RunLabel) (bs : List Block) (b : Block) (x : S) → Run edge m ls bs b x → (next : RunLabel → Option S) → m.act x ≡ Crosses next → (l : RunLabel) (y : S) → CanCross l → next l ≡ Some y → MayCross edge ls l
+  pub named : (x : S) (next : RunLabel → Option S) → m.act x ≡ Crosses next → (l : RunLabel) × (y : S) × CanCross l × (next l ≡ Some y)

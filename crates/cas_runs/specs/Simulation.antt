@@ -1,0 +1,57 @@
+-- What a pass shows, so that its result refines its argument: a relation of states, and one case for each act.
+use Rattle.std.specs.Prelude.{◌≡◌, ℕ, ◌≤◌, List, [], ◌∷◌, Option, Some, ◌⊎◌}
+use Rattle.cas_runs.specs.Label.{RunLabel, Lock}
+use Rattle.cas_runs.specs.Edge.{Edge, AreGuarded}
+use Rattle.cas_runs.specs.Outside.{MayBring}
+use Rattle.cas_runs.specs.Machine.{Act, Quiet, Says, Crosses, Locks, Hears, Bad, Stops, Machine, label_of, CanCross, Leads, IsBad, Block, begun, onward}
+use Rattle.cas_runs.specs.Refines.{Within, Subsequence}
+
+-- quiet steps lead to a step that is Bad
+pub data BadSoon {S : Type 0} (m : Machine S) : S → Type 0 where
+  now : {y : S} → IsBad (m.act y) → BadSoon m y
+  soon : {y : S} (y' : S) → m.act y ≡ Quiet y' → BadSoon m y' → BadSoon m y
+
+module _ {T S : Type 0} (edge : Edge) (t : Machine T) (s : Machine S) (Related : List RunLabel → T → Block → S → Block → Type 0) where
+  -- from y the source goes by quiet steps to a state that is related to x, or reaches a step that is Bad
+  pub data Follows (ls : List RunLabel) (x : T) (b : Block) : S → Block → Type 0 where
+    related : {y : S} {c : Block} → Related ls x b y c → Follows ls x b y c
+    fails : {y : S} {c : Block} → IsBad (s.act y) → Follows ls x b y c
+    step : {y : S} {c : Block} (y' : S) → s.act y ≡ Quiet y' → Follows ls x b y' (onward s c y') → Follows ls x b y c
+
+  -- the same, with one label on the way, which is this one, unless the Bad step comes before it
+  pub data FollowsBy (ls : List RunLabel) (l : RunLabel) (x : T) : S → Type 0 where
+    by : {y : S} (y' : S) → Leads edge ls (s.act y) l y' → Follows (l ∷ ls) x (begun t x) y' (begun s y') → FollowsBy ls l x y
+    fails_before : {y : S} → IsBad (s.act y) → FollowsBy ls l x y
+    step_before : {y : S} (y' : S) → s.act y ≡ Quiet y' → FollowsBy ls l x y' → FollowsBy ls l x y
+
+  -- what the target does by each label that the source can have at its Call or Leave
+  abbrev pub NamesEach : List RunLabel → (RunLabel → Option T) → (RunLabel → Option S) → Type 0
+  NamesEach ls next s_next = (l : RunLabel) (y : S) → CanCross l → s_next l ≡ Some y → (x : T) × (next l ≡ Some x) × Follows (l ∷ ls) x (begun t x) y (begun s y)
+
+  -- the source comes to a Call or Leave, with labels that the target can have, unless the Bad step comes before it
+  pub data FollowsNamed (ls : List RunLabel) (next : RunLabel → Option T) : S → Type 0 where
+    named : {y : S} (s_next : RunLabel → Option S) → s.act y ≡ Crosses s_next → (l : RunLabel) (z : S) → CanCross l → s_next l ≡ Some z → NamesEach ls next s_next → FollowsNamed ls next y
+    fails_naming : {y : S} → IsBad (s.act y) → FollowsNamed ls next y
+    step_naming : {y : S} (y' : S) → s.act y ≡ Quiet y' → FollowsNamed ls next y' → FollowsNamed ls next y
+
+  -- what the source does where the target stands at this act
+  abbrev pub Answers : List RunLabel → Act T → Block → S → Block → Type 0
+  Answers ls (Quiet x) b y c = Follows ls x (onward t b x) y c
+  Answers ls (Says saying x) b y c = FollowsBy ls (label_of saying) x y
+  Answers ls (Crosses next) b y c = FollowsNamed ls next y
+  Answers ls (Locks lock next) b y c = (words : List ℕ) → AreGuarded edge lock words → FollowsBy ls (Lock lock words) (next words) y
+  Answers ls (Hears next) b y c = (l : RunLabel) → MayBring edge ls l → FollowsBy ls l (next l) y
+  Answers ls Bad b y c = BadSoon s y
+  Answers ls Stops b y c = Unit {0}
+
+  -- what is asked of the blocks, of the price and of the open functions
+  pub record Fine (x : T) (b : Block) (y : S) (c : Block) : Type 0 where
+    pub costs : 1 ≤ t.price x
+    pub within : Within b c
+    pub opened : Subsequence (t.open_functions x) (s.open_functions y)
+
+  -- what a pass shows of a relation between a state of t and a state of s, each with its block so far, after the same labels
+  pub record Simulates : Type 0 where
+    pub starts : Related [] t.start (begun t t.start) s.start (begun s s.start)
+    pub fine : (ls : List RunLabel) (x : T) (b : Block) (y : S) (c : Block) → Related ls x b y c → BadSoon s y ⊎ Fine x b y c
+    pub answers : (ls : List RunLabel) (x : T) (b : Block) (y : S) (c : Block) → Related ls x b y c → Answers ls (t.act x) b y c

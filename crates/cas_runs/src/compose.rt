@@ -1,0 +1,45 @@
+ghost use Rattle.std.specs.Prelude.{ℕ, List};
+ghost use Rattle.cas_base.specs.declared.decl.Unit.{Unit as UnitOf};
+ghost use Rattle.cas_runs.specs.Label.{NameBytes};
+ghost use Rattle.cas_runs.specs.Edge.{Edge};
+ghost use Rattle.cas_runs.specs.Machine.{Machine};
+ghost use Rattle.cas_runs.specs.Refines.{Refines, NamesAlone, EachKept};
+ghost use Rattle.cas_runs.specs.Rules.{KeepsRules};
+ghost use Rattle.cas_runs.specs.Unit.{FirstWord, Language, UnitRefines, FunctionRefines, ThreadRefines};
+
+/// Refinements of machines compose.
+#[tactic(auto, using(crate::proofs::Composing::refines_both))]
+pub fn refinements_compose<T, S, R>()
+    ensures { (edge : Edge) (t : Machine T) (s : Machine S) (r : Machine R) → Refines edge t s → Refines edge s r → Refines edge t r }
+{}
+
+/// Refinements of units compose.
+#[tactic(auto, using(crate::proofs::Units::units_both))]
+pub fn units_compose<F, G, H, T, S, R>()
+    ensures { (lt : Language F T) (ls : Language G S) (lr : Language H R) (t : UnitOf F) (s : UnitOf G) (r : UnitOf H) → UnitRefines lt ls t s → UnitRefines ls lr s r → UnitRefines lt lr t r }
+{}
+
+/// Refinements of functions compose.
+#[tactic(auto, using(crate::proofs::Units::functions_both))]
+pub fn functions_compose<F, G, H, T, S, R>()
+    ensures { (lt : Language F T) (ls : Language G S) (lr : Language H R) (t : F) (s : G) (r : H) → FunctionRefines lt ls t s → FunctionRefines ls lr s r → FunctionRefines lt lr t r }
+{}
+
+/// Refinements of threads compose.
+#[tactic(auto, using(crate::proofs::Units::threads_both))]
+pub fn threads_compose<F, G, H, T, S, R>()
+    ensures { (lt : Language F T) (ls : Language G S) (lr : Language H R) (edge : Edge) (first : FirstWord) (ts : List F) (ss : List G) (rs : List H) (entry : NameBytes) (thread : ℕ) → ThreadRefines lt ls edge first ts ss entry thread → ThreadRefines ls lr edge first ss rs entry thread → ThreadRefines lt lr edge first ts rs entry thread }
+{}
+
+/// Where each Call and Leave of the target has one label, each of its runs is kept by the source, or the
+/// source is Bad before.
+#[tactic(auto, using(crate::proofs::Composing::each_kept))]
+pub fn runs_kept<T, S>()
+    ensures { (edge : Edge) (t : Machine T) (s : Machine S) → Refines edge t s → NamesAlone t → EachKept edge t s }
+{}
+
+/// A machine that keeps the rules refines itself.
+#[tactic(auto, using(crate::proofs::Composing::refines_itself))]
+pub fn refines_itself<S>()
+    ensures { (edge : Edge) (m : Machine S) → KeepsRules edge m → Refines edge m m }
+{}

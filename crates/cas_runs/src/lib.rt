@@ -1,0 +1,14 @@
+//! What it means that compiled code refines its source, and the law by which each pass of the compiler
+//! shows it. A run of a unit, a function or a thread is a list of labels with quiet steps between them;
+//! `docs/PROOF.md` tells it with a picture. The functions here have no effect: each carries a law over
+//! the definitions of `specs/`. It stands on `cas_base`.
+#![tactic(auto)]
+
+mod compose;
+mod pass;
+
+pub use compose::{
+    functions_compose, refinements_compose, refines_itself, runs_kept, threads_compose,
+    units_compose,
+};
+pub use pass::{Pass, run_pass, steps_refine};

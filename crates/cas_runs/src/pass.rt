@@ -1,0 +1,53 @@
+ghost use Rattle.std.specs.Prelude.{IfOk, List};
+ghost use Rattle.cas_runs.specs.Label.{RunLabel};
+ghost use Rattle.cas_runs.specs.Machine.{Machine, Block};
+ghost use Rattle.cas_runs.specs.Naming.{Layout};
+ghost use Rattle.cas_runs.specs.Refines.{Refines};
+ghost use Rattle.cas_runs.specs.Simulation.{Simulates};
+ghost use Rattle.cas_runs.specs.Unit.{Setting, laid_out};
+
+use cas_base::NoMemory;
+use std::alloc::Global;
+
+/// A pass of the compiler, from what it takes to what it makes. An implementation names what is made of
+/// what, and a relation between the states of the two machines, with the block so far of each; its law
+/// `simulates` shows that each step of the target keeps the relation.
+pub trait Pass {
+    type Source;
+
+    type Target;
+
+    ghost source_state: { Type 0 };
+
+    ghost target_state: { Type 0 };
+
+    ghost source: { Setting → Self.Source → Machine source_state };
+
+    ghost target: { Setting → Self.Target → Machine target_state };
+
+    ghost naming: { Self.Source → Layout → Layout };
+
+    ghost fits: { Setting → Self.Source → Type 0 };
+
+    ghost makes: { Self.Source → Self.Target → Type 0 };
+
+    ghost related: { Setting → Self.Source → Self.Target → List RunLabel → target_state → Block → source_state → Block → Type 0 };
+
+    /// What the pass makes of the source.
+    fn apply(&self, alloc: Global, from: &Self::Source) -> Result<Self::Target, NoMemory>
+        ensures { IfOk result (λ to. makes from.now to) };
+
+    ghost simulates: { (setting : Setting) (a : Self.Source) (b : Self.Target) → makes a b → fits setting a → Simulates setting.edge (target (laid_out setting (naming a setting.layout)) b) (source setting a) (related setting a b) };
+}
+
+/// What a pass makes refines what it is made of, in each setting that fits that.
+pub fn steps_refine<P: Pass>()
+    ensures { (setting : Setting) (a : P.Source) (b : P.Target) → P.makes a b → P.fits setting a → Refines setting.edge (P.target (laid_out setting (P.naming a setting.layout)) b) (P.source setting a) }
+{}
+
+/// The result of the pass, which refines its argument.
+pub fn run_pass<P: Pass>(alloc: Global, pass: &P, from: &P::Source) -> Result<P::Target, NoMemory>
+    ensures { IfOk result (λ to. (setting : Setting) → P.fits setting from.now → Refines setting.edge (P.target (laid_out setting (P.naming from.now setting.layout)) to) (P.source setting from.now)) }
+{
+    pass.apply(alloc, from)
+}
