@@ -8,5 +8,6 @@ pub mod Naming
 pub mod Outside
 pub mod Refines
 pub mod Rules
+pub mod Sections
 pub mod Simulation
 pub mod Unit

@@ -106,3 +106,9 @@ abbrev pub quiet_steps : {S : Type 0} {edge : Edge} {m : Machine S} {ls : List R
 quiet_steps starts = 0
 quiet_steps (quiet y r e) = quiet_steps r + 1
 quiet_steps (labelled l y r e) = quiet_steps r
+
+-- how many of them come after its last label
+abbrev pub quiet_now : {S : Type 0} {edge : Edge} {m : Machine S} {ls : List RunLabel} {bs : List Block} {b : Block} {x : S} → Run edge m ls bs b x → ℕ
+quiet_now starts = 0
+quiet_now (quiet y r e) = quiet_now r + 1
+quiet_now (labelled l y r e) = 0

@@ -1,5 +1,5 @@
 -- What it means that one machine refines another.
-use Rattle.std.specs.Prelude.{◌≡◌, ℕ, ◌≤◌, List, [], ◌∷◌, ◌++◌, ◌⊎◌, Option, Some}
+use Rattle.std.specs.Prelude.{◌≡◌, ℕ, ◌<◌, ◌≤◌, List, [], ◌∷◌, ◌++◌, ◌⊎◌, Option, Some}
 use Rattle.cas_runs.specs.Label.{NameBytes, RunLabel}
 use Rattle.cas_runs.specs.Edge.{Edge}
 use Rattle.cas_runs.specs.Outside.{IsAmong}
@@ -85,6 +85,14 @@ pub record Refines {T S : Type 0} (edge : Edge) (t : Machine T) (s : Machine S) 
   pub follows : (ls : List RunLabel) (bs : List Block) (b : Block) (x : T) → Run edge t ls bs b x → HasRun edge s ls → (IsCrossing (t.act x) → ⊥) → (l : RunLabel) (y : T) → Leads edge ls (t.act x) l y → BadBefore edge s ls ⊎ HasRun edge s (l ∷ ls)
   -- where the target is at a Call or a Leave, the source comes to one, and names what crosses in a way that the target can
   pub names : (ls : List RunLabel) (bs : List Block) (b : Block) (x : T) → Run edge t ls bs b x → HasRun edge s ls → (next : RunLabel → Option T) → t.act x ≡ Crosses next → BadBefore edge s ls ⊎ NamedAs edge s ls next
+
+-- the source has a run with these labels, which pays more than this in its last block
+pub record PaysMore {S : Type 0} (edge : Edge) (s : Machine S) (labels : List RunLabel) (count : ℕ) : Type 0 where
+  pub blocks : List Block
+  pub block : Block
+  pub at : S
+  pub run : Run edge s labels blocks block at
+  pub more_than : count < block.price
 
 -- each Call and each Leave of the machine has at most one label
 pub record NamesAlone {T : Type 0} (t : Machine T) : Type 0 where

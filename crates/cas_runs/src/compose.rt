@@ -1,9 +1,10 @@
-ghost use Rattle.std.specs.Prelude.{ℕ, List};
+ghost use Rattle.std.specs.Prelude.{◌≡◌, ℕ, ◌⊎◌, List};
 ghost use Rattle.cas_base.specs.declared.decl.Unit.{Unit as UnitOf};
-ghost use Rattle.cas_runs.specs.Label.{NameBytes};
+ghost use Rattle.cas_runs.specs.Label.{NameBytes, RunLabel};
 ghost use Rattle.cas_runs.specs.Edge.{Edge};
-ghost use Rattle.cas_runs.specs.Machine.{Machine};
-ghost use Rattle.cas_runs.specs.Refines.{Refines, NamesAlone, EachKept};
+ghost use Rattle.cas_runs.specs.Machine.{Machine, Block, Run, quiet_steps, quiet_now};
+ghost use Rattle.cas_runs.specs.Determined.{Same};
+ghost use Rattle.cas_runs.specs.Refines.{HasRun, BadBefore, PaysMore, Refines, NamesAlone, EachKept};
 ghost use Rattle.cas_runs.specs.Rules.{KeepsRules};
 ghost use Rattle.cas_runs.specs.Unit.{FirstWord, Language, UnitRefines, FunctionRefines, ThreadRefines};
 
@@ -42,4 +43,17 @@ pub fn runs_kept<T, S>()
 #[tactic(auto, using(crate::proofs::Composing::refines_itself))]
 pub fn refines_itself<S>()
     ensures { (edge : Edge) (m : Machine S) → KeepsRules edge m → Refines edge m m }
+{}
+
+/// The labels of a run and the number of its quiet steps determine its blocks and where it stands.
+#[tactic(auto, using(crate::proofs::Determined::determined))]
+pub fn runs_determined<S>()
+    ensures { (edge : Edge) (m : Machine S) (ls : List RunLabel) (bs cs : List Block) (b c : Block) (x y : S) (r : Run edge m ls bs b x) (k : Run edge m ls cs c y) → quiet_steps r ≡ quiet_steps k → Same bs cs b c x y }
+{}
+
+/// The quiet steps that a target makes after its last label are fewer than what the source pays there. So no
+/// endless quiet loop refines what pays a bounded price before its next label.
+#[tactic(auto, using(crate::proofs::Sanity::quiet_paid))]
+pub fn quiet_steps_paid<T, S>()
+    ensures { (edge : Edge) (t : Machine T) (s : Machine S) → Refines edge t s → (ls : List RunLabel) (bs : List Block) (b : Block) (x : T) (r : Run edge t ls bs b x) → HasRun edge s ls → BadBefore edge s ls ⊎ PaysMore edge s ls (quiet_now r) }
 {}

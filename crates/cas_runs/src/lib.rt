@@ -6,9 +6,11 @@
 
 mod compose;
 mod pass;
+mod refused;
 
 pub use compose::{
     functions_compose, refinements_compose, refines_itself, runs_kept, threads_compose,
     units_compose,
 };
 pub use pass::{Pass, run_pass, steps_refine};
+pub use refused::{dropped_store_refused, endless_loop_refused, kept_word_refused};

@@ -1,0 +1,203 @@
+-- What the definitions refuse.
+use Rattle.std.proofs.Common.{◌≡◌, ℕ, zero, suc, ◌+◌, ◌≤◌, ◌<◌, ◌^◌, List, [], ◌∷◌, ◌++◌, ◌⊎◌, Option, Some, None, inl, inr, refl, sym, ap, ◌∙◌, subst, ⊎_elim, arith}
+use Rattle.cas_runs.specs.Label.{RunLabel, Lock, Unlock, Out}
+use Rattle.cas_runs.specs.Edge.{Edge, AreGuarded, IsOfKind}
+use Rattle.cas_runs.specs.Machine.{Act, Quiet, Says, Crosses, Locks, Hears, Bad, Stops, Saying, Unlocks, Prints, Machine, label_of, Leads, IsBad, Block, begun, onward, Run, starts, quiet, labelled, quiet_now}
+use Rattle.cas_runs.specs.Refines.{HasRun, BadBefore, PaysMore, Kept, IsCrossing, Refines}
+use Rattle.cas_runs.specs.Sections.{Instruction, Take, Give, Load, Store, Print, Spin, Standing, one_lock, standing, sections}
+use Rattle.cas_runs.proofs.Refining.{IsQuiet, leads_not_quiet, one_state, bad_longer, before_label}
+
+-- No step of a target is free, so the quiet steps of a block are fewer than what the source pays.
+
+module _ {T S : Type 0} (edge : Edge) (t : Machine T) (s : Machine S) (h : Refines edge t s) where
+  pays : {ls : List RunLabel} {bs : List Block} {b : Block} {x : T} (r : Run edge t ls bs b x) → HasRun edge s ls → BadBefore edge s ls ⊎ (quiet_now r + 1 ≤ b.price)
+  pays starts has = ⊎_elim inl (λ k. inr (omega (arith, k.costs))) (h.kept _ _ _ _ starts has)
+  pays (quiet {ls = ls} {bs = bs} {b = b} y r e) has =
+      ⊎_elim inl (λ p. ⊎_elim inl (λ k. inr (omega (arith, p, k.costs))) (h.kept ls bs (onward t b y) y (quiet y r e) has)) (pays r has)
+  pays (labelled l y r e) has = ⊎_elim inl (λ k. inr (omega (arith, k.costs))) (h.kept _ _ _ _ (labelled l y r e) has)
+
+pub quiet_paid : {T S : Type 0} (edge : Edge) (t : Machine T) (s : Machine S) → Refines edge t s → (ls : List RunLabel) (bs : List Block) (b : Block) (x : T) (r : Run edge t ls bs b x) → HasRun edge s ls → BadBefore edge s ls ⊎ PaysMore edge s ls (quiet_now r)
+quiet_paid edge t s h ls bs b x r has =
+    ⊎_elim inl (λ p. ⊎_elim inl (λ k. inr (record { blocks = k.s_blocks; block = k.s_block; at = k.s_at; run = k.run; more_than = omega (arith, p, k.within_now.price) })) (h.kept ls bs b x r has)) (pays edge t s h r has)
+
+-- A Bad step of the source's that comes before some label comes after its label, or earlier.
+
+record BadAt {S : Type 0} (edge : Edge) (s : Machine S) (ls : List RunLabel) : Type 0 where
+  blocks : List Block
+  block : Block
+  at : S
+  run : Run edge s ls blocks block at
+  bad : IsBad (s.act at)
+
+module _ {S : Type 0} (edge : Edge) (s : Machine S) where
+  bad_last_of : (l : RunLabel) (ls since before : List RunLabel) → l ∷ ls ≡ since ++ before → (cs : List Block) (c : Block) (y : S) → Run edge s before cs c y → IsBad (s.act y) → BadAt edge s (l ∷ ls) ⊎ BadBefore edge s ls
+  bad_last_of l ls [] before e cs c y r b = inl (record { blocks = cs; block = c; at = y; run = subst (λ v. Run edge s v cs c y) (sym e) r; bad = b })
+  bad_last_of l ls (k ∷ since) before e cs c y r b = inr (record { since = since; before = before; prefix = cc e; blocks = cs; block = c; at = y; run = r; bad = b })
+
+  bad_last : (l : RunLabel) (ls : List RunLabel) → BadBefore edge s (l ∷ ls) → BadAt edge s (l ∷ ls) ⊎ BadBefore edge s ls
+  bad_last l ls b = bad_last_of l ls b.since b.before b.prefix b.blocks b.block b.at b.run b.bad
+
+  bad_first_of : (since before : List RunLabel) → [] ≡ since ++ before → (cs : List Block) (c : Block) (y : S) → Run edge s before cs c y → IsBad (s.act y) → BadAt edge s []
+  bad_first_of [] before e cs c y r b = record { blocks = cs; block = c; at = y; run = subst (λ v. Run edge s v cs c y) (sym e) r; bad = b }
+  bad_first_of (k ∷ since) before e cs c y r b = absurd (cc e)
+
+  bad_first : BadBefore edge s [] → BadAt edge s []
+  bad_first b = bad_first_of b.since b.before b.prefix b.blocks b.block b.at b.run b.bad
+
+  bad_not_quiet : (a : Act S) → IsBad a → IsQuiet a → ⊥
+  bad_not_quiet Bad b q = q
+  bad_not_quiet (Quiet n) b q = b
+  bad_not_quiet (Says k n) b q = b
+  bad_not_quiet (Crosses n) b q = b
+  bad_not_quiet (Locks k n) b q = b
+  bad_not_quiet (Hears n) b q = b
+  bad_not_quiet Stops b q = b
+
+  -- after these labels the source comes to a step that has a label, and so to no Bad one
+  not_bad_at : (ls : List RunLabel) (cs : List Block) (c : Block) (y : S) → Run edge s ls cs c y → (IsQuiet (s.act y) → ⊥) → (IsBad (s.act y) → ⊥) → BadAt edge s ls → ⊥
+  not_bad_at ls cs c y r n m b =
+      let same : b.at ≡ y = one_state edge s b.run r (bad_not_quiet (s.act b.at) b.bad) n in
+      m (subst (λ v. IsBad (s.act v)) same b.bad)
+
+  -- and has no label by which that step doesn't lead
+  no_other_label : (ls : List RunLabel) (cs : List Block) (c : Block) (y : S) → Run edge s ls cs c y → (IsQuiet (s.act y) → ⊥) → (l : RunLabel) → ((z : S) → Leads edge ls (s.act y) l z → ⊥) → HasRun edge s (l ∷ ls) → ⊥
+  no_other_label ls cs c y r n l m has =
+      let before = before_label edge s l ls has.run refl in
+      let same : before.at ≡ y = one_state edge s before.run r (leads_not_quiet edge ls (s.act before.at) l before.to before.leads) n in
+      m before.to (subst (λ v. Leads edge ls (s.act v) l before.to) same before.leads)
+
+-- A unit that drops a store to a guarded word before its Unlock doesn't refine.
+
+abbrev took : ℕ → RunLabel
+took w = Lock 0 (w ∷ [])
+
+abbrev gave : ℕ → RunLabel
+gave w = Unlock 0 (w ∷ [])
+
+guarded_word : (w : ℕ) → w < 2 ^ 32 → AreGuarded one_lock 0 (w ∷ [])
+guarded_word w h = record { is_lock = refl; kinds = (record { below = h; narrow = refl }, tt) }
+
+abbrev storing : List Instruction
+storing = Take ∷ Store 1 ∷ Give ∷ []
+
+abbrev not_storing : List Instruction
+not_storing = Take ∷ Give ∷ []
+
+-- a run that stands at this state
+record Comes {S : Type 0} (edge : Edge) (m : Machine S) (ls : List RunLabel) (x : S) : Type 0 where
+  blocks : List Block
+  block : Block
+  run : Run edge m ls blocks block x
+
+module _ {S : Type 0} (edge : Edge) (m : Machine S) where
+  comes_first : Comes edge m [] m.start
+  comes_first = record { blocks = []; block = begun m m.start; run = starts }
+
+  comes_on : (ls : List RunLabel) (x y : S) → Comes edge m ls x → m.act x ≡ Quiet y → Comes edge m ls y
+  comes_on ls x y c e = record { blocks = c.blocks; block = onward m c.block y; run = quiet y c.run e }
+
+  comes_by : (ls : List RunLabel) (l : RunLabel) (x y : S) → Comes edge m ls x → Leads edge ls (m.act x) l y → Comes edge m (l ∷ ls) y
+  comes_by ls l x y c e = record { blocks = c.block ∷ c.blocks; block = begun m y; run = labelled l y c.run e }
+
+  has_of : (ls : List RunLabel) (x : S) → Comes edge m ls x → HasRun edge m ls
+  has_of ls x c = record { blocks = c.blocks; block = c.block; at = x; run = c.run }
+
+  not_bad : (ls : List RunLabel) (y : S) → Comes edge m ls y → (IsQuiet (m.act y) → ⊥) → (IsBad (m.act y) → ⊥) → BadAt edge m ls → ⊥
+  not_bad ls y c n b h = not_bad_at edge m ls c.blocks c.block y c.run n b h
+
+  no_label : (ls : List RunLabel) (y : S) → Comes edge m ls y → (IsQuiet (m.act y) → ⊥) → (l : RunLabel) → ((z : S) → Leads edge ls (m.act y) l z → ⊥) → HasRun edge m (l ∷ ls) → ⊥
+  no_label ls y c n l h has = no_other_label edge m ls c.blocks c.block y c.run n l h has
+
+pub dropped_store : (p q : ℕ) → Refines one_lock (sections q not_storing) (sections p storing) → ⊥
+dropped_store p q h =
+    let t = sections q not_storing in
+    let s = sections p storing in
+    let ls : List RunLabel = took 0 ∷ [] in
+    let locked : Comes one_lock t ls (standing (Give ∷ []) 0 (Some 0)) = comes_by one_lock t [] (took 0) (standing not_storing 0 None) (standing (Give ∷ []) 0 (Some 0)) (comes_first one_lock t) (0 ∷ [], refl, guarded_word 0 (omega arith), refl) in
+    let first : Comes one_lock s [] (standing storing 0 None) = comes_first one_lock s in
+    let begins : Comes one_lock s ls (standing (Store 1 ∷ Give ∷ []) 0 (Some 0)) = comes_by one_lock s [] (took 0) (standing storing 0 None) (standing (Store 1 ∷ Give ∷ []) 0 (Some 0)) first (0 ∷ [], refl, guarded_word 0 (omega arith), refl) in
+    let stored : Comes one_lock s ls (standing (Give ∷ []) 0 (Some 1)) = comes_on one_lock s ls (standing (Store 1 ∷ Give ∷ []) 0 (Some 0)) (standing (Give ∷ []) 0 (Some 1)) begins refl in
+    ⊎_elim
+    (λ b. ⊎_elim (not_bad one_lock s ls (standing (Give ∷ []) 0 (Some 1)) stored (λ q. q) (λ q. q))
+    (λ b. not_bad one_lock s [] (standing storing 0 None) first (λ q. q) (λ q. q) (bad_first one_lock s b))
+    (bad_last one_lock s (took 0) [] b))
+    (no_label one_lock s ls (standing (Give ∷ []) 0 (Some 1)) stored (λ q. q) (gave 0) (λ z e. let same = e.0 in absurd (cc same)))
+    (h.follows ls locked.blocks locked.block (standing (Give ∷ []) 0 (Some 0)) locked.run (has_of one_lock s ls (standing (Give ∷ []) 0 (Some 1)) stored) (λ c. c) (gave 0) (standing [] 0 None) (refl, refl))
+
+-- A unit that reads a word after the next Lock without reading it anew doesn't refine.
+
+abbrev reading : List Instruction
+reading = Take ∷ Load ∷ Give ∷ Take ∷ Load ∷ Print ∷ []
+
+abbrev not_reading : List Instruction
+not_reading = Take ∷ Load ∷ Give ∷ Take ∷ Print ∷ []
+
+-- where a program has loaded 0 and locked again, which brought 1
+module _ (p : ℕ) (rest : List Instruction) where
+  abbrev twice : Machine Standing
+  twice = sections p (Take ∷ Load ∷ Give ∷ Take ∷ rest)
+
+  at_first : Comes one_lock twice [] (standing (Take ∷ Load ∷ Give ∷ Take ∷ rest) 0 None)
+  at_first = comes_first one_lock twice
+
+  at_load : Comes one_lock twice (took 0 ∷ []) (standing (Load ∷ Give ∷ Take ∷ rest) 0 (Some 0))
+  at_load = comes_by one_lock twice [] (took 0) (standing (Take ∷ Load ∷ Give ∷ Take ∷ rest) 0 None) (standing (Load ∷ Give ∷ Take ∷ rest) 0 (Some 0)) at_first (0 ∷ [], refl, guarded_word 0 (omega arith), refl)
+
+  at_give : Comes one_lock twice (took 0 ∷ []) (standing (Give ∷ Take ∷ rest) 0 (Some 0))
+  at_give = comes_on one_lock twice (took 0 ∷ []) (standing (Load ∷ Give ∷ Take ∷ rest) 0 (Some 0)) (standing (Give ∷ Take ∷ rest) 0 (Some 0)) at_load refl
+
+  at_take : Comes one_lock twice (gave 0 ∷ took 0 ∷ []) (standing (Take ∷ rest) 0 None)
+  at_take = comes_by one_lock twice (took 0 ∷ []) (gave 0) (standing (Give ∷ Take ∷ rest) 0 (Some 0)) (standing (Take ∷ rest) 0 None) at_give (refl, refl)
+
+  at_rest : Comes one_lock twice (took 1 ∷ gave 0 ∷ took 0 ∷ []) (standing rest 0 (Some 1))
+  at_rest = comes_by one_lock twice (gave 0 ∷ took 0 ∷ []) (took 1) (standing (Take ∷ rest) 0 None) (standing rest 0 (Some 1)) at_take (1 ∷ [], refl, guarded_word 1 (omega arith), refl)
+
+pub kept_word : (p q : ℕ) → Refines one_lock (sections q not_reading) (sections p reading) → ⊥
+kept_word p q h =
+    let s = sections p reading in
+    let ls : List RunLabel = took 1 ∷ gave 0 ∷ took 0 ∷ [] in
+    let printing = at_rest q (Print ∷ []) in
+    let loading = at_rest p (Load ∷ Print ∷ []) in
+    let loaded : Comes one_lock s ls (standing (Print ∷ []) 1 (Some 1)) = comes_on one_lock s ls (standing (Load ∷ Print ∷ []) 0 (Some 1)) (standing (Print ∷ []) 1 (Some 1)) loading refl in
+    ⊎_elim
+    (λ b. ⊎_elim (not_bad one_lock s ls (standing (Print ∷ []) 1 (Some 1)) loaded (λ q. q) (λ q. q))
+    (λ b. ⊎_elim (not_bad one_lock s (gave 0 ∷ took 0 ∷ []) (standing (Take ∷ Load ∷ Print ∷ []) 0 None) (at_take p (Load ∷ Print ∷ [])) (λ q. q) (λ q. q))
+    (λ b. ⊎_elim (not_bad one_lock s (took 0 ∷ []) (standing (Give ∷ Take ∷ Load ∷ Print ∷ []) 0 (Some 0)) (at_give p (Load ∷ Print ∷ [])) (λ q. q) (λ q. q))
+    (λ b. not_bad one_lock s [] (standing reading 0 None) (at_first p (Load ∷ Print ∷ [])) (λ q. q) (λ q. q) (bad_first one_lock s b))
+    (bad_last one_lock s (took 0) [] b))
+    (bad_last one_lock s (gave 0) (took 0 ∷ []) b))
+    (bad_last one_lock s (took 1) (gave 0 ∷ took 0 ∷ []) b))
+    (no_label one_lock s ls (standing (Print ∷ []) 1 (Some 1)) loaded (λ q. q) (Out 0) (λ z e. let same = e.0 in absurd (cc same)))
+    (h.follows ls printing.blocks printing.block (standing (Print ∷ []) 0 (Some 1)) printing.run (has_of one_lock s ls (standing (Print ∷ []) 1 (Some 1)) loaded) (λ c. c) (Out 0) (standing [] 0 (Some 1)) (refl, refl))
+
+-- An endless quiet loop doesn't refine a print.
+
+record Spinning (q n : ℕ) : Type 0 where
+  block : Block
+  run : Run one_lock (sections q (Spin ∷ [])) [] [] block (standing (Spin ∷ []) 0 None)
+  counted : quiet_now run ≡ n
+
+spins : (q n : ℕ) → Spinning q n
+spins q zero = record { block = begun (sections q (Spin ∷ [])) (standing (Spin ∷ []) 0 None); run = starts; counted = refl }
+spins q (suc n) =
+    let k = spins q n in
+    let m = sections q (Spin ∷ []) in
+    record { block = onward m k.block (standing (Spin ∷ []) 0 None); run = quiet (standing (Spin ∷ []) 0 None) k.run refl; counted = let e = k.counted in omega (arith, e) }
+
+-- the printing program pays for one step before its label
+pays_once : (p : ℕ) (ls : List RunLabel) (cs : List Block) (c : Block) (y : Standing) → ls ≡ [] → Run one_lock (sections p (Print ∷ [])) ls cs c y → (c.price ≤ p) × (y ≡ standing (Print ∷ []) 0 None)
+pays_once p ls cs c y e starts = (omega arith, refl)
+pays_once p ls cs c y e (quiet {ls = old} {bs = bs} {b = b} {x = x} y' r q) =
+    let at = pays_once p old bs b x e r in
+    let m = sections p (Print ∷ []) in
+    let no : ⊥ = subst (λ v. IsQuiet (m.act v)) at.1 (subst IsQuiet (sym q) tt) in
+    absurd no
+pays_once p ls cs c y e (labelled l y' r q) = absurd (cc e)
+
+pub endless_loop : (p q : ℕ) → Refines one_lock (sections q (Spin ∷ [])) (sections p (Print ∷ [])) → ⊥
+endless_loop p q h =
+    let k = spins q p in
+    let s = sections p (Print ∷ []) in
+    ⊎_elim (λ b. not_bad one_lock s [] (standing (Print ∷ []) 0 None) (comes_first one_lock s) (λ q. q) (λ q. q) (bad_first one_lock s b))
+    (λ m. let w = pays_once p [] m.blocks m.block m.at refl m.run in let more = m.more_than in let counted = k.counted in let least = w.0 in absurd (omega (arith, more, counted, least)))
+    (quiet_paid one_lock (sections q (Spin ∷ [])) s h [] [] k.block (standing (Spin ∷ []) 0 None) k.run (has_of one_lock s [] (standing (Print ∷ []) 0 None) (comes_first one_lock s)))
