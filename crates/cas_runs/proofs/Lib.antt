@@ -1,5 +1,6 @@
 pub mod Composing
 pub mod Determined
+pub mod Joining
 pub mod Refining
 pub mod Sanity
 pub mod Units

@@ -10,4 +10,5 @@ pub mod Refines
 pub mod Rules
 pub mod Sections
 pub mod Simulation
+pub mod Trial
 pub mod Unit

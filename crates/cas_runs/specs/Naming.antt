@@ -1,6 +1,7 @@
 -- Namings: which places of a machine's memory are the objects that have crossed.
 use Rattle.std.specs.Prelude.{◌≡◌, ℕ, zero, suc, ◌+◌, ◌-◌, ◌≤◌, nat_eq, nat_lt, nat_le, Bool, true, false, not, ◌&&◌, List, [], ◌∷◌, ◌++◌, length, Option, Some, None, slice_get, slice_set, if◌then◌else◌}
 use Rattle.cas_base.specs.declared.kind.Kind.{Kind}
+use Rattle.cas_base.specs.declared.kind.Kind.TheVariants.{I8, U8, I16, U16, I32, U32}
 use Rattle.cas_runs.specs.Label.{NameBytes, Shown, Word, Place, Owner, Inside, Outside, Object}
 
 -- a block of memory: of an activation, by its serial number and the place of the block among the function's, or an object of the outside's, by its number
@@ -105,9 +106,32 @@ contents_named_by parts ns n None (Some shown) = None
 contents_named_by parts ns n (Some block) None = None
 contents_named_by parts ns n (Some block) (Some shown) = all_named_by parts ns (cells block n.part.from n.part.size) shown
 
+abbrev pub owner_of : Home → Owner
+owner_of (Own activation block) = Inside
+owner_of (Theirs object) = Outside
+
+abbrev pub same_owner : Owner → Owner → Bool
+same_owner Inside Inside = true
+same_owner Inside Outside = false
+same_owner Outside Inside = false
+same_owner Outside Outside = true
+
+-- the kinds are told apart by a number
+abbrev pub kind_number : Kind → ℕ
+kind_number I8 = 0
+kind_number U8 = 1
+kind_number I16 = 2
+kind_number U16 = 3
+kind_number I32 = 4
+kind_number U32 = 5
+
+-- the object is shown as what it is
+abbrev pub is_shown_as : Named → Object → Bool
+is_shown_as n object = same_owner object.owner (owner_of n.home) && nat_eq (kind_number object.kind) (kind_number n.part.kind) && nat_eq object.size n.part.size
+
 abbrev pub object_named_by : (Home → List Part) → Memory → Naming → Option Named → Object → Option Naming
 object_named_by parts memory ns None object = None
-object_named_by parts memory ns (Some n) object = if nat_eq object.size n.part.size then contents_named_by parts ns n (memory n.home) object.contents else None
+object_named_by parts memory ns (Some n) object = if is_shown_as n object then contents_named_by parts ns n (memory n.home) object.contents else None
 
 -- the same for the objects that have crossed, from the k-th on, with what they contain. An object that only these contents show is among them
 abbrev pub objects_named_by : (Home → List Part) → Memory → Naming → ℕ → List Object → Option Naming
@@ -122,3 +146,50 @@ place_of (Some n) place = Some (Pointer n.home (n.part.from + place))
 abbrev pub taken : Naming → Shown → Option Value
 taken ns (Word w) = Some (Number w)
 taken ns (Place object place) = place_of (slice_get ns object) place
+
+abbrev pub or_old : Option Value → Value → Value
+or_old None old = old
+or_old (Some v) old = v
+
+-- the block with these values from a place on, and no longer than it was
+abbrev pub written : Naming → List Value → (from : ℕ) → List Shown → List Value
+written ns [] from xs = []
+written ns (v ∷ vs) zero [] = v ∷ vs
+written ns (v ∷ vs) zero (x ∷ xs) = or_old (taken ns x) v ∷ written ns vs zero xs
+written ns (v ∷ vs) (suc from) xs = v ∷ written ns vs from xs
+
+-- the memory with another block at this home
+abbrev pub with_block : Memory → Home → Option (List Value) → Memory
+with_block memory home block = λ h. if same_home h home then block else memory h
+
+-- where the outside lets an object die: only one of its own does
+abbrev pub died : Home → List Value → Option (List Value)
+died (Own activation block) values = Some values
+died (Theirs object) values = None
+
+abbrev pub refilled : Naming → Home → (from : ℕ) → Option (List Value) → Option (List Shown) → Option (List Value)
+refilled ns home from None contents = None
+refilled ns home from (Some block) None = died home block
+refilled ns home from (Some block) (Some xs) = Some (written ns block from xs)
+
+abbrev pub all_taken : Naming → List Shown → List Value
+all_taken ns [] = []
+all_taken ns (x ∷ xs) = or_old (taken ns x) (Number 0) ∷ all_taken ns xs
+
+abbrev pub new_block : Naming → Option (List Shown) → Option (List Value)
+new_block ns None = None
+new_block ns (Some xs) = Some (all_taken ns xs)
+
+-- a naming and a memory
+pub record Crossed : Type 0 where
+  pub naming : Naming
+  pub memory : Memory
+
+abbrev pub brought_one : Naming → Memory → ℕ → Option Named → Object → Crossed
+brought_one ns memory k (Some n) o = record { naming = ns; memory = with_block memory n.home (refilled ns n.home n.part.from (memory n.home) o.contents) }
+brought_one ns memory k None o = record { naming = ns ++ record { home = Theirs k; part = record { from = 0; size = o.size; kind = o.kind } } ∷ []; memory = with_block memory (Theirs k) (new_block ns o.contents) }
+
+-- what the outside leaves, from the k-th object on: new contents of the objects that have crossed, and objects of its own. Nothing else of a block changes
+abbrev pub brought : Naming → Memory → ℕ → List Object → Crossed
+brought ns memory k [] = record { naming = ns; memory = memory }
+brought ns memory k (o ∷ os) = let c = brought_one ns memory k (slice_get ns k) o in brought c.naming c.memory (k + 1) os
