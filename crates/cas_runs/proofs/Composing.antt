@@ -6,7 +6,7 @@ use Rattle.cas_runs.specs.Outside.{IsAmong, first, later, MayBring}
 use Rattle.cas_runs.specs.Machine.{Act, Quiet, Says, Crosses, Locks, Hears, Bad, Stops, Saying, Unlocks, Prints, Ends, Machine, label_of, CanCross, Leads, IsBad, Block, begun, onward, Run, starts, quiet, labelled}
 use Rattle.cas_runs.specs.Refines.{Subsequence, done, keep, skip, Within, EachWithin, none, more, HasRun, BadBefore, Kept, NamedAs, IsCrossing, Refines, NamesAlone, EachKept}
 use Rattle.cas_runs.proofs.Refining.{IsQuiet, leads_not_quiet, one_state, bad_longer, Before, before_label, has_before, has_shorter, crossing_or_not, bad_or_fine}
-use Rattle.cas_runs.specs.Rules.{KeepsRules}
+use Rattle.cas_runs.specs.Rules.{Proceeds}
 
 pub within_both : (a b c : Block) → Within a b → Within b c → Within a c
 within_both a b c h k = record {
@@ -41,7 +41,7 @@ crosses_by edge ls (Says k n) l y h c = absurd c
 crosses_by edge ls (Locks k n) l y h c = absurd c
 crosses_by edge ls (Hears n) l y h c = absurd c
 crosses_by edge ls Bad l y h c = absurd c
-crosses_by edge ls Stops l y h c = absurd c
+crosses_by edge ls (Stops w) l y h c = absurd c
 
 said_stays : (k : Saying) → CanCross (label_of k) → ⊥
 said_stays (Unlocks l ws) c = c
@@ -65,7 +65,7 @@ not_crossing edge ls (Says k m) l y h n c = said_stays k (subst CanCross (sym h.
 not_crossing edge ls (Locks k m) l y h n c = let no : ⊥ = subst CanCross h.1 c in no
 not_crossing edge ls (Hears m) l y h n c = brought_stays edge ls l h.0 c
 not_crossing edge ls Bad l y h n c = h
-not_crossing edge ls Stops l y h n c = h
+not_crossing edge ls (Stops w) l y h n c = h
 
 -- a Bad step of the middle's is the source's
 bad_both : {S R : Type 0} (edge : Edge) (s : Machine S) (r : Machine R) → Refines edge s r → (ls : List RunLabel) → HasRun edge r ls → BadBefore edge s ls → BadBefore edge r ls
@@ -153,7 +153,7 @@ module _ {T S : Type 0} (edge : Edge) (t : Machine T) (s : Machine S) (h : Refin
   pub each_kept : EachKept edge t s
   each_kept = record { each = λ ls bs b x run. ⊎_elim inl (λ m. h.kept ls bs b x run m) (has_each run) }
 
--- A machine that keeps the rules refines itself.
+-- A machine of which no step is free, and of which what crosses has a label, refines itself.
 
 within_same : (b : Block) → Within b b
 within_same b = record { price = omega arith; writes = λ w h. h; reads = λ w h. inl h }
@@ -166,7 +166,7 @@ pub sub_same : (xs : List NameBytes) → Subsequence xs xs
 sub_same [] = done
 sub_same (x ∷ xs) = keep (sub_same xs)
 
-module _ {S : Type 0} (edge : Edge) (m : Machine S) (rules : KeepsRules edge m) where
+module _ {S : Type 0} (edge : Edge) (m : Machine S) (rules : Proceeds m) where
   kept_same : (ls : List RunLabel) (bs : List Block) (b : Block) (x : S) → Run edge m ls bs b x → BadBefore edge m ls ⊎ Kept edge m m ls bs b x
   kept_same ls bs b x run =
       ⊎_elim

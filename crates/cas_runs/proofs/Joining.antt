@@ -8,10 +8,9 @@ use Rattle.cas_runs.specs.Edge.{Edge, named}
 use Rattle.cas_runs.specs.Outside.{IsAmong, MayBring}
 use Rattle.cas_runs.specs.Naming.{Home, Own, Theirs, Value, Number, Pointer, Part, Named, Naming, Memory, Crossed, named_by, all_named_by, object_named_by, objects_named_by, contents_named_by, is_shown_as, part_at, first_time, taken, place_of, and_then, or_old, written, refilled, with_block, new_block, brought_one, brought}
 use Rattle.cas_runs.specs.Machine.{Act, Quiet, Says, Crosses, Locks, Hears, Bad, Stops, Prints, Ends, CanCross, IsBad, Leads, Block, onward, begun}
-use Rattle.cas_runs.specs.Refines.{Within, done, Refines}
+use Rattle.cas_runs.specs.Refines.{Within, done}
 use Rattle.cas_runs.specs.Simulation.{BadSoon, now, Follows, related, fails, step, FollowsBy, by, fails_before, FollowsNamed, named as named_as, fails_naming, Answers, Fine, Simulates}
 use Rattle.cas_runs.specs.Trial.{Stage, Ready, Calling, Away, Printing, Ending, Over, Stuck, outside, if_no_share, then_away, calls, first_taken, printing, comes_back, prints_word, in_block, loaded, word_at, apart_parts, apart_memory, joined_parts, joined_memory, apart, joined}
-use Rattle.cas_runs.proofs.Refining.{steps_refine}
 
 -- what both memories have: the first variable alike, and the objects of the outside
 pub record Alike (t s : Memory) : Type 0 where
@@ -214,7 +213,7 @@ module _ (edge : Edge) (a b : ℕ) where
   bad_answers ls (Locks l n) c y d h = λ ws g. fails_before h
   bad_answers ls (Hears n) c y d h = λ l m. fails_before h
   bad_answers ls Bad c y d h = now h
-  bad_answers ls Stops c y d h = tt
+  bad_answers ls (Stops w) c y d h = tt
 
   -- by a Call
   abbrev FollowsAt : List RunLabel → RunLabel → Stage → Option Stage → Type 0
@@ -330,5 +329,6 @@ module _ (edge : Edge) (a b : ℕ) where
   pub joined_simulates : Simulates edge (joined a b) (apart a b) Rel
   joined_simulates = record { starts = ready (small_begun Ready Ready); fine = fine_of; answers = answers_of }
 
-pub joined_refines : (edge : Edge) (a b : ℕ) → Refines edge (joined a b) (apart a b)
-joined_refines edge a b = steps_refine edge (joined a b) (apart a b) (Rel edge a b) (joined_simulates edge a b)
+-- the law of the pass
+pub pass_simulates : (edge : Edge) (a b c d : ℕ) → (c ≡ a) × (d ≡ b) → Simulates edge (joined c d) (apart a b) (Rel edge a b)
+pass_simulates edge a b c d e = subst (λ v. Simulates edge (joined v d) (apart a b) (Rel edge a b)) (sym e.0) (subst (λ v. Simulates edge (joined a v) (apart a b) (Rel edge a b)) (sym e.1) (joined_simulates edge a b))

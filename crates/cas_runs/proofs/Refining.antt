@@ -65,7 +65,7 @@ leads_to_one edge ls (Locks lock next) l y z h k =
     sym h.3 ∙ ap next same ∙ k.3
 leads_to_one edge ls (Hears next) l y z h k = sym h.1 ∙ k.1
 leads_to_one edge ls Bad l y z h k = absurd h
-leads_to_one edge ls Stops l y z h k = absurd h
+leads_to_one edge ls (Stops w) l y z h k = absurd h
 
 abbrev pub IsQuiet : {S : Type 0} → Act S → Type 0
 IsQuiet (Quiet n) = Unit {0}
@@ -74,7 +74,7 @@ IsQuiet (Crosses n) = ⊥
 IsQuiet (Locks l n) = ⊥
 IsQuiet (Hears n) = ⊥
 IsQuiet Bad = ⊥
-IsQuiet Stops = ⊥
+IsQuiet (Stops why) = ⊥
 
 pub leads_not_quiet : {S : Type 0} (edge : Edge) (ls : List RunLabel) (a : Act S) (l : RunLabel) (y : S) → Leads edge ls a l y → IsQuiet a → ⊥
 leads_not_quiet edge ls (Quiet n) l y h k = h
@@ -83,7 +83,7 @@ leads_not_quiet edge ls (Crosses next) l y h k = k
 leads_not_quiet edge ls (Locks lock next) l y h k = k
 leads_not_quiet edge ls (Hears next) l y h k = k
 leads_not_quiet edge ls Bad l y h k = k
-leads_not_quiet edge ls Stops l y h k = k
+leads_not_quiet edge ls (Stops w) l y h k = k
 
 module _ {S : Type 0} (edge : Edge) (s : Machine S) where
   data Quietly : S → S → Type 0 where
@@ -147,7 +147,7 @@ crossing_or_not (Quiet n) = inr (λ h. h)
 crossing_or_not (Says l n) = inr (λ h. h)
 crossing_or_not (Locks k n) = inr (λ h. h)
 crossing_or_not (Hears n) = inr (λ h. h)
-crossing_or_not Stops = inr (λ h. h)
+crossing_or_not (Stops w) = inr (λ h. h)
 
 pub bad_or_fine : {T : Type 0} (a : Act T) → IsBad a ⊎ (IsBad a → ⊥)
 bad_or_fine Bad = inl tt
@@ -156,7 +156,7 @@ bad_or_fine (Says l n) = inr (λ h. h)
 bad_or_fine (Crosses n) = inr (λ h. h)
 bad_or_fine (Locks k n) = inr (λ h. h)
 bad_or_fine (Hears n) = inr (λ h. h)
-bad_or_fine Stops = inr (λ h. h)
+bad_or_fine (Stops w) = inr (λ h. h)
 
 -- The law.
 
@@ -220,7 +220,7 @@ module _ {T S : Type 0} (edge : Edge) (t : Machine T) (s : Machine S) (Related :
   follows_label ls (Locks lock next) l x' b y c h n' e = subst (λ v. FollowsBy edge t s Related ls v x' y) (sym e.1) (subst (λ v. FollowsBy edge t s Related ls (Lock lock e.0) v y) e.3 (h e.0 e.2))
   follows_label ls (Hears next) l x' b y c h n' e = subst (λ v. FollowsBy edge t s Related ls l v y) e.1 (h l e.0)
   follows_label ls Bad l x' b y c h n' e = absurd e
-  follows_label ls Stops l x' b y c h n' e = absurd e
+  follows_label ls (Stops w) l x' b y c h n' e = absurd e
 
   bad_too : (ls : List RunLabel) (a : Act T) (b : Block) (y : S) (c : Block) → Answers edge t s Related ls a b y c → IsBad a → BadSoon s y
   bad_too ls Bad b y c h e = h
@@ -229,7 +229,7 @@ module _ {T S : Type 0} (edge : Edge) (t : Machine T) (s : Machine S) (Related :
   bad_too ls (Crosses n) b y c h e = absurd e
   bad_too ls (Locks k n) b y c h e = absurd e
   bad_too ls (Hears n) b y c h e = absurd e
-  bad_too ls Stops b y c h e = absurd e
+  bad_too ls (Stops w) b y c h e = absurd e
 
   module _ (sim : Simulates edge t s Related) where
     -- at a label of a Call or Leave that both have

@@ -51,7 +51,7 @@ module _ {S : Type 0} (edge : Edge) (s : Machine S) where
   bad_not_quiet (Crosses n) b q = b
   bad_not_quiet (Locks k n) b q = b
   bad_not_quiet (Hears n) b q = b
-  bad_not_quiet Stops b q = b
+  bad_not_quiet (Stops w) b q = b
 
   -- after these labels the source comes to a step that has a label, and so to no Bad one
   not_bad_at : (ls : List RunLabel) (cs : List Block) (c : Block) (y : S) → Run edge s ls cs c y → (IsQuiet (s.act y) → ⊥) → (IsBad (s.act y) → ⊥) → BadAt edge s ls → ⊥

@@ -31,6 +31,12 @@ CanCross Done = ⊥
 CanCross (Enter f crossing) = ⊥
 CanCross (Back crossing) = ⊥
 
+-- why there is no next step: the thread has ended, the lock is in the share already, or the stack is full, which comes in the last language alone
+pub data Halt : Type 0 where
+  Ended : Halt
+  Taken : (lock : ℕ) → Halt
+  Full : Halt
+
 -- what is next at a state
 pub data Act (S : Type 0) : Type 0 where
   -- a step without a label
@@ -45,8 +51,8 @@ pub data Act (S : Type 0) : Type 0 where
   Hears : (next : RunLabel → S) → Act S
   -- a step without a meaning
   Bad : Act S
-  -- no next step: the run has ended, its stack is full, or the lock is in the share already
-  Stops : Act S
+  -- no next step
+  Stops : (why : Halt) → Act S
 
 -- a language at one unit. The price and the footprint at a state are those of the step that is next there
 pub record Machine (S : Type 0) : Type 0 where
@@ -65,7 +71,7 @@ Leads edge before (Locks lock next) l y = (words : List ℕ) × (l ≡ Lock lock
 Leads edge before (Hears next) l y = MayBring edge before l × (next l ≡ y)
 Leads edge before (Quiet next) l y = ⊥
 Leads edge before Bad l y = ⊥
-Leads edge before Stops l y = ⊥
+Leads edge before (Stops why) l y = ⊥
 
 -- the step has no meaning
 abbrev pub IsBad : {S : Type 0} → Act S → Type 0
@@ -75,7 +81,7 @@ IsBad (Says saying next) = ⊥
 IsBad (Crosses next) = ⊥
 IsBad (Locks lock next) = ⊥
 IsBad (Hears next) = ⊥
-IsBad Stops = ⊥
+IsBad (Stops why) = ⊥
 
 -- the part of a run between two labels: what its steps, and the step at which it stands, have paid and touched
 pub record Block : Type 0 where

@@ -74,7 +74,7 @@ IsCrossing (Says saying next) = ⊥
 IsCrossing (Locks lock next) = ⊥
 IsCrossing (Hears next) = ⊥
 IsCrossing Bad = ⊥
-IsCrossing Stops = ⊥
+IsCrossing (Stops why) = ⊥
 
 -- the target does only what the source does, until the source is Bad. A Call or Leave of the target can have several labels, as one address can be
 -- the end of an object and the beginning of the next: its labels are those by which the source names what crosses

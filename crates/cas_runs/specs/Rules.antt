@@ -4,7 +4,7 @@ use Rattle.cas_base.specs.declared.kind.Kind.{Kind}
 use Rattle.cas_runs.specs.Label.{NameBytes, Shown, Inside, Object, Crossing, RunLabel, Lock, Unlock, Out, Done, Enter, Back, Call, Leave, locks_of}
 use Rattle.cas_runs.specs.Edge.{SharedWord, Edge, AreGuarded, IsShare}
 use Rattle.cas_runs.specs.Outside.{Pending, Entered, IsAmong, pending, crossed}
-use Rattle.cas_runs.specs.Machine.{Says, Crosses, Locks, Machine, Saying, label_of, CanCross, Block, Run}
+use Rattle.cas_runs.specs.Machine.{Says, Crosses, Locks, Stops, Halt, Ended, Taken, Full, Machine, Saying, label_of, CanCross, Block, Run}
 
 -- the lock and these, in ascending order
 abbrev pub and_lock : ℕ → List ℕ → List ℕ
@@ -99,13 +99,29 @@ MayCross edge before (Lock l words) = ⊥
 MayCross edge before (Enter f crossing) = ⊥
 MayCross edge before (Back crossing) = ⊥
 
--- the machine keeps the rules: no step is free; it touches shared words of its share alone; it unlocks what is in the share, and locks what isn't;
--- and what crosses has a label
-pub record KeepsRules {S : Type 0} (edge : Edge) (m : Machine S) : Type 0 where
+-- the newest label is Done
+abbrev pub HasEnded : List RunLabel → Type 0
+HasEnded [] = ⊥
+HasEnded (l ∷ before) = l ≡ Done
+
+-- the machine may have no next step, after these labels, for this reason
+abbrev pub MayHalt : List RunLabel → Halt → Type 0
+MayHalt before Ended = HasEnded before
+MayHalt before (Taken lock) = IsAmong lock (locks_after before)
+MayHalt before Full = Unit {0}
+
+-- no step is free, and what crosses has a label
+pub record Proceeds {S : Type 0} (m : Machine S) : Type 0 where
   pub costs : (x : S) → 1 ≤ m.price x
+  pub named : (x : S) (next : RunLabel → Option S) → m.act x ≡ Crosses next → (l : RunLabel) × (y : S) × CanCross l × (next l ≡ Some y)
+
+-- the machine keeps the rules: it touches shared words of its share alone, unlocks what is in the share, and locks what isn't; it shows the outside its share
+-- and the objects that have crossed; and it stops only where it has ended, where the lock is in the share, or where its stack is full
+pub record KeepsRules {S : Type 0} (edge : Edge) (m : Machine S) : Type 0 where
+  pub proceeds : Proceeds m
   pub reads : (ls : List RunLabel) (bs : List Block) (b : Block) (x : S) → Run edge m ls bs b x → (w : ℕ) → IsAmong w (m.footprint x).reads → IsShared edge (locks_after ls) w
   pub writes : (ls : List RunLabel) (bs : List Block) (b : Block) (x : S) → Run edge m ls bs b x → (w : ℕ) → IsAmong w (m.footprint x).writes → IsShared edge (locks_after ls) w
   pub says : (ls : List RunLabel) (bs : List Block) (b : Block) (x : S) → Run edge m ls bs b x → (saying : Saying) (y : S) → m.act x ≡ Says saying y → MaySay edge ls (label_of saying)
   pub locks : (ls : List RunLabel) (bs : List Block) (b : Block) (x : S) → Run edge m ls bs b x → (lock : ℕ) (next : List ℕ → S) → m.act x ≡ Locks lock next → IsAmong lock (locks_after ls) → ⊥
   pub crosses : (ls : List RunLabel) (bs : List Block) (b : Block) (x : S) → Run edge m ls bs b x → (next : RunLabel → Option S) → m.act x ≡ Crosses next → (l : RunLabel) (y : S) → CanCross l → next l ≡ Some y → MayCross edge ls l
-  pub named : (x : S) (next : RunLabel → Option S) → m.act x ≡ Crosses next → (l : RunLabel) × (y : S) × CanCross l × (next l ≡ Some y)
+  pub halts : (ls : List RunLabel) (bs : List Block) (b : Block) (x : S) → Run edge m ls bs b x → (why : Halt) → m.act x ≡ Stops why → MayHalt ls why

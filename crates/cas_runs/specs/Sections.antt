@@ -2,7 +2,7 @@
 use Rattle.std.specs.Prelude.{ℕ, List, [], ◌∷◌, Option, Some, None}
 use Rattle.cas_base.specs.declared.kind.Kind.TheVariants.{U32}
 use Rattle.cas_runs.specs.Edge.{Edge, LockWord, SharedWord}
-use Rattle.cas_runs.specs.Machine.{Act, Quiet, Says, Locks, Bad, Stops, Unlocks, Prints, Footprint, Machine}
+use Rattle.cas_runs.specs.Machine.{Act, Quiet, Says, Locks, Bad, Stops, Taken, Ended, Unlocks, Prints, Ends, Footprint, Machine}
 
 pub data Instruction : Type 0 where
   Take : Instruction
@@ -12,18 +12,17 @@ pub data Instruction : Type 0 where
   Print : Instruction
   Spin : Instruction
 
--- where a program stands: what is left of it, the register, and the word where the lock is held
-pub record Standing : Type 0 where
-  pub rest : List Instruction
-  pub register : ℕ
-  pub held : Option ℕ
+-- where a program stands: what is left of it, the register, and the word where the lock is held; or it has ended
+pub data Standing : Type 0 where
+  At : (rest : List Instruction) (register : ℕ) (held : Option ℕ) → Standing
+  Over : Standing
 
 -- the lock is word 0, and it guards word 1
 abbrev pub one_lock : Edge
 one_lock = record { cells = LockWord ∷ SharedWord U32 (Some 0) 0 ∷ []; functions = [] }
 
 abbrev pub standing : List Instruction → ℕ → Option ℕ → Standing
-standing rest register held = record { rest = rest; register = register; held = held }
+standing rest register held = At rest register held
 
 -- the first of the words that came
 abbrev pub first_of_words : List ℕ → Option ℕ
@@ -36,7 +35,7 @@ gives rest register None = Bad
 
 abbrev pub takes : List Instruction → ℕ → Option ℕ → Act Standing
 takes rest register None = Locks 0 (λ words. standing rest register (first_of_words words))
-takes rest register (Some w) = Stops
+takes rest register (Some w) = Stops (Taken 0)
 
 abbrev pub loads : List Instruction → Option ℕ → Act Standing
 loads rest (Some w) = Quiet (standing rest w (Some w))
@@ -47,7 +46,7 @@ stores rest register word (Some w) = Quiet (standing rest register (Some word))
 stores rest register word None = Bad
 
 abbrev pub act_of : List Instruction → ℕ → Option ℕ → Act Standing
-act_of [] register held = Stops
+act_of [] register held = Says Ends Over
 act_of (Take ∷ rest) register held = takes rest register held
 act_of (Give ∷ rest) register held = gives rest register held
 act_of (Load ∷ rest) register held = loads rest held
@@ -55,15 +54,23 @@ act_of (Store word ∷ rest) register held = stores rest register word held
 act_of (Print ∷ rest) register held = Says (Prints register) (standing rest register held)
 act_of (Spin ∷ rest) register held = Quiet (standing (Spin ∷ rest) register held)
 
-abbrev pub touched : List Instruction → Footprint
-touched [] = record { reads = []; writes = [] }
-touched (Load ∷ rest) = record { reads = 1 ∷ []; writes = [] }
-touched (Store word ∷ rest) = record { reads = []; writes = 1 ∷ [] }
-touched (Take ∷ rest) = record { reads = []; writes = [] }
-touched (Give ∷ rest) = record { reads = []; writes = [] }
-touched (Print ∷ rest) = record { reads = []; writes = [] }
-touched (Spin ∷ rest) = record { reads = []; writes = [] }
+abbrev pub no_footprint : Footprint
+no_footprint = record { reads = []; writes = [] }
+
+-- the word is touched where the lock is held
+abbrev pub touched : List Instruction → Option ℕ → Footprint
+touched (Load ∷ rest) (Some w) = record { reads = 1 ∷ []; writes = [] }
+touched (Store word ∷ rest) (Some w) = record { reads = []; writes = 1 ∷ [] }
+touched _ _ = no_footprint
+
+abbrev pub act_at : Standing → Act Standing
+act_at (At rest register held) = act_of rest register held
+act_at Over = Stops Ended
+
+abbrev pub footprint_at : Standing → Footprint
+footprint_at (At rest register held) = touched rest held
+footprint_at Over = no_footprint
 
 -- a program as it runs, where each step costs this
 abbrev pub sections : ℕ → List Instruction → Machine Standing
-sections price program = record { start = standing program 0 None; act = λ x. act_of x.rest x.register x.held; price = λ x. price; footprint = λ x. touched x.rest; open_functions = λ x. [] }
+sections price program = record { start = standing program 0 None; act = act_at; price = λ x. price; footprint = footprint_at; open_functions = λ x. [] }

@@ -42,7 +42,7 @@ module _ {T S : Type 0} (edge : Edge) (t : Machine T) (s : Machine S) (Related :
   Answers ls (Locks lock next) b y c = (words : List ℕ) → AreGuarded edge lock words → FollowsBy ls (Lock lock words) (next words) y
   Answers ls (Hears next) b y c = (l : RunLabel) → MayBring edge ls l → FollowsBy ls l (next l) y
   Answers ls Bad b y c = BadSoon s y
-  Answers ls Stops b y c = Unit {0}
+  Answers ls (Stops why) b y c = Unit {0}
 
   -- what is asked of the blocks, of the price and of the open functions
   pub record Fine (x : T) (b : Block) (y : S) (c : Block) : Type 0 where

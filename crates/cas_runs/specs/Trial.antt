@@ -6,7 +6,7 @@ use Rattle.cas_base.specs.declared.kind.Ty.TheVariants.{Void, Ptr}
 use Rattle.cas_runs.specs.Label.{NameBytes, Shown, Word, Place, Share, Held, Crossing, RunLabel, Lock, Unlock, Out, Done, Enter, Back, Call, Leave}
 use Rattle.cas_runs.specs.Edge.{Edge, Signature, named}
 use Rattle.cas_runs.specs.Naming.{Home, Own, Theirs, Value, Number, Pointer, Part, Named, Naming, Memory, Crossed, all_named_by, objects_named_by, taken, and_then, brought}
-use Rattle.cas_runs.specs.Machine.{Act, Quiet, Says, Crosses, Hears, Bad, Stops, Saying, Prints, Ends, Footprint, Machine}
+use Rattle.cas_runs.specs.Machine.{Act, Quiet, Says, Crosses, Hears, Bad, Stops, Ended, Saying, Prints, Ends, Footprint, Machine}
 
 -- where the program stands
 pub data Stage : Type 0 where
@@ -80,7 +80,7 @@ module _ (price : ℕ) (parts : Home → List Part) (first_memory : Memory) wher
   act_at (Away ns memory) = Hears (comes_back ns memory)
   act_at (Printing memory at) = prints_word (loaded memory at)
   act_at Ending = Says Ends Over
-  act_at Over = Stops
+  act_at Over = Stops Ended
   act_at Stuck = Bad
 
   abbrev pub shows_place : Machine Stage
@@ -117,7 +117,3 @@ apart a b = shows_place 2 apart_parts (apart_memory a b)
 
 abbrev pub joined : ℕ → ℕ → Machine Stage
 joined a b = shows_place 1 joined_parts (joined_memory a b)
-
--- the function outside takes and returns a pointer
-abbrev pub trial_edge : Edge
-trial_edge = record { cells = []; functions = [] }

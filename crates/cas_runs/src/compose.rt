@@ -5,7 +5,7 @@ ghost use Rattle.cas_runs.specs.Edge.{Edge};
 ghost use Rattle.cas_runs.specs.Machine.{Machine, Block, Run, quiet_steps, quiet_now};
 ghost use Rattle.cas_runs.specs.Determined.{Same};
 ghost use Rattle.cas_runs.specs.Refines.{HasRun, BadBefore, PaysMore, Refines, NamesAlone, EachKept};
-ghost use Rattle.cas_runs.specs.Rules.{KeepsRules};
+ghost use Rattle.cas_runs.specs.Rules.{Proceeds};
 ghost use Rattle.cas_runs.specs.Unit.{FirstWord, Language, UnitRefines, FunctionRefines, ThreadRefines};
 
 /// Refinements of machines compose.
@@ -39,10 +39,10 @@ pub fn runs_kept<T, S>()
     ensures { (edge : Edge) (t : Machine T) (s : Machine S) → Refines edge t s → NamesAlone t → EachKept edge t s }
 {}
 
-/// A machine that keeps the rules refines itself.
+/// A machine of which no step is free, and of which what crosses has a label, refines itself.
 #[tactic(auto, using(crate::proofs::Composing::refines_itself))]
 pub fn refines_itself<S>()
-    ensures { (edge : Edge) (m : Machine S) → KeepsRules edge m → Refines edge m m }
+    ensures { (edge : Edge) (m : Machine S) → Proceeds m → Refines edge m m }
 {}
 
 /// The labels of a run and the number of its quiet steps determine its blocks and where it stands.

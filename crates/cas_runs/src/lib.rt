@@ -7,7 +7,6 @@
 mod compose;
 mod pass;
 mod refused;
-mod trial;
 
 pub use compose::{
     functions_compose, refinements_compose, refines_itself, runs_kept, threads_compose,
@@ -15,4 +14,3 @@ pub use compose::{
 };
 pub use pass::{Pass, run_pass, steps_refine};
 pub use refused::{dropped_store_refused, endless_loop_refused, kept_word_refused};
-pub use trial::{Apart, Joined, join};
