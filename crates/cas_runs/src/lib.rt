@@ -7,6 +7,7 @@
 mod compose;
 mod pass;
 mod refused;
+mod rules;
 
 pub use compose::{
     functions_compose, refinements_compose, refines_itself, runs_kept, threads_compose,
@@ -14,3 +15,4 @@ pub use compose::{
 };
 pub use pass::{Pass, run_pass, steps_refine};
 pub use refused::{dropped_store_refused, endless_loop_refused, kept_word_refused};
+pub use rules::sections_keep_rules;
