@@ -46,6 +46,13 @@ impl From<AllocError> for NameFault {
 }
 
 impl Name {
+    /// Whether a text has the shape of a name, and no more than a name's bytes.
+    pub fn has_shape(text: &str) -> bool
+        ensures { result ≡ is_name text.now }
+    {
+        has_name_shape(text.as_bytes())
+    }
+
     /// The name with this text.
     ///
     /// Errors: `Shape` exactly where the text is no name; `Memory`.
@@ -54,7 +61,7 @@ impl Name {
         ensures shaped { OnOk result (IsTrue (is_name text.now)) }
         ensures misshapen { IsErrOf result NameFault.Shape ↔ (is_name text.now ≡ false) }
     {
-        if !has_name_shape(text.as_bytes()) {
+        if !Name::has_shape(text) {
             return Err(NameFault::Shape);
         }
         let text = String::from_str(alloc, text)?;
