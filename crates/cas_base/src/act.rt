@@ -1,3 +1,5 @@
+//! The acts of a step, and why a step has no defined result.
+
 /// Why a step of the source language has no defined result.
 #[derive(Clone, Copy, Debug, PartialEq, Eq, Hash)]
 pub enum Why {

@@ -1,3 +1,5 @@
+//! Kinds of integer cells, and the types of the source language.
+
 /// The kind of an integer cell: its size in bits, and whether its values are signed. (C's integer types at
 /// the sizes of IA-32.)
 #[derive(Clone, Copy, Debug, PartialEq, Eq, Hash)]

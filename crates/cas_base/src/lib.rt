@@ -5,6 +5,7 @@
 mod act;
 mod decl;
 mod kind;
+pub mod laws;
 mod memory;
 mod name;
 mod place;
@@ -22,4 +23,6 @@ pub use name::{NAME_LIMIT, Name, NameFault};
 pub use place::Place;
 pub use seq::Seq;
 pub use text::Text;
-pub use word::{add, narrow};
+pub use word::{
+    add, div_signed, div_unsigned, mul, narrow, rem_signed, rem_unsigned, sar, shl, shr, sub,
+};

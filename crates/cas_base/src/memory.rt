@@ -1,3 +1,5 @@
+//! The answer for want of memory.
+
 use std::alloc::{AllocError, AllocFailed};
 
 /// Want of memory: an allocation was refused. Nothing else is ever reported as this.

@@ -1,3 +1,5 @@
+//! Names of the source language.
+
 ghost use Rattle.std.specs.Prelude.{◌≡◌, ◌↔◌, IfOk, OnOk, IsErrOf, IsTrue, false};
 ghost use Rattle.std.specs.List.{list_all};
 ghost use Rattle.cas_base.specs.Name.{is_name, is_first_byte, is_name_byte};
