@@ -1,0 +1,16 @@
+//! The top call: a command from its words to the bytes that it prints.
+#![tactic(auto)]
+
+mod answer;
+mod first_form;
+mod generate;
+mod machine;
+mod outcome;
+mod printed;
+mod refusal;
+#[cfg(test)]
+mod tests;
+mod top;
+mod words;
+
+pub use top::cascc;

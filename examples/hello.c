@@ -1,0 +1,3 @@
+void w(int me) {
+  print(40 + 1);
+}
