@@ -4,8 +4,8 @@ use Rattle.cas_base.specs.declared.act.Act.{Act}
 use Rattle.cas_base.specs.declared.act.Act.TheVariants as act
 use Rattle.cas_clight.specs.Step.{word, Config, Env, FunctionAt, Step, step, start}
 
--- the threads, the shared words, for each word that is a lock its holder or none, and the output: pairs of
--- thread and word
+-- the threads, the shared words, for each word the holder of the lock that it is, or none, and the output: pairs
+-- of thread and word
 pub record World : Type 0 where
   pub threads : List Config
   pub words : List ℕ

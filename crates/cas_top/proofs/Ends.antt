@@ -3,7 +3,7 @@ use Rattle.std.proofs.Common.{◌≡◌, ◌<◌, ◌⊎◌, ℕ, List, [], ◌�
 use Rattle.cas_clight.specs.Tree.{ModuleTree}
 use Rattle.cas_top.specs.declared.refusal.Refusal.{Refusal}
 use Rattle.cas_top.specs.declared.refusal.Refusal.TheVariants as refusal
-use Rattle.cas_top.specs.Answer.{Told, Taken, IsRead, IsText, IsRefusal, joined, IsCut, IsUntold, usage, cannot_read, too_long, refused}
+use Rattle.cas_top.specs.Answer.{Told, Taken, IsRead, IsText, IsRefusal, joined, IsCut, IsPartly, IsUntold, usage, cannot_read, too_long, refused}
 use Rattle.cas_top.specs.First_form.{IsFirstForm}
 use Rattle.cas_top.specs.Plan.{PrintsLines}
 use Rattle.cas_top.specs.Printed.{line_of}
@@ -29,7 +29,7 @@ pub end_of_put : (told : Told) (r : Run) (source lock : List ℕ) (lines : List 
 end_of_put told r source lock lines before after old new (Ok done) first second prints put same =
     ((joined lines, text_of_lines told r source lock lines first second prints, put), same)
 end_of_put told r source lock lines before after old new (Err refusal.Unwritten) first second prints put same =
-    (inr (0, joined lines, text_of_lines told r source lock lines first second prints, put), same)
+    ((0, joined lines, text_of_lines told r source lock lines first second prints, put), same)
 end_of_put told r source lock lines before after old new (Err refusal.Memory) first second prints put same =
     (inr (0, joined lines, text_of_lines told r source lock lines first second prints, put), same)
 end_of_put told r source lock lines before after old new (Err refusal.Usage) first second prints put same = absurd put
@@ -113,6 +113,9 @@ unwritten_command told c before after out_old out_new puts puts_now (refusal.Not
 unwritten_command told c before after out_old out_new puts puts_now refusal.Unwritten count now old new answer cause counts said four = inl counts
 unwritten_command told c before after out_old out_new puts puts_now refusal.Memory count now old new answer cause counts said four = absurd (four_nine answer said.0 four)
 
+pub not_risen : (puts puts_now : ℕ) → puts_now ≡ puts → puts < puts_now → ⊥
+not_risen puts puts_now e h = omega arith
+
 -- whatever refused a command, `out` took a first part of its text
 pub cut_of_cause : (told : Told) (c : Command) (before after : List (List ℕ)) (old new : Taken) (r : Refusal) →
     IsCause told c before after old new r → IsCut told (Some c) old new
@@ -120,5 +123,15 @@ cut_of_cause told c before after old new refusal.Usage cause = absurd cause
 cut_of_cause told c before after old new (refusal.Unread name) cause = inl cause.1
 cut_of_cause told c before after old new (refusal.TooLong name) cause = inl cause.2
 cut_of_cause told c before after old new (refusal.NotFirstForm name) cause = inl cause.2
-cut_of_cause told c before after old new refusal.Unwritten cause = cause.0
+cut_of_cause told c before after old new refusal.Unwritten cause = inr cause.0
 cut_of_cause told c before after old new refusal.Memory cause = cause.0
+
+-- a put of `out` fails only after it took a first part of the text
+pub partly_of_cause : (told : Told) (c : Command) (before after : List (List ℕ)) (old new : Taken) (puts puts_now : ℕ) (r : Refusal) →
+    IsCause told c before after old new r → Counts puts puts_now (Err r) → puts < puts_now → IsPartly told (Some c) old new
+partly_of_cause told c before after old new puts puts_now refusal.Usage cause counts risen = absurd cause
+partly_of_cause told c before after old new puts puts_now (refusal.Unread name) cause counts risen = absurd (not_risen puts puts_now counts risen)
+partly_of_cause told c before after old new puts puts_now (refusal.TooLong name) cause counts risen = absurd (not_risen puts puts_now counts risen)
+partly_of_cause told c before after old new puts puts_now (refusal.NotFirstForm name) cause counts risen = absurd (not_risen puts puts_now counts risen)
+partly_of_cause told c before after old new puts puts_now refusal.Unwritten cause counts risen = cause.0
+partly_of_cause told c before after old new puts puts_now refusal.Memory cause counts risen = absurd (not_risen puts puts_now counts risen)

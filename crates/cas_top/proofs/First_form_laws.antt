@@ -1,27 +1,22 @@
 -- Laws of tokens, literals and sums of the first form.
-use Rattle.std.proofs.Common.{◌≡◌, ℕ, ◌+◌, ◌-◌, ◌<◌, ◌≤◌, ◌^◌, Bool, true, false, not, ◌&&◌, ◌||◌, ◌==◌, List, [], ◌∷◌, ◌++◌, length, map, take, drop, get_or, refl, sym, ap, ◌∙◌, subst, arith, tests, Some, IsTrue, nat_lt, append_assoc, Result, Ok, Err}
-use Rattle.std.specs.List.{prefix_len, list_all, slice_get}
-use Rattle.std.specs.Fmt.{decimal}
+use Rattle.std.proofs.Common.{◌≡◌, ℕ, ◌+◌, ◌-◌, ◌<◌, ◌≤◌, ◌^◌, Bool, true, false, not, ◌&&◌, ◌||◌, ◌==◌, List, [], ◌∷◌, ◌++◌, length, map, take, drop, get_or, refl, sym, ap, ◌∙◌, subst, arith, tests, Some, IsTrue, nat_lt, append_assoc, Result, Ok, Err, zero, suc, inl, inr}
 use Rattle.std.specs.Char.{is_ascii_digit}
-use Rattle.std.specs.Str.{all_ascii_digits}
-use Rattle.std.specs.Str.Parse.{ParsesUnsigned}
-use Rattle.std.proofs.Common.{zero, suc, inl, inr}
-use Rattle.std.proofs.lemmas.Bool.{cases_Bool}
-use Rattle.std.proofs.lemmas.List.{length-append, length-map, map-append, take-append-drop, take_all, length-drop, append_cancel_left, append_cancel_right}
+use Rattle.std.specs.Fmt.{decimal}
+use Rattle.std.specs.List.{prefix_len, list_all, slice_get}
+use Rattle.std.specs.Str.{all_ascii_digits, IsUtf8}
+use Rattle.std.specs.Str.Parse.{ParsesUnsigned, digits_value}
+use Rattle.std.proofs.lemmas.Bool.{cases_Bool, false≢true}
+use Rattle.std.proofs.lemmas.Fmt.{decimal_nonempty, first_decimal, digits_decimal, decimal-digits_value, decimal_digit, IsAscii-from_digits, parse-decimal}
 use Rattle.std.proofs.lemmas.Grind.{common_steps}
-use Rattle.std.proofs.lemmas.Bool.{false≢true}
+use Rattle.std.proofs.lemmas.List.{length-append, length-map, map-append, take-append-drop, take_all, length-drop, append_cancel_left, append_cancel_right}
 use Rattle.std.proofs.lemmas.List.Recursion.{and_push}
+use Rattle.std.proofs.lemmas.Str.{IsUtf8-from_ascii}
 use Rattle.std.proofs.lemmas.Str.Parse.{IsNumeralModel, numerals_by_value, tells_all_ascii_digits, parse_digits}
-use Rattle.std.proofs.lemmas.Fmt.{decimal_nonempty, first_decimal, digits_decimal, decimal-digits_value, decimal_digit}
-use Rattle.std.specs.Str.Parse.{digits_value}
 use Rattle.cas_base.specs.Name.{is_name_byte}
 use Rattle.cas_base.specs.declared.place.Place.{Place}
-use Rattle.std.specs.Str.{IsUtf8}
-use Rattle.std.proofs.lemmas.Str.{IsUtf8-from_ascii}
-use Rattle.std.proofs.lemmas.Fmt.{IsAscii-from_digits, parse-decimal}
-use Rattle.cas_top.specs.First_form_reader.{is_numeral, IsLiteral, BeginsAdded, AreAdded, AreOfForm, IsSum, sum_lexemes, are_in_range, around, head_lexemes, tail_lexemes}
-use Rattle.cas_top.specs.First_form.{Lexeme, Token, word, sign, tokens, place_behind, is_blank, begins_in_word, joined, in_front, added_lexemes, module_of, origin, IsFormOf, IsFirstForm}
 use Rattle.cas_clight.specs.Tree.{ModuleTree}
+use Rattle.cas_top.specs.First_form.{Lexeme, Token, word, sign, tokens, place_behind, is_blank, begins_in_word, in_word, in_front, added_lexemes, module_of, origin, IsFormOf, IsFirstForm}
+use Rattle.cas_top.specs.First_form_reader.{is_numeral, IsLiteral, BeginsAdded, AreAdded, AreOfForm, IsSum, sum_lexemes, are_in_range, around, head_lexemes, tail_lexemes}
 
 -- a byte of a name is no blank
 no_blank : (b : ℕ) → is_name_byte b ≡ true → is_blank b ≡ false
@@ -32,23 +27,20 @@ no_line_feed : (b : ℕ) → is_name_byte b ≡ true → (b == 10) ≡ false
 no_line_feed b h = grind (arith, common_steps, tests)
 
 -- a byte of a word in front
-front_byte : (at : Place) (b : ℕ) (bs : List ℕ) (ts : List Token) → is_name_byte b ≡ true → in_front at b bs ts ≡ joined at b (begins_in_word bs) ts
+front_byte : (at : Place) (b : ℕ) (bs : List ℕ) (ts : List Token) → is_name_byte b ≡ true → in_front at b bs ts ≡ in_word at b (begins_in_word bs) ts
 front_byte at b bs ts h = let e = no_blank b h in rw (e, h) refl
 
 -- a line goes on behind a byte of a name
 behind_byte : (at : Place) (b : ℕ) → is_name_byte b ≡ true → place_behind at b ≡ record { line = at.line; col = at.col + 1 }
 behind_byte at b h = rw (no_line_feed b h) refl
 
--- the place of the same line, this many bytes on
-abbrev pub on : Place → ℕ → Place
+-- the place this many bytes on in the line
+abbrev on : Place → ℕ → Place
 on at n = record { line = at.line; col = at.col + n }
 
-on_on : (at : Place) (n : ℕ) → on (record { line = at.line; col = at.col + 1 }) n ≡ on at (1 + n)
-on_on at n = let e : at.col + 1 + n ≡ at.col + (1 + n) = omega arith in rw e refl
-
 -- the run of name bytes that a text begins with is one word in front of the tokens behind it
-abbrev pub FrontWord : Place → List ℕ → ℕ → Type 0
-FrontWord at bs n = tokens at bs ≡ record { lexeme = word (take n bs); place = at } ∷ tokens (record { line = at.line; col = at.col + n }) (drop n bs)
+abbrev FrontWord : Place → List ℕ → ℕ → Type 0
+FrontWord at bs n = tokens at bs ≡ record { lexeme = word (take n bs); place = at } ∷ tokens (on at n) (drop n bs)
 
 last_byte : (at : Place) (b : ℕ) (bs : List ℕ) → is_name_byte b ≡ true → begins_in_word bs ≡ false → FrontWord at (b ∷ bs) 1
 last_byte at b bs h ends = front_byte at b bs (tokens (place_behind at b) bs) h ∙ rw (ends, behind_byte at b h) refl
@@ -60,9 +52,9 @@ further_byte at b c cs n h begins front =
     let behind : List Token = tokens (record { line = (place_behind at b).line; col = (place_behind at b).col + n }) (drop n bytes) in
     let rest : List Token = tokens (place_behind at b) bytes in
     let first : Token = record { lexeme = word (take n bytes); place = place_behind at b } in
-    let touches : joined at b (is_name_byte c) rest ≡ joined at b true rest = ap (λ (t : Bool). joined at b t rest) begins in
-    let fronts : joined at b true rest ≡ joined at b true (first ∷ behind) = ap (λ (ts : List Token). joined at b true ts) front in
-    let places : joined at b true (first ∷ behind) ≡ joined at b true (first ∷ tokens (on at (suc n)) (drop n bytes)) = ap (λ (p : Place). joined at b true (first ∷ tokens p (drop n bytes))) place in
+    let touches : in_word at b (is_name_byte c) rest ≡ in_word at b true rest = ap (λ (t : Bool). in_word at b t rest) begins in
+    let fronts : in_word at b true rest ≡ in_word at b true (first ∷ behind) = ap (λ (ts : List Token). in_word at b true ts) front in
+    let places : in_word at b true (first ∷ behind) ≡ in_word at b true (first ∷ tokens (on at (suc n)) (drop n bytes)) = ap (λ (p : Place). in_word at b true (first ∷ tokens p (drop n bytes))) place in
     front_byte at b bytes rest h ∙ (touches ∙ (fronts ∙ places))
 
 one_byte : (b : ℕ) → is_name_byte b ≡ true → prefix_len is_name_byte (b ∷ []) ≡ 1
@@ -74,7 +66,7 @@ run_ends b c cs h ends = rw (h, ends) refl
 run_goes_on : (b : ℕ) (bs : List ℕ) → is_name_byte b ≡ true → prefix_len is_name_byte (b ∷ bs) ≡ suc (prefix_len is_name_byte bs)
 run_goes_on b bs h = rw h (omega arith)
 
-pub front_word : (at : Place) (b : ℕ) (bs : List ℕ) → is_name_byte b ≡ true → FrontWord at (b ∷ bs) (prefix_len is_name_byte (b ∷ bs))
+front_word : (at : Place) (b : ℕ) (bs : List ℕ) → is_name_byte b ≡ true → FrontWord at (b ∷ bs) (prefix_len is_name_byte (b ∷ bs))
 front_word at b [] h = subst (λ (n : ℕ). FrontWord at (b ∷ []) n) (sym (one_byte b h)) (last_byte at b [] h refl)
 front_word at b (c ∷ cs) h =
     elim (cases_Bool (is_name_byte c)) [
@@ -82,24 +74,10 @@ front_word at b (c ∷ cs) h =
       | inr ends ↦ subst (λ (n : ℕ). FrontWord at (b ∷ c ∷ cs) n) (sym (run_ends b c cs h ends)) (last_byte at b (c ∷ cs) h ends)
     ]
 
--- `+ LIT` in front of further ones
-pub added_parts : (l m : Lexeme) (ls : List Lexeme) (vs : List ℕ) → l ∷ m ∷ ls ≡ added_lexemes vs → (v : ℕ) × (us : List ℕ) × (vs ≡ v ∷ us) × (l ≡ sign 43) × (m ≡ word (decimal v)) × (ls ≡ added_lexemes us)
-added_parts l m ls [] e = cc
-added_parts l m ls (v ∷ us) e = (v, us, refl, (cc), (cc), (cc))
-
--- the numbers behind some are added behind them
-pub added_more : (vs : List ℕ) (v : ℕ) → added_lexemes (vs ++ v ∷ []) ≡ added_lexemes vs ++ sign 43 ∷ word (decimal v) ∷ []
+-- a number behind others is added behind them
+added_more : (vs : List ℕ) (v : ℕ) → added_lexemes (vs ++ v ∷ []) ≡ added_lexemes vs ++ sign 43 ∷ word (decimal v) ∷ []
 added_more [] v = refl
 added_more (u ∷ us) v = rw (added_more us v) refl
-
--- no lexeme stands alone there
-pub not_one_added : (l : Lexeme) (vs : List ℕ) → l ∷ [] ≡ added_lexemes vs → ⊥
-not_one_added l [] e = cc
-not_one_added l (v ∷ us) e = cc
-
-pub none_added : (vs : List ℕ) → [] ≡ added_lexemes vs → vs ≡ []
-none_added [] e = refl
-none_added (v ∷ us) e = cc
 
 -- the place of a token, by its index
 place_at : {T : Type 0} (token : T → Token) (ts : List T) (i : ℕ) (d : T) → i < length ts → slice_get (map (λ t. t.place) (map token ts)) i ≡ Some (token (get_or ts i d)).place
@@ -108,7 +86,7 @@ place_at token (t ∷ ts) zero d l = refl
 place_at token (t ∷ ts) (suc i) d l = place_at token ts i d (omega arith)
 
 -- the lexemes of tokens that are given by others
-pub lexemes_given : {T : Type 0} (token : T → Token) (ts : List T) → map (λ t. t.lexeme) (map token ts) ≡ map (λ t. (token t).lexeme) ts
+lexemes_given : {T : Type 0} (token : T → Token) (ts : List T) → map (λ t. t.lexeme) (map token ts) ≡ map (λ t. (token t).lexeme) ts
 lexemes_given token [] = refl
 lexemes_given token (t ∷ ts) = rw (lexemes_given token ts) refl
 
@@ -193,7 +171,7 @@ no_zero zero few zero_first = ap length (decimal_digit 0 (omega arith))
 no_zero (suc v) few zero_first = let more : 48 < get_or (decimal (suc v)) 0 0 = first_decimal (suc v) (omega arith) (omega arith) in absurd (omega arith)
 
 -- a number is written as a numeral
-pub decimal_numeral : (w : List ℕ) (v : ℕ) → v < 2 ^ 31 → decimal v ≡ w → is_numeral w ≡ true
+decimal_numeral : (w : List ℕ) (v : ℕ) → v < 2 ^ 31 → decimal v ≡ w → is_numeral w ≡ true
 decimal_numeral w v few e = rw (← e) (numeral_from_digits (decimal v) (digits_decimal own v (omega arith)) (decimal_nonempty v (omega arith)) (no_zero v few))
 
 -- a numeral is what is written in decimal of the number that it is read as
@@ -208,7 +186,7 @@ numeral_read {E = E} w (Ok x) v numeral parsed is =
 numeral_read w (Err x) v numeral parsed is = cc
 
 -- lists of one length, with others behind them
-pub same_fronts : {A : Type 0} (a b c d : List A) → length a ≡ length c → a ++ b ≡ c ++ d → (a ≡ c) × (b ≡ d)
+same_fronts : {A : Type 0} (a b c d : List A) → length a ≡ length c → a ++ b ≡ c ++ d → (a ≡ c) × (b ≡ d)
 same_fronts [] b [] d l e = (refl, e)
 same_fronts [] b (y ∷ c) d l e = absurd (omega arith)
 same_fronts (x ∷ a) b [] d l e = absurd (omega arith)
@@ -219,7 +197,7 @@ same_fronts (x ∷ a) b (y ∷ c) d l e =
     (rw (heads, h.0) refl, h.1)
 
 -- lists whose ends have one length, with others in front
-pub same_ends : {A : Type 0} (a b c d : List A) → length b ≡ length d → a ++ b ≡ c ++ d → (a ≡ c) × (b ≡ d)
+same_ends : {A : Type 0} (a b c d : List A) → length b ≡ length d → a ++ b ≡ c ++ d → (a ≡ c) × (b ≡ d)
 same_ends a b c d l e = same_fronts a b c d (omega (arith, length-append a b, length-append c d, ap length e)) e
 
 -- what is no numeral is no literal

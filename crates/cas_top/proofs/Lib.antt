@@ -1,4 +1,5 @@
 pub mod Ends
+pub mod Excluding
 pub mod First_form_laws
 pub mod OutputLaws
 pub mod RunLaws

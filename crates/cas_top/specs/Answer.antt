@@ -18,12 +18,12 @@ Taken = Option (List ℕ)
 abbrev pub text_limit : ℕ
 text_limit = 1048576
 
--- this was read as the name's text: it is what the shelf tells, and within the limit
+-- this is the name's text as far as the shelf tells, and within the limit
 pub record IsRead (told : Told) (name text : List ℕ) : Type 0 where
   pub tells : Tells told name text
   pub within : length text ≤ text_limit
 
--- these were read as the texts of these names
+-- these are the texts of these names
 abbrev pub AreRead : Told → (names texts : List (List ℕ)) → Type 0
 AreRead told [] [] = Unit {0}
 AreRead told (n ∷ ns) (t ∷ ts) = IsRead told n t × AreRead told ns ts
@@ -60,11 +60,14 @@ abbrev pub IsPrinted : Told → Option Command → (status : ℕ) → (old new :
 IsPrinted told None status old new = ⊥
 IsPrinted told (Some c) status old new = (text : List ℕ) × IsText told c status text × TakesAll old text new
 
--- `out` took a first part of what the command comes to printing, or nothing
+-- `out` took a first part of the text that the command comes to printing
+abbrev pub IsPartly : Told → Option Command → (old new : Taken) → Type 0
+IsPartly told None old new = ⊥
+IsPartly told (Some c) old new = (status : ℕ) × (text : List ℕ) × IsText told c status text × TakesPrefix old text new
+
+-- `out` took a first part of the text, or nothing
 abbrev pub IsCut : Told → Option Command → (old new : Taken) → Type 0
-IsCut told None old new = new ≡ old
-IsCut told (Some c) old new =
-    (new ≡ old) ⊎ ((status : ℕ) × (text : List ℕ) × IsText told c status text × TakesPrefix old text new)
+IsCut told c old new = (new ≡ old) ⊎ IsPartly told c old new
 
 -- the command comes to a refusal with this status, and `err` took its line
 abbrev pub IsRefused : Told → Option Command → (status : ℕ) → (old new : Taken) → Type 0
@@ -82,12 +85,12 @@ IsTooLong told None old new = ⊥
 IsTooLong told (Some c) old new =
     (name : List ℕ) × IsFirstLong told (names_of c) name × TakesAll old (line_of (codes "cascc: too long " ++ name)) new
 
--- of these names, in their order, this is the first whose text couldn't be read
+-- this is one of these names, and those before it have texts within the limit
 abbrev pub IsFirstUnread : Told → (names : List (List ℕ)) → (unread : List ℕ) → Type 0
 IsFirstUnread told [] unread = ⊥
 IsFirstUnread told (n ∷ ns) unread = (unread ≡ n) ⊎ ((text : List ℕ) × IsRead told n text × IsFirstUnread told ns unread)
 
--- this name, the first of the command's that couldn't be read, is new on the shelf's list of failed names
+-- this name of the command's, before which the others were read, is new on the shelf's list of failed names
 pub record IsFailed (told : Told) (c : Command) (before after : List (List ℕ)) (name : List ℕ) : Type 0 where
   pub first : IsFirstUnread told (names_of c) name
   pub noted : after ≡ before ++ name ∷ []
@@ -114,7 +117,8 @@ pub data IsLine (told : Told) (before after : List (List ℕ)) : Option Command 
       IsLine told before after (Some c) (line_of (codes "cascc: too long " ++ name))
   refused : (c : Command) (status : ℕ) (line : List ℕ) → IsRefusal told c status line → IsLine told before after (Some c) line
 
--- a line was tried once: it was taken; or the put failed, which is counted, and a first part was taken; or nothing was
+-- how a line was tried: it was taken; or the put failed, which is counted, and a first part was taken; or there was
+-- no memory for it
 abbrev pub IsTried : (line : List ℕ) → (count now : ℕ) → (old new : Taken) → Type 0
 IsTried line count now old new =
     ((now ≡ count) × TakesAll old line new)

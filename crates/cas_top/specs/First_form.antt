@@ -45,15 +45,15 @@ word_of (word w) = w
 word_of (sign b) = []
 
 -- a byte of a word in front of these tokens: of the first one's word, where they touch
-abbrev pub joined : Place → ℕ → (touches : Bool) → List Token → List Token
-joined at b true (t ∷ ts) = record { lexeme = word (b ∷ word_of t.lexeme); place = at } ∷ ts
-joined at b _ ts = record { lexeme = word (b ∷ []); place = at } ∷ ts
+abbrev pub in_word : Place → ℕ → (touches : Bool) → List Token → List Token
+in_word at b true (t ∷ ts) = record { lexeme = word (b ∷ word_of t.lexeme); place = at } ∷ ts
+in_word at b _ ts = record { lexeme = word (b ∷ []); place = at } ∷ ts
 
 -- a byte in front of a text that has these tokens
 abbrev pub in_front : Place → ℕ → (rest : List ℕ) → List Token → List Token
 in_front at b rest ts =
     if is_blank b then ts
-    else if is_name_byte b then joined at b (begins_in_word rest) ts
+    else if is_name_byte b then in_word at b (begins_in_word rest) ts
     else record { lexeme = sign b; place = at } ∷ ts
 
 -- the tokens of a text that begins at this place: the longest runs of the bytes that names have, and each

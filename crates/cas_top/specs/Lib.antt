@@ -1,4 +1,5 @@
 pub mod Answer
+pub mod Exclusion
 pub mod First_form
 pub mod First_form_reader
 pub mod Machine

@@ -9,7 +9,7 @@ use Rattle.cas_top.specs.declared.refusal.Refusal.TheVariants as refusal
 use Rattle.cas_top.specs.declared.words.Command.{Command}
 use Rattle.cas_top.specs.declared.words.Command.TheVariants as code
 use Rattle.cas_top.specs.declared.words.Run.{Run}
-use Rattle.cas_top.specs.Answer.{Told, Taken, IsRefusal, IsFirstLong, IsCut, IsPrinted, IsRead, IsFailed, IsTried, text_limit}
+use Rattle.cas_top.specs.Answer.{Told, Taken, IsRefusal, IsFirstLong, IsCut, IsPartly, IsPrinted, IsRead, IsFailed, IsTried, text_limit}
 use Rattle.cas_top.specs.Printed.{line_of}
 use Rattle.cas_top.specs.Words as words
 
@@ -42,7 +42,7 @@ IsCause told c before after old new (refusal.TooLong name) =
     IsFirstLong told (words.names_of c) name.now × (after ≡ before) × (new ≡ old)
 IsCause told c before after old new (refusal.NotFirstForm name) =
     IsRefusal told c 1 (line_of (name.now ++ codes ":1:1: R0")) × (after ≡ before) × (new ≡ old)
-IsCause told c before after old new refusal.Unwritten = IsCut told (Some c) old new × (after ≡ before)
+IsCause told c before after old new refusal.Unwritten = IsPartly told (Some c) old new × (after ≡ before)
 IsCause told c before after old new refusal.Memory = IsCut told (Some c) old new × (after ≡ before)
 
 -- how the work of a command ended: all was printed, or a refusal with its cause

@@ -4,6 +4,7 @@
 mod answer;
 mod first_form;
 mod generate;
+pub mod laws;
 mod machine;
 mod outcome;
 mod printed;

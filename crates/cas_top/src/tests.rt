@@ -290,6 +290,9 @@ fn reads_that_fail_are_told(rt: HostRuntime) -> Result<(), Fail> {
         wanted(3, "", "cascc: cannot read lock.s\n"),
     )?;
     assert_faults(&rt, alloc, [&[1], &[], &[1]], wanted(4, "", ""))?;
+    let told_at_once = wanted(3, "", "cascc: cannot read m.c\n");
+    assert_faults(&rt, alloc, [&[1], &[], &[2]], told_at_once)?;
+    assert_faults(&rt, alloc, [&[3], &[], &[]], wanted(0, PRINTED, ""))?;
     let missing = Given {
         words: &["run", "a.c", "--lock", "lock.s", "--threads", "w"],
         ..sum_run()

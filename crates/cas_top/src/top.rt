@@ -1,7 +1,7 @@
 //! The top call.
 
 ghost use Rattle.std.specs.Prelude.{◌≡◌, ◌<◌, ◌⊎◌};
-ghost use Rattle.cas_top.specs.Answer.{IsPrinted, IsRefused, IsMisused, IsUnread, IsTooLong, IsCut, IsTried, IsUntold, GrowsBy, IsPrinting, IsRefusing, IsRefusalStatus, IsStatus};
+ghost use Rattle.cas_top.specs.Answer.{IsPrinted, IsRefused, IsMisused, IsUnread, IsTooLong, IsCut, IsPartly, IsTried, IsUntold, GrowsBy, IsPrinting, IsRefusing, IsRefusalStatus, IsStatus};
 ghost use Rattle.cas_top.specs.Printed.{line_of};
 ghost use Rattle.cas_top.specs.Words.{command_of};
 ghost use Rattle.std.specs.Prelude.{codes};
@@ -28,9 +28,9 @@ use std::thread::Threads;
 /// | 9 | want of memory |
 /// | 12 | a text is longer than its limit |
 ///
-/// The causes of 0, 1, 2 and 12 exclude each other, and no other status comes but 3, 4 and 9: so each of them
-/// comes exactly where its cause holds, as far as the shelf tells its texts, but for a read or a put that failed
-/// and for want of memory.
+/// The causes of 0, 1, 2 and 12 exclude each other where the shelf tells its texts (`laws::causes_exclude`), and
+/// no other status comes but 3, 4 and 9: so each of them comes exactly where its cause holds, but for a read or a
+/// put that failed and for want of memory.
 pub fn cascc<R: Threads + Sync, S: Shelf, O: Sink, E: Sink, G: Gate>(
     _rt: &R,
     alloc: Global,
@@ -58,7 +58,9 @@ pub fn cascc<R: Threads + Sync, S: Shelf, O: Sink, E: Sink, G: Gate>(
 
     // A put failed: always where one of `out` did, and else only where that of a refusal's line did.
     ensures out_failed { O.faults out.old < O.faults out.new →
-        (result ≡ 4) × IsTried (line_of (codes "cascc: cannot write")) (E.faults err.old) (E.faults err.new) (E.taken err.old) (E.taken err.new) }
+        (result ≡ 4)
+        × IsPartly (S.texts shelf.old) (command_of words.now) (O.taken out.old) (O.taken out.new)
+        × IsTried (line_of (codes "cascc: cannot write")) (E.faults err.old) (E.faults err.new) (E.taken err.old) (E.taken err.new) }
     ensures unwritten { result ≡ 4 →
         (O.faults out.old < O.faults out.new)
         ⊎ ((O.taken out.new ≡ O.taken out.old)
@@ -68,7 +70,7 @@ pub fn cascc<R: Threads + Sync, S: Shelf, O: Sink, E: Sink, G: Gate>(
     ensures out_of_memory { result ≡ 9 →
         IsTried (line_of (codes "cascc: memory")) (E.faults err.old) (E.faults err.new) (E.taken err.old) (E.taken err.new) }
 
-    // What stays: after a refusal `out`, after a command that printed `err`, and the counts of faults.
+    // What `out` has after a put that failed or want of memory, and what stays as it was.
     ensures cut { (result ≡ 4) ⊎ (result ≡ 9) →
         IsCut (S.texts shelf.old) (command_of words.now) (O.taken out.old) (O.taken out.new) }
     ensures kept { IsRefusalStatus result → O.taken out.new ≡ O.taken out.old }

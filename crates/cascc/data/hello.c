@@ -1,3 +1,1 @@
-void w(int me) {
-  print(40 + 1);
-}
+void w(int me) { print(40 + 1); }
