@@ -1,3 +1,5 @@
+//! The acts of a step, and why a step has no defined result.
+
 /// Why a step of the source language has no defined result.
 #[derive(Clone, Copy, Debug, PartialEq, Eq, Hash)]
 pub enum Why {
@@ -15,10 +17,11 @@ pub enum Why {
     Across,
 }
 
-/// What a step of a thread does beyond its own state. A lock is named by its word's number.
+/// What a step of a thread does to locks and output, and whether it ends the thread. A lock is named by its
+/// word's number.
 #[derive(Clone, Copy, Debug, PartialEq, Eq, Hash)]
 pub enum Act {
-    /// Nothing beyond the thread's own state.
+    /// Nothing: it touches no lock and puts nothing out.
     Quiet,
     /// Takes the lock with this word's number.
     Lock(u32),

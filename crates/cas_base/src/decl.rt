@@ -1,13 +1,18 @@
 ghost use Rattle.std.specs.Prelude.{◌≡◌, IfOk};
+ghost use Rattle.std.specs.Cmp.Lexicographic.{pointwise};
+ghost use Rattle.std.specs.List.{list_any};
+ghost use Rattle.std.specs.Str.{bytes_eq};
+ghost use Rattle.cas_base.specs.Ty.{same_ty, words_of_ty};
+ghost use Rattle.cas_base.specs.Decl.{agrees, is_entry, is_function, is_lock, is_table, is_within, same_set, words_of_form};
 
-use crate::kind::Ty;
+use crate::kind::{Kind, Ty};
 use crate::memory::NoMemory;
 use crate::name::Name;
 use crate::seq::Seq;
 use std::alloc;
 
 /// What a declaration declares.
-#[derive(Debug, Drop)]
+#[derive(Debug, Drop, PartialEq, Eq)]
 pub enum Form {
     Lock,
     /// A shared global, touched only under its lock.
@@ -28,7 +33,7 @@ pub enum Form {
 }
 
 /// A declaration of a module. `defined` is false where the module says `extern`, or gives no body.
-#[derive(Debug, Drop)]
+#[derive(Debug, Drop, PartialEq, Eq)]
 pub struct Decl {
     pub name: Name,
     pub form: Form,
@@ -36,7 +41,7 @@ pub struct Decl {
 }
 
 /// A global that is defined, with its initial words.
-#[derive(Debug, Drop)]
+#[derive(Debug, Drop, PartialEq, Eq)]
 pub struct Global {
     pub decl: Decl,
     pub values: Seq<u32>,
@@ -44,7 +49,7 @@ pub struct Global {
 
 /// A module in some language of the compiler, whose functions are of the type `F`: all its declarations,
 /// its data with values, and its functions.
-#[derive(Debug, Drop)]
+#[derive(Debug, Drop, PartialEq, Eq)]
 pub struct Unit<F> {
     pub decls: Seq<Decl>,
     pub globals: Seq<Global>,
@@ -69,6 +74,112 @@ impl Form {
             }),
         }
     }
+}
+
+impl Form {
+    /// Whether the two are the same: in kind, type, guard or return, parameters, and set of held locks.
+    pub fn agrees(&self, other: &Form) -> bool
+        ensures { result ≡ agrees self.now other.now }
+    {
+        match (self, other) {
+            (Form::Lock, Form::Lock) => true,
+            (
+                Form::Shared { ty, lock },
+                Form::Shared {
+                    ty: other,
+                    lock: guard,
+                },
+            ) => ty.same(*other) && lock.as_str() == guard.as_str(),
+            (Form::Table { ty }, Form::Table { ty: other }) => ty.same(*other),
+            (
+                Form::Function { ret, params, holds },
+                Form::Function {
+                    ret: other,
+                    params: others,
+                    holds: held,
+                },
+            ) => {
+                ret.same(*other)
+                    && same_types(params.as_slice(), others.as_slice())
+                    && same_names(holds.as_slice(), held.as_slice())
+            }
+            _ => false,
+        }
+    }
+
+    /// Whether a thread may enter here: it is `void f(int)`, and holds no lock.
+    pub fn is_entry(&self) -> bool
+        ensures { result ≡ is_entry self.now }
+    {
+        match self {
+            Form::Function { ret, params, holds } => {
+                ret.same(Ty::Void)
+                    && same_types(params.as_slice(), &[Ty::Int(Kind::I32)])
+                    && holds.as_slice().is_empty()
+            }
+            _ => false,
+        }
+    }
+
+    /// Whether it is a function.
+    pub fn is_function(&self) -> bool
+        ensures { result ≡ is_function self.now }
+    {
+        matches!(self, Form::Function { .. })
+    }
+
+    /// Whether it is a table of constants.
+    pub fn is_table(&self) -> bool
+        ensures { result ≡ is_table self.now }
+    {
+        matches!(self, Form::Table { .. })
+    }
+
+    /// Whether it is a lock.
+    pub fn is_lock(&self) -> bool
+        ensures { result ≡ is_lock self.now }
+    {
+        matches!(self, Form::Lock)
+    }
+
+    /// How many words it has: one for a lock, those of its type for a global, none for a function.
+    pub fn words(&self) -> u32
+        ensures { result ≡ words_of_form self.now }
+    {
+        match self {
+            Form::Lock => 1,
+            Form::Shared { ty, .. } | Form::Table { ty } => ty.words(),
+            Form::Function { .. } => 0,
+        }
+    }
+}
+
+// Whether the types are the same, one by one.
+fn same_types(types: &[Ty], others: &[Ty]) -> bool
+    ensures { result ≡ pointwise same_ty types.now others.now }
+{
+    types == others
+}
+
+// Whether the name is among the others.
+fn is_among(name: &Name, others: &[Name]) -> bool
+    ensures { result ≡ list_any (bytes_eq name.now) others.now }
+{
+    others.iter().any(|other| name.as_str() == other.as_str())
+}
+
+// Whether each name is among the others.
+fn are_within(names: &[Name], others: &[Name]) -> bool
+    ensures { result ≡ is_within names.now others.now }
+{
+    names.iter().all(|name| is_among(name, others))
+}
+
+// Whether the two lists have the same names, in whatever order.
+fn same_names(names: &[Name], others: &[Name]) -> bool
+    ensures { result ≡ same_set names.now others.now }
+{
+    are_within(names, others) && are_within(others, names)
 }
 
 // The same names in their order.

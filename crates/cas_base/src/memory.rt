@@ -1,6 +1,8 @@
+//! The answer for want of memory.
+
 use std::alloc::{AllocError, AllocFailed};
 
-/// Want of memory: an allocation was refused. Nothing else is ever reported as this.
+/// Want of memory. It is an answer of its own, and merged with no other.
 #[derive(Clone, Copy, Debug, PartialEq, Eq, Hash)]
 pub struct NoMemory;
 

@@ -1,3 +1,5 @@
+//! Names of the source language.
+
 ghost use Rattle.std.specs.Prelude.{◌≡◌, ◌↔◌, IfOk, OnOk, IsErrOf, IsTrue, false};
 ghost use Rattle.std.specs.List.{list_all};
 ghost use Rattle.cas_base.specs.Name.{is_name, is_first_byte, is_name_byte};
@@ -46,6 +48,13 @@ impl From<AllocError> for NameFault {
 }
 
 impl Name {
+    /// Whether a text has the shape of a name, and no more than a name's bytes.
+    pub fn has_shape(text: &str) -> bool
+        ensures { result ≡ is_name text.now }
+    {
+        has_name_shape(text.as_bytes())
+    }
+
     /// The name with this text.
     ///
     /// Errors: `Shape` exactly where the text is no name; `Memory`.
@@ -54,7 +63,7 @@ impl Name {
         ensures shaped { OnOk result (IsTrue (is_name text.now)) }
         ensures misshapen { IsErrOf result NameFault.Shape ↔ (is_name text.now ≡ false) }
     {
-        if !has_name_shape(text.as_bytes()) {
+        if !Name::has_shape(text) {
             return Err(NameFault::Shape);
         }
         let text = String::from_str(alloc, text)?;

@@ -1,3 +1,5 @@
+//! Places in a text.
+
 /// A place in a text. Places compare as they stand in the text.
 #[derive(Clone, Copy, Debug, PartialEq, Eq, PartialOrd, Ord, Hash)]
 pub struct Place {

@@ -1,3 +1,5 @@
+//! Texts that contracts see as bytes.
+
 ghost use Rattle.std.specs.Prelude.{◌≡◌, string_bytes};
 
 use std::marker::Model;

@@ -1,5 +1,9 @@
-ghost use Rattle.std.specs.Prelude.{◌≡◌, ◌<◌};
-ghost use Rattle.cas_base.specs.Word.{word_add, narrowed, extended};
+//! The word operators. A word is a number from 0 to 4294967295, which also has a signed reading.
+//! (CompCert's integers, but the count of a shift is taken modulo 32.)
+
+ghost use Rattle.std.specs.Prelude.{◌≡◌, ◌%◌, ◌^◌};
+ghost use Rattle.cas_base.specs.Word.{word_add, word_sub, word_mul, word_shl, word_shr, word_sar, narrowed};
+ghost use Rattle.cas_base.specs.Word.{word_div_signed, word_rem_signed, word_div_unsigned, word_rem_unsigned};
 
 use crate::kind::Kind;
 
@@ -10,83 +14,100 @@ pub fn add(a: u32, b: u32) -> u32
     a.wrapping_add(b)
 }
 
+/// The difference of two words, modulo 2^32.
+pub fn sub(a: u32, b: u32) -> u32
+    ensures { result ≡ word_sub a b }
+{
+    a.wrapping_sub(b)
+}
+
+/// The product of two words, modulo 2^32.
+pub fn mul(a: u32, b: u32) -> u32
+    ensures { result ≡ word_mul a b }
+{
+    a.wrapping_mul(b)
+}
+
+/// `a` to the left by `b` modulo 32.
+pub fn shl(a: u32, b: u32) -> u32
+    ensures { result ≡ word_shl a b }
+{
+    a.wrapping_shl(b)
+}
+
+/// `a` to the right by `b` modulo 32, with zeros shifted in.
+pub fn shr(a: u32, b: u32) -> u32
+    ensures { result ≡ word_shr a b }
+{
+    a.wrapping_shr(b)
+}
+
+/// `a` to the right by `b` modulo 32, with the sign shifted in.
+pub fn sar(a: u32, b: u32) -> u32
+    ensures { result ≡ word_sar a b }
+{
+    a.cast_signed().wrapping_shr(b).cast_unsigned()
+}
+
+/// The quotient of the signed readings, rounded toward zero. None exactly where the divisor is 0, and for
+/// -2147483648 by -1.
+pub fn div_signed(a: u32, b: u32) -> Option<u32>
+    ensures { result ≡ word_div_signed a b }
+{
+    let quotient = a.cast_signed().checked_div(b.cast_signed())?;
+    Some(quotient.cast_unsigned())
+}
+
+/// The remainder of the signed readings, with the dividend's sign. None exactly where the divisor is 0, and
+/// for -2147483648 by -1.
+pub fn rem_signed(a: u32, b: u32) -> Option<u32>
+    ensures { result ≡ word_rem_signed a b }
+{
+    let remainder = a.cast_signed().checked_rem(b.cast_signed())?;
+    Some(remainder.cast_unsigned())
+}
+
+/// The quotient, rounded down. None exactly where the divisor is 0.
+pub fn div_unsigned(a: u32, b: u32) -> Option<u32>
+    ensures { result ≡ word_div_unsigned a b }
+{
+    a.checked_div(b)
+}
+
+/// The remainder. None exactly where the divisor is 0.
+pub fn rem_unsigned(a: u32, b: u32) -> Option<u32>
+    ensures { result ≡ word_rem_unsigned a b }
+{
+    a.checked_rem(b)
+}
+
 /// The value of the kind that equals `a` modulo the kind's size, as a word. (C's conversion to an integer
 /// type, as in CompCert's integers.)
 pub fn narrow(a: u32, kind: Kind) -> u32
     ensures { result ≡ narrowed a kind }
 {
     match kind {
-        Kind::I8 => extend(a % 0x100, 0x80, 0x100),
-        Kind::U8 => a % 0x100,
-        Kind::I16 => extend(a % 0x1_0000, 0x8000, 0x1_0000),
-        Kind::U16 => a % 0x1_0000,
+        Kind::I8 => i32::from(low_byte(a).cast_signed()).cast_unsigned(),
+        Kind::U8 => u32::from(low_byte(a)),
+        Kind::I16 => i32::from(low_half(a).cast_signed()).cast_unsigned(),
+        Kind::U16 => u32::from(low_half(a)),
         Kind::I32 | Kind::U32 => a,
     }
 }
 
-// The word of a value below `size`, whose upper half, from `half` on, is negative.
-fn extend(low: u32, half: u32, size: u32) -> u32
-    requires { low < size }
-    ensures { result ≡ extended low half size }
+// The low 8 bits.
+fn low_byte(a: u32) -> u8
+    ensures { result ≡ a % 2 ^ 8 }
 {
-    if low < half {
-        low
-    } else {
-        u32::MAX - (size - 1) + low
-    }
+    (a % 0x100) as u8
+}
+
+// The low 16 bits.
+fn low_half(a: u32) -> u16
+    ensures { result ≡ a % 2 ^ 16 }
+{
+    (a % 0x1_0000) as u16
 }
 
 #[cfg(test)]
-mod tests {
-    use super::*;
-
-    #[test]
-    fn sums_wrap(rt: HostRuntime) {
-        let table = [
-            (0, 0, 0),
-            (1, 41, 42),
-            (2147483647, 1, 2147483648),
-            (2147483648, 2147483648, 0),
-            (4294967295, 1, 0),
-            (4294967295, 4294967295, 4294967294),
-        ];
-        for (a, b, sum) in table {
-            assert_eq!(rt; add(a, b), sum, "{a} + {b}");
-        }
-    }
-
-    // C's conversions to each type: -1 is the word 4294967295, -128 is 4294967168, -32768 is 4294934528.
-    #[test]
-    fn conversions_keep_the_low_bits(rt: HostRuntime) {
-        let table = [
-            (0, Kind::I8, 0),
-            (127, Kind::I8, 127),
-            (128, Kind::I8, 4294967168),
-            (200, Kind::I8, 4294967240),
-            (255, Kind::I8, 4294967295),
-            (256, Kind::I8, 0),
-            (2147483647, Kind::I8, 4294967295),
-            (4294967168, Kind::I8, 4294967168),
-            (4294967167, Kind::I8, 127),
-            (255, Kind::U8, 255),
-            (256, Kind::U8, 0),
-            (4294967295, Kind::U8, 255),
-            (32767, Kind::I16, 32767),
-            (32768, Kind::I16, 4294934528),
-            (65535, Kind::I16, 4294967295),
-            (65536, Kind::I16, 0),
-            (4294934528, Kind::I16, 4294934528),
-            (4294934527, Kind::I16, 32767),
-            (65535, Kind::U16, 65535),
-            (65536, Kind::U16, 0),
-            (4294967295, Kind::U16, 65535),
-            (2147483648, Kind::I32, 2147483648),
-            (4294967295, Kind::I32, 4294967295),
-            (2147483648, Kind::U32, 2147483648),
-            (4294967295, Kind::U32, 4294967295),
-        ];
-        for (word, kind, value) in table {
-            assert_eq!(rt; narrow(word, kind), value, "{word} as {kind:?}");
-        }
-    }
-}
+mod tests;

@@ -1,0 +1,4 @@
+pub mod KindLaws
+pub mod NameTables
+pub mod TyLemmas
+pub mod WordLaws

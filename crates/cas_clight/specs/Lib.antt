@@ -1,0 +1,4 @@
+pub mod Program
+pub mod Step
+pub mod Tree
+pub mod World

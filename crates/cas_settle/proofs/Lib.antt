@@ -1,0 +1,12 @@
+pub mod CountLemmas
+pub mod FewLemmas
+pub mod FindLemmas
+pub mod LayoutLemmas
+pub mod LocatedLemmas
+pub mod OptionLemmas
+pub mod OrderLemmas
+pub mod PlaceLemmas
+pub mod PushLemmas
+pub mod RefusalLemmas
+pub mod RosterLemmas
+pub mod SettledLemmas

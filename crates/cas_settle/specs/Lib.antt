@@ -1,0 +1,4 @@
+pub mod Located
+pub mod Refusal
+pub mod Roster
+pub mod Settle

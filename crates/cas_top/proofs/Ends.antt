@@ -1,0 +1,137 @@
+-- How the work of a command ends, from how its parts ended.
+use Rattle.std.proofs.Common.{◌≡◌, ◌<◌, ◌⊎◌, ℕ, List, [], ◌∷◌, ◌++◌, Some, None, Result, Ok, Err, refl, ◌∙◌, inl, inr, subst, append-nil, codes, arith}
+use Rattle.cas_clight.specs.Tree.{ModuleTree}
+use Rattle.cas_top.specs.declared.refusal.Refusal.{Refusal}
+use Rattle.cas_top.specs.declared.refusal.Refusal.TheVariants as refusal
+use Rattle.cas_top.specs.Answer.{Told, Taken, IsRead, IsText, IsRefusal, joined, IsCut, IsPartly, IsUntold, usage, cannot_read, too_long, refused}
+use Rattle.cas_top.specs.First_form.{IsFirstForm}
+use Rattle.cas_top.specs.Plan.{PrintsLines}
+use Rattle.cas_top.specs.Printed.{line_of}
+use Rattle.cas_outside.specs.Sink.{TakesPrefix}
+use Rattle.cas_top.specs.View.{IsEnd, IsPutLines, IsTold, IsSaid, IsCause, Counts}
+use Rattle.cas_top.specs.Words.{Run, Command, run}
+
+-- the lines of a module that was read are the text of the command
+pub text_of_lines : (told : Told) (r : Run) (source lock : List ℕ) (lines : List (List ℕ)) →
+    IsRead told r.source source → IsRead told r.lock lock → PrintsLines source r.thread lines → IsText told (run r) 0 (joined lines)
+text_of_lines told r source lock lines first second prints = record {
+  texts = source ∷ lock ∷ [];
+  read = (first, (second, tt));
+  lines = lines;
+  plan = (refl, prints);
+  whole = refl;
+}
+
+-- putting those lines ends the work
+pub end_of_put : (told : Told) (r : Run) (source lock : List ℕ) (lines : List (List ℕ)) (before after : List (List ℕ)) (old new : Taken) (answer : Result (Unit {0}) Refusal) →
+    IsRead told r.source source → IsRead told r.lock lock → PrintsLines source r.thread lines →
+    IsPutLines old (joined lines) new answer → after ≡ before → IsEnd told (run r) before after old new answer
+end_of_put told r source lock lines before after old new (Ok done) first second prints put same =
+    ((joined lines, text_of_lines told r source lock lines first second prints, put), same)
+end_of_put told r source lock lines before after old new (Err refusal.Unwritten) first second prints put same =
+    ((0, joined lines, text_of_lines told r source lock lines first second prints, put), same)
+end_of_put told r source lock lines before after old new (Err refusal.Memory) first second prints put same =
+    (inr (0, joined lines, text_of_lines told r source lock lines first second prints, put), same)
+end_of_put told r source lock lines before after old new (Err refusal.Usage) first second prints put same = absurd put
+end_of_put told r source lock lines before after old new (Err (refusal.Unread n)) first second prints put same = absurd put
+end_of_put told r source lock lines before after old new (Err (refusal.TooLong n)) first second prints put same = absurd put
+end_of_put told r source lock lines before after old new (Err (refusal.NotFirstForm n)) first second prints put same = absurd put
+
+-- a module that isn't of the first form is refused
+pub refusal_of_form : (told : Told) (r : Run) (source lock : List ℕ) →
+    IsRead told r.source source → IsRead told r.lock lock → ((tree : ModuleTree) → IsFirstForm source r.thread tree → ⊥) →
+    IsRefusal told (run r) 1 (line_of (r.source ++ codes ":1:1: R0"))
+refusal_of_form told r source lock first second not_form = record {
+  texts = source ∷ lock ∷ [];
+  read = (first, (second, tt));
+  plan = (refl, not_form, refl);
+}
+
+-- a line with nothing behind the name
+pub told_of_name : (status : ℕ) (line : List ℕ) (before now : ℕ) (old new : Taken) (answer : ℕ) →
+    IsTold status (line_of (line ++ [])) before now old new answer → IsTold status (line_of line) before now old new answer
+told_of_name status line before now old new answer h =
+    let P : List ℕ → Type 0 = λ l. IsTold status (line_of l) before now old new answer in subst P (append-nil line) h
+
+-- both texts were read, the shelf telling the same all along, and the lines were put
+pub run_end : (told told' : Told) (r : Run) (source text lock : List ℕ) (lines shown : List (List ℕ)) (before mid after : List (List ℕ)) (old new : Taken) (answer : Result (Unit {0}) Refusal) →
+    IsRead told r.source source × mid ≡ before → told' ≡ told → IsRead told' r.lock lock × after ≡ mid →
+    text ≡ source → PrintsLines text r.thread lines → shown ≡ lines → IsPutLines old (joined shown) new answer →
+    IsEnd told (run r) before after old new answer
+run_end told told' r source text lock lines shown before mid after old new answer first same second texts prints whole put =
+    let P : Told → Type 0 = λ t. IsRead t r.lock lock in
+    let Q : List ℕ → Type 0 = λ t. PrintsLines t r.thread lines in
+    let R : List (List ℕ) → Type 0 = λ l. IsPutLines old (joined l) new answer in
+    end_of_put told r source lock lines before after old new answer first.0 (subst P same second.0)
+    (subst Q texts prints) (subst R whole put) (second.1 ∙ first.1)
+
+-- both texts were read, and the first isn't of the first form
+pub run_refused : (told told' : Told) (r : Run) (source text lock : List ℕ) (before mid after : List (List ℕ)) (now : Taken) →
+    IsRead told r.source source × mid ≡ before → told' ≡ told → IsRead told' r.lock lock × after ≡ mid →
+    text ≡ source → ((tree : ModuleTree) → IsFirstForm text r.thread tree → ⊥) →
+    IsRefusal told (run r) 1 (line_of (r.source ++ codes ":1:1: R0")) × (after ≡ before) × (now ≡ now)
+run_refused told told' r source text lock before mid after now first same second texts not_form =
+    let P : Told → Type 0 = λ t. IsRead t r.lock lock in
+    let Q : List ℕ → Type 0 = λ t. (tree : ModuleTree) → IsFirstForm t r.thread tree → ⊥ in
+    (refusal_of_form told r source lock first.0 (subst P same second.0) (subst Q texts not_form), second.1 ∙ first.1, refl)
+
+pub other_status : (status answer : ℕ) → status < 4 ⊎ 9 < status → answer ≡ status → answer ≡ 4 → ⊥
+other_status status answer (inl h) e f = omega arith
+other_status status answer (inr h) e f = omega arith
+
+pub four_nine : (answer : ℕ) → answer ≡ 9 → answer ≡ 4 → ⊥
+four_nine answer e f = omega arith
+
+-- the put of a refusal's line failed, and a first part of the line was taken
+pub untold : (status : ℕ) (line : List ℕ) (count now : ℕ) (old new : Taken) (answer : ℕ) →
+    status < 4 ⊎ 9 < status → IsTold status line count now old new answer → answer ≡ 4 → (count < now) × TakesPrefix old line new
+untold status line count now old new answer other (inl h) four = absurd (other_status status answer other h.0 four)
+untold status line count now old new answer other (inr (inl h)) four = (h.1, h.2)
+untold status line count now old new answer other (inr (inr h)) four = absurd (four_nine answer h.0 four)
+
+-- the usage line failed
+pub untold_usage : (told : Told) (before after : List (List ℕ)) (count now : ℕ) (old new : Taken) (answer : ℕ) →
+    IsSaid refusal.Usage count now old new answer → answer ≡ 4 → IsUntold told None before after count now old new
+untold_usage told before after count now old new answer said four =
+    let h = untold 2 _ count now old new answer (inl (omega arith)) said four in
+    (h.0, line_of (codes "cascc: usage"), usage, h.1)
+
+-- status 4 after a command: a put of `out` failed, or that of the refusal's line, and then `out` is as before
+pub unwritten_command : (told : Told) (c : Command) (before after : List (List ℕ)) (out_old out_new : Taken) (puts puts_now : ℕ) (r : Refusal) (count now : ℕ) (old new : Taken) (answer : ℕ) →
+    IsCause told c before after out_old out_new r → Counts puts puts_now (Err r) → IsSaid r count now old new answer → answer ≡ 4 →
+    (puts < puts_now) ⊎ ((out_new ≡ out_old) × IsUntold told (Some c) before after count now old new)
+unwritten_command told c before after out_old out_new puts puts_now refusal.Usage count now old new answer cause counts said four = absurd cause
+unwritten_command told c before after out_old out_new puts puts_now (refusal.Unread name) count now old new answer cause counts said four =
+    let h = untold 3 _ count now old new answer (inl (omega arith)) said four in
+    inr (cause.1, (h.0, line_of (codes "cascc: cannot read " ++ name.now), cannot_read c name.now cause.0, h.1))
+unwritten_command told c before after out_old out_new puts puts_now (refusal.TooLong name) count now old new answer cause counts said four =
+    let h = untold 12 _ count now old new answer (inr (omega arith)) said four in
+    inr (cause.2, (h.0, line_of (codes "cascc: too long " ++ name.now), too_long c name.now cause.0, h.1))
+unwritten_command told c before after out_old out_new puts puts_now (refusal.NotFirstForm name) count now old new answer cause counts said four =
+    let h = untold 1 _ count now old new answer (inl (omega arith)) said four in
+    inr (cause.2, (h.0, line_of (name.now ++ codes ":1:1: R0"), refused c 1 (line_of (name.now ++ codes ":1:1: R0")) cause.0, h.1))
+unwritten_command told c before after out_old out_new puts puts_now refusal.Unwritten count now old new answer cause counts said four = inl counts
+unwritten_command told c before after out_old out_new puts puts_now refusal.Memory count now old new answer cause counts said four = absurd (four_nine answer said.0 four)
+
+pub not_risen : (puts puts_now : ℕ) → puts_now ≡ puts → puts < puts_now → ⊥
+not_risen puts puts_now e h = omega arith
+
+-- whatever refused a command, `out` took a first part of its text
+pub cut_of_cause : (told : Told) (c : Command) (before after : List (List ℕ)) (old new : Taken) (r : Refusal) →
+    IsCause told c before after old new r → IsCut told (Some c) old new
+cut_of_cause told c before after old new refusal.Usage cause = absurd cause
+cut_of_cause told c before after old new (refusal.Unread name) cause = inl cause.1
+cut_of_cause told c before after old new (refusal.TooLong name) cause = inl cause.2
+cut_of_cause told c before after old new (refusal.NotFirstForm name) cause = inl cause.2
+cut_of_cause told c before after old new refusal.Unwritten cause = inr cause.0
+cut_of_cause told c before after old new refusal.Memory cause = cause.0
+
+-- a put of `out` fails only after it took a first part of the text
+pub partly_of_cause : (told : Told) (c : Command) (before after : List (List ℕ)) (old new : Taken) (puts puts_now : ℕ) (r : Refusal) →
+    IsCause told c before after old new r → Counts puts puts_now (Err r) → puts < puts_now → IsPartly told (Some c) old new
+partly_of_cause told c before after old new puts puts_now refusal.Usage cause counts risen = absurd cause
+partly_of_cause told c before after old new puts puts_now (refusal.Unread name) cause counts risen = absurd (not_risen puts puts_now counts risen)
+partly_of_cause told c before after old new puts puts_now (refusal.TooLong name) cause counts risen = absurd (not_risen puts puts_now counts risen)
+partly_of_cause told c before after old new puts puts_now (refusal.NotFirstForm name) cause counts risen = absurd (not_risen puts puts_now counts risen)
+partly_of_cause told c before after old new puts puts_now refusal.Unwritten cause counts risen = cause.0
+partly_of_cause told c before after old new puts puts_now refusal.Memory cause counts risen = absurd (not_risen puts puts_now counts risen)

@@ -1,0 +1,7 @@
+pub mod Ends
+pub mod Excluding
+pub mod First_form_laws
+pub mod OutputLaws
+pub mod RunLaws
+pub mod SumLaws
+pub mod Taking

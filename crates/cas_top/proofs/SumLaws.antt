@@ -1,0 +1,61 @@
+-- A sum of literals evaluates to the word that its code leaves in the register.
+use Rattle.std.proofs.Common.{◌≡◌, ℕ, List, [], ◌∷◌, ◌++◌, length, Some, None, slice_get, refl, sym, ap, subst, append_assoc}
+use Rattle.std.proofs.lemmas.List.{length_push}
+use Rattle.cas_base.specs.Word.{word_add}
+use Rattle.cas_base.specs.declared.kind.Kind.{Kind}
+use Rattle.cas_base.specs.declared.kind.Kind.TheVariants.{I32}
+use Rattle.cas_clight.specs.declared.tree.BinaryOperator.{BinaryOperator}
+use Rattle.cas_clight.specs.declared.tree.BinaryOperator.TheVariants.{Add}
+use Rattle.cas_clight.specs.Tree.{ExprTree, literal, binary}
+use Rattle.cas_clight.specs.Step.{Sight, word, gives, and_then, result_of, value_of}
+use Rattle.cas_top.specs.First_form.{sum_tree}
+use Rattle.cas_top.specs.Machine.{State, executed, Runs, steps, start, IsExprCode, loads, adds}
+use Rattle.cas_top.specs.declared.machine.Instr.{Instr}
+use Rattle.cas_top.specs.declared.machine.Instr.TheVariants.{AddEax}
+
+-- the element behind a list
+pub slice_get-append_seam : {A : Type 0} (xs : List A) (x : A) (ys : List A) → slice_get (xs ++ x ∷ ys) (length xs) ≡ Some x
+slice_get-append_seam [] x ys = refl
+slice_get-append_seam (y ∷ xs) x ys = slice_get-append_seam xs x ys
+
+-- behind the first instructions of the code, with this word in the register and no output
+abbrev pub behind : List Instr → ℕ → State
+behind code n = record { place = length code; eax = n; out = []; end = None }
+
+-- the code leaves this word in the register, whatever comes behind it
+abbrev pub Leaves : List Instr → ℕ → Type 0
+Leaves code n = (rest : List Instr) (t : State) → Runs (code ++ rest) (behind code n) t → Runs (code ++ rest) (start 0) t
+
+-- code that leaves a word leaves the sum of it and a number, with `add eax` of that number behind
+leaves_sum : (code : List Instr) (m n : ℕ) → Leaves code m → Leaves (code ++ AddEax n ∷ []) (word_add m n)
+leaves_sum code m n leaves rest t run =
+    let whole : (code ++ AddEax n ∷ []) ++ rest ≡ code ++ (AddEax n ∷ rest) = append_assoc code (AddEax n ∷ []) rest in
+    let P : List Instr → Type 0 = λ c. Runs c (start 0) t in
+    let Q : List Instr → Type 0 = λ c. Runs c (behind (code ++ AddEax n ∷ []) (word_add m n)) t in
+    let from_sum : Q (code ++ (AddEax n ∷ rest)) = subst Q whole run in
+    let at_sum : executed (slice_get (code ++ (AddEax n ∷ rest)) (length code)) (behind code m) ≡ behind (code ++ AddEax n ∷ []) (word_add m n) =
+    rw (slice_get-append_seam code (AddEax n) rest, length_push code (AddEax n)) refl in
+    let S : State → Type 0 = λ s. Runs (code ++ (AddEax n ∷ rest)) s t in
+    subst P (sym whole) (leaves (AddEax n ∷ rest) t (steps (behind code m) t refl (subst S (sym at_sum) from_sum)))
+
+-- a sum of literals evaluates to the word that its code leaves
+pub evaluated : {e : ExprTree} {code : List Instr} → IsExprCode e code → (n : ℕ) × ((s : Sight) → value_of s e ≡ gives [] (word n)) × Leaves code n
+evaluated (loads n k) = (n, λ s. refl, λ rest t run. steps (start 0) t refl run)
+evaluated (adds sum code n k is_code) =
+    let (m, value, leaves) = evaluated is_code in
+    (word_add m n, λ s. ap (λ g. and_then g (λ u. and_then (gives [] (word n)) (λ v. result_of Add u v))) (value s), leaves_sum code m n leaves)
+
+-- literals that are added to an expression with code give one with code
+pub sum_has_code : (e : ExprTree) (code : List Instr) → IsExprCode e code → (vs : List ℕ) → (c : List Instr) × IsExprCode (sum_tree e vs) c
+sum_has_code e code is_code [] = (code, is_code)
+sum_has_code e code is_code (v ∷ vs) = sum_has_code (binary Add e (literal v I32)) _ (adds e code v I32 is_code) vs
+
+-- there is one operator
+pub only_add : (op : BinaryOperator) → op ≡ Add
+only_add Add = refl
+
+-- code of the left operand, with `add eax` behind it, is code of a sum
+pub adds_to : {whole sum given right : ExprTree} {code all : List Instr} (n : ℕ) (k : Kind) →
+    whole ≡ binary Add sum right → right ≡ literal n k → given ≡ sum → IsExprCode given code → all ≡ code ++ AddEax n ∷ [] → IsExprCode whole all
+adds_to {code = code} n k at_whole at_right at_sum is_code at_all =
+    rw (at_whole, at_right, at_all, ← at_sum) (adds _ code n k is_code)

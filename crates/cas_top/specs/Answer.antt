@@ -1,0 +1,147 @@
+-- How the top call answers: its status, what `out` and `err` took, and the cause of each.
+use Rattle.std.specs.Prelude.{◌≡◌, ◌<◌, ◌≤◌, ◌⊎◌, ℕ, List, [], ◌∷◌, ◌++◌, length, Option, Some, None, codes}
+use Rattle.cas_outside.specs.Shelf.{Texts, Tells, TellsLonger}
+use Rattle.cas_outside.specs.Sink.{TakesAll, TakesPrefix}
+use Rattle.cas_top.specs.Plan.{prints, refuses, Plans}
+use Rattle.cas_top.specs.Printed.{line_of}
+use Rattle.cas_top.specs.Words.{Command, names_of}
+
+-- the texts that a shelf has, where it tells them
+abbrev pub Told : Type 0
+Told = Option Texts
+
+-- the bytes that a sink has taken, where it tells them
+abbrev pub Taken : Type 0
+Taken = Option (List ℕ)
+
+-- the bytes that a module's or a lock's text has at most
+abbrev pub text_limit : ℕ
+text_limit = 1048576
+
+-- this is the name's text as far as the shelf tells, and within the limit
+pub record IsRead (told : Told) (name text : List ℕ) : Type 0 where
+  pub tells : Tells told name text
+  pub within : length text ≤ text_limit
+
+-- these are the texts of these names
+abbrev pub AreRead : Told → (names texts : List (List ℕ)) → Type 0
+AreRead told [] [] = Unit {0}
+AreRead told (n ∷ ns) (t ∷ ts) = IsRead told n t × AreRead told ns ts
+AreRead told _ _ = ⊥
+
+-- of these names, in their order, this is the first whose text is longer than the limit
+abbrev pub IsFirstLong : Told → (names : List (List ℕ)) → (long : List ℕ) → Type 0
+IsFirstLong told [] long = ⊥
+IsFirstLong told (n ∷ ns) long =
+    ((long ≡ n) × TellsLonger told n text_limit)
+    ⊎ ((text : List ℕ) × IsRead told n text × IsFirstLong told ns long)
+
+-- lines, one after another
+abbrev pub joined : List (List ℕ) → List ℕ
+joined [] = []
+joined (line ∷ lines) = line ++ joined lines
+
+-- the command comes to printing lines with this status, and this is their text
+pub record IsText (told : Told) (c : Command) (status : ℕ) (text : List ℕ) : Type 0 where
+  pub texts : List (List ℕ)
+  pub read : AreRead told (names_of c) texts
+  pub lines : List (List ℕ)
+  pub plan : Plans c texts (prints status lines)
+  pub whole : text ≡ joined lines
+
+-- the command comes to a refusal with this status, and this is its line
+pub record IsRefusal (told : Told) (c : Command) (status : ℕ) (line : List ℕ) : Type 0 where
+  pub texts : List (List ℕ)
+  pub read : AreRead told (names_of c) texts
+  pub plan : Plans c texts (refuses status line)
+
+-- `out` took all that the command comes to printing with this status
+abbrev pub IsPrinted : Told → Option Command → (status : ℕ) → (old new : Taken) → Type 0
+IsPrinted told None status old new = ⊥
+IsPrinted told (Some c) status old new = (text : List ℕ) × IsText told c status text × TakesAll old text new
+
+-- `out` took a first part of the text that the command comes to printing
+abbrev pub IsPartly : Told → Option Command → (old new : Taken) → Type 0
+IsPartly told None old new = ⊥
+IsPartly told (Some c) old new = (status : ℕ) × (text : List ℕ) × IsText told c status text × TakesPrefix old text new
+
+-- `out` took a first part of the text, or nothing
+abbrev pub IsCut : Told → Option Command → (old new : Taken) → Type 0
+IsCut told c old new = (new ≡ old) ⊎ IsPartly told c old new
+
+-- the command comes to a refusal with this status, and `err` took its line
+abbrev pub IsRefused : Told → Option Command → (status : ℕ) → (old new : Taken) → Type 0
+IsRefused told None status old new = ⊥
+IsRefused told (Some c) status old new = (line : List ℕ) × IsRefusal told c status line × TakesAll old line new
+
+-- the words give no command, and `err` took the line that says so
+abbrev pub IsMisused : Option Command → (old new : Taken) → Type 0
+IsMisused None old new = TakesAll old (line_of (codes "cascc: usage")) new
+IsMisused (Some c) old new = ⊥
+
+-- a text is too long, the first of the command's names, and `err` took the line that says so
+abbrev pub IsTooLong : Told → Option Command → (old new : Taken) → Type 0
+IsTooLong told None old new = ⊥
+IsTooLong told (Some c) old new =
+    (name : List ℕ) × IsFirstLong told (names_of c) name × TakesAll old (line_of (codes "cascc: too long " ++ name)) new
+
+-- this is one of these names, and those before it have texts within the limit
+abbrev pub IsFirstUnread : Told → (names : List (List ℕ)) → (unread : List ℕ) → Type 0
+IsFirstUnread told [] unread = ⊥
+IsFirstUnread told (n ∷ ns) unread = (unread ≡ n) ⊎ ((text : List ℕ) × IsRead told n text × IsFirstUnread told ns unread)
+
+-- this name of the command's, before which the others were read, is new on the shelf's list of failed names
+pub record IsFailed (told : Told) (c : Command) (before after : List (List ℕ)) (name : List ℕ) : Type 0 where
+  pub first : IsFirstUnread told (names_of c) name
+  pub noted : after ≡ before ++ name ∷ []
+
+-- the reading of a name failed, and `err` took the line that says so
+abbrev pub IsUnread : Told → Option Command → (before after : List (List ℕ)) → (old new : Taken) → Type 0
+IsUnread told None before after old new = ⊥
+IsUnread told (Some c) before after old new =
+    (name : List ℕ) × IsFailed told c before after name × TakesAll old (line_of (codes "cascc: cannot read " ++ name)) new
+
+-- the list of failed names is as before; or it grew by one name of the command, and the status is 3, 4 or 9
+abbrev pub GrowsBy : Told → Option Command → (before after : List (List ℕ)) → (status : ℕ) → Type 0
+GrowsBy told None before after status = after ≡ before
+GrowsBy told (Some c) before after status =
+    (after ≡ before)
+    ⊎ ((name : List ℕ) × IsFailed told c before after name × ((status ≡ 3) ⊎ (status ≡ 4) ⊎ (status ≡ 9)))
+
+-- the line of a refusal of which `err` is told
+pub data IsLine (told : Told) (before after : List (List ℕ)) : Option Command → List ℕ → Type 0 where
+  usage : IsLine told before after None (line_of (codes "cascc: usage"))
+  cannot_read : (c : Command) (name : List ℕ) → IsFailed told c before after name →
+      IsLine told before after (Some c) (line_of (codes "cascc: cannot read " ++ name))
+  too_long : (c : Command) (name : List ℕ) → IsFirstLong told (names_of c) name →
+      IsLine told before after (Some c) (line_of (codes "cascc: too long " ++ name))
+  refused : (c : Command) (status : ℕ) (line : List ℕ) → IsRefusal told c status line → IsLine told before after (Some c) line
+
+-- how a line was tried: it was taken; or the put failed, which is counted, and a first part was taken; or there was
+-- no memory for it
+abbrev pub IsTried : (line : List ℕ) → (count now : ℕ) → (old new : Taken) → Type 0
+IsTried line count now old new =
+    ((now ≡ count) × TakesAll old line new)
+    ⊎ ((count < now) × TakesPrefix old line new)
+    ⊎ ((now ≡ count) × (new ≡ old))
+
+-- the put of a refusal's line failed, which is counted, and a first part was taken
+abbrev pub IsUntold : Told → Option Command → (before after : List (List ℕ)) → (count now : ℕ) → (old new : Taken) → Type 0
+IsUntold told c before after count now old new =
+    (count < now) × (line : List ℕ) × IsLine told before after c line × TakesPrefix old line new
+
+-- the statuses of a command that printed its text
+abbrev pub IsPrinting : ℕ → Type 0
+IsPrinting status = status ≡ 0
+
+-- the statuses of a command that its texts refused
+abbrev pub IsRefusing : ℕ → Type 0
+IsRefusing status = status ≡ 1
+
+-- the statuses of a refusal of which `err` was told
+abbrev pub IsRefusalStatus : ℕ → Type 0
+IsRefusalStatus status = IsRefusing status ⊎ (status ≡ 2) ⊎ (status ≡ 3) ⊎ (status ≡ 12)
+
+-- all statuses
+abbrev pub IsStatus : ℕ → Type 0
+IsStatus status = IsPrinting status ⊎ IsRefusalStatus status ⊎ (status ≡ 4) ⊎ (status ≡ 9)

@@ -1,0 +1,48 @@
+-- What a command comes to on the texts of its names: a refusal, or lines to print.
+use Rattle.std.specs.Prelude.{◌≡◌, ℕ, List, [], ◌∷◌, ◌++◌, map, codes}
+use Rattle.cas_clight.specs.Tree.{ModuleTree}
+use Rattle.cas_clight.specs.Program.{env_of}
+use Rattle.cas_clight.specs.Step.{FunctionAt}
+use Rattle.cas_clight.specs.World.{World, Interleaves, first_world, HasEnded}
+use Rattle.cas_top.specs.First_form.{IsFirstForm}
+use Rattle.cas_top.specs.Machine.{IsItemsCode, RunsTo}
+use Rattle.cas_top.specs.Printed.{line_of, finished_lines}
+use Rattle.cas_top.specs.Words.{Command, run}
+use Rattle.cas_top.specs.declared.machine.Instr.{Instr}
+
+-- a refusal, with its status and its line on `err`; or the lines for `out`, with the status behind them
+pub data Plan : Type 0 where
+  refuses : (status : ℕ) → (line : List ℕ) → Plan
+  prints : (status : ℕ) → (lines : List (List ℕ)) → Plan
+
+-- the first function of the first module
+abbrev pub entry : FunctionAt
+entry = record { unit = 0; place = 0 }
+
+-- an output of a finished run of one thread, whose function is the module's first
+pub record IsOutput (tree : ModuleTree) (out : List ℕ) : Type 0 where
+  -- of the machine, on the code that is generated for the module
+  pub code : List Instr
+  pub generated : IsItemsCode tree.items code
+  pub machine : RunsTo code out
+  -- of an interleaving of the module, in which the thread has ended
+  pub threads : List ℕ
+  pub world : World
+  pub interleaving : Interleaves (env_of (tree ∷ [])) (first_world (env_of (tree ∷ [])) (entry ∷ []) []) threads world
+  pub ended : HasEnded world 0
+  pub source : world.out ≡ map (λ v. (0, v)) out
+
+-- the lines that a finished run of a module text of the first form prints, on one thread of this function
+abbrev pub PrintsLines : (text thread : List ℕ) → (lines : List (List ℕ)) → Type 0
+PrintsLines text thread lines =
+    (tree : ModuleTree) × IsFirstForm text thread tree
+    × (out : List ℕ) × IsOutput tree out × (lines ≡ finished_lines (map (λ v. (0, v)) out))
+
+-- what a command comes to, where these are the texts of its names in their order
+abbrev pub Plans : Command → (texts : List (List ℕ)) → Plan → Type 0
+Plans (run r) (source ∷ lock ∷ []) (prints status lines) = (status ≡ 0) × PrintsLines source r.thread lines
+Plans (run r) (source ∷ lock ∷ []) (refuses status line) =
+    (status ≡ 1)
+    × ((tree : ModuleTree) → IsFirstForm source r.thread tree → ⊥)
+    × (line ≡ line_of (r.source ++ codes ":1:1: R0"))
+Plans c texts plan = ⊥

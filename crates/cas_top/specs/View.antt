@@ -1,0 +1,75 @@
+-- What the code's commands and refusals hold, as the definitions speak of them.
+use Rattle.std.specs.Prelude.{◌≡◌, ◌<◌, ◌⊎◌, ℕ, List, [], ◌∷◌, ◌++◌, Some, Result, Ok, Err, codes}
+use Rattle.std.specs.declared.vec.Vec.{Vec}
+use Rattle.std.specs.declared.alloc.Global.{Global}
+use Rattle.cas_outside.specs.Shelf.{TellsLonger}
+use Rattle.cas_outside.specs.Sink.{TakesAll, TakesPrefix}
+use Rattle.cas_top.specs.declared.refusal.Refusal.{Refusal}
+use Rattle.cas_top.specs.declared.refusal.Refusal.TheVariants as refusal
+use Rattle.cas_top.specs.declared.words.Command.{Command}
+use Rattle.cas_top.specs.declared.words.Command.TheVariants as code
+use Rattle.cas_top.specs.declared.words.Run.{Run}
+use Rattle.cas_top.specs.Answer.{Told, Taken, IsRefusal, IsFirstLong, IsCut, IsPartly, IsPrinted, IsRead, IsFailed, IsTried, text_limit}
+use Rattle.cas_top.specs.Printed.{line_of}
+use Rattle.cas_top.specs.Words as words
+
+abbrev pub run_view : Run → words.Run
+run_view r = record { source = r.source.now; lock = r.lock.now; thread = r.thread.now }
+
+abbrev pub command_view : Command → words.Command
+command_view (code.Run r) = words.run (run_view r)
+
+-- the text of a name was read, or this is why not; the shelf's failed names before and after
+abbrev pub IsFetched : Told → (name : List ℕ) → (before after : List (List ℕ)) → Result (Vec ℕ Global) Refusal → Type 0
+IsFetched told name before after (Ok text) = IsRead told name text.items × (after ≡ before)
+IsFetched told name before after (Err (refusal.Unread n)) = (n.now ≡ name) × (after ≡ before ++ name ∷ [])
+IsFetched told name before after (Err (refusal.TooLong n)) = (n.now ≡ name) × TellsLonger told name text_limit × (after ≡ before)
+IsFetched told name before after (Err refusal.Memory) = after ≡ before
+IsFetched told name before after (Err r) = ⊥
+
+-- all of the text was put, or a first part of it
+abbrev pub IsPutLines : (old : Taken) → (text : List ℕ) → (new : Taken) → Result (Unit {0}) Refusal → Type 0
+IsPutLines old text new (Ok done) = TakesAll old text new
+IsPutLines old text new (Err refusal.Unwritten) = TakesPrefix old text new
+IsPutLines old text new (Err refusal.Memory) = TakesPrefix old text new
+IsPutLines old text new (Err r) = ⊥
+
+-- why the work of a command ended so: the shelf's failed names and what `out` took, before and after
+abbrev pub IsCause : Told → words.Command → (before after : List (List ℕ)) → (old new : Taken) → Refusal → Type 0
+IsCause told c before after old new refusal.Usage = ⊥
+IsCause told c before after old new (refusal.Unread name) = IsFailed told c before after name.now × (new ≡ old)
+IsCause told c before after old new (refusal.TooLong name) =
+    IsFirstLong told (words.names_of c) name.now × (after ≡ before) × (new ≡ old)
+IsCause told c before after old new (refusal.NotFirstForm name) =
+    IsRefusal told c 1 (line_of (name.now ++ codes ":1:1: R0")) × (after ≡ before) × (new ≡ old)
+IsCause told c before after old new refusal.Unwritten = IsPartly told (Some c) old new × (after ≡ before)
+IsCause told c before after old new refusal.Memory = IsCut told (Some c) old new × (after ≡ before)
+
+-- how the work of a command ended: all was printed, or a refusal with its cause
+abbrev pub IsEnd : Told → words.Command → (before after : List (List ℕ)) → (old new : Taken) → Result (Unit {0}) Refusal → Type 0
+IsEnd told c before after old new (Ok done) = IsPrinted told (Some c) 0 old new × (after ≡ before)
+IsEnd told c before after old new (Err r) = IsCause told c before after old new r
+
+-- the count of faults of `out` rises where a put failed, and else stays
+abbrev pub Counts : (before now : ℕ) → Result (Unit {0}) Refusal → Type 0
+Counts before now (Ok done) = now ≡ before
+Counts before now (Err refusal.Unwritten) = before < now
+Counts before now (Err r) = now ≡ before
+
+-- `err` was told a refusal by its line: the status is its own and the line was taken; or the put failed and the
+-- status is 4; or there was no memory for the line, the status is 9, and the line for that was tried
+abbrev pub IsTold : (status : ℕ) → (line : List ℕ) → (before now : ℕ) → (old new : Taken) → (answer : ℕ) → Type 0
+IsTold status line before now old new answer =
+    ((answer ≡ status) × (now ≡ before) × TakesAll old line new)
+    ⊎ ((answer ≡ 4) × (before < now) × TakesPrefix old line new)
+    ⊎ ((answer ≡ 9) × IsTried (line_of (codes "cascc: memory")) before now old new)
+
+-- `err` was told this refusal. The lines for a put of `out` that failed and for want of memory are tried once,
+-- whatever becomes of them
+abbrev pub IsSaid : Refusal → (before now : ℕ) → (old new : Taken) → (answer : ℕ) → Type 0
+IsSaid refusal.Unwritten before now old new answer = (answer ≡ 4) × IsTried (line_of (codes "cascc: cannot write")) before now old new
+IsSaid refusal.Memory before now old new answer = (answer ≡ 9) × IsTried (line_of (codes "cascc: memory")) before now old new
+IsSaid refusal.Usage before now old new answer = IsTold 2 (line_of (codes "cascc: usage")) before now old new answer
+IsSaid (refusal.Unread name) before now old new answer = IsTold 3 (line_of (codes "cascc: cannot read " ++ name.now)) before now old new answer
+IsSaid (refusal.TooLong name) before now old new answer = IsTold 12 (line_of (codes "cascc: too long " ++ name.now)) before now old new answer
+IsSaid (refusal.NotFirstForm name) before now old new answer = IsTold 1 (line_of (name.now ++ codes ":1:1: R0")) before now old new answer

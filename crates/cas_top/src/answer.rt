@@ -1,0 +1,105 @@
+//! The work of a command: its texts are read, its module becomes a program, and the lines that a run of the
+//! program prints are put.
+
+ghost use Rattle.std.specs.Prelude.{◌≡◌, ◌≤◌, length, IfOk, IfSome, IfNone};
+ghost use Rattle.cas_clight.specs.Tree.{ModuleTree};
+ghost use Rattle.cas_top.specs.Answer.{joined, text_limit};
+ghost use Rattle.cas_top.specs.First_form.{IsFirstForm};
+ghost use Rattle.cas_top.specs.Plan.{PrintsLines};
+ghost use Rattle.cas_top.specs.Words.{run};
+ghost use Rattle.cas_top.specs.View.{command_view, run_view, IsEnd, Counts, IsFetched, IsPutLines};
+
+use crate::first_form::read_first_form;
+use crate::outcome::lines_of;
+use crate::refusal::Refusal;
+use crate::words::{Command, Run};
+use cas_base::{NoMemory, Text};
+use cas_outside::{Shelf, ShelfFault, Sink, SinkFault};
+use std::alloc::Global;
+
+/// The most bytes that a module's or a lock's text has.
+const TEXT_LIMIT: u64 = 1_048_576;
+
+/// Does the work of a command.
+pub(crate) fn perform<'a, S: Shelf, O: Sink>(
+    alloc: Global,
+    command: Command<'a>,
+    shelf: &mut S,
+    out: &mut O,
+) -> Result<(), Refusal<'a>>
+    ensures end { IsEnd (S.texts shelf.old) (command_view command.entry) (S.failed shelf.old) (S.failed shelf.new) (O.taken out.old) (O.taken out.new) result }
+    ensures counted { Counts (O.faults out.old) (O.faults out.new) result }
+    ensures same_texts { S.texts shelf.new ≡ S.texts shelf.old }
+{
+    match command {
+        Command::Run(given) => perform_run(alloc, given, shelf, out),
+    }
+}
+
+// Reads the module and the lock, and puts what a run of the module prints. The lock isn't looked at, since the
+// first form takes none.
+fn perform_run<'a, S: Shelf, O: Sink>(
+    alloc: Global,
+    given: Run<'a>,
+    shelf: &mut S,
+    out: &mut O,
+) -> Result<(), Refusal<'a>>
+    ensures end { IsEnd (S.texts shelf.old) (run (run_view given.entry)) (S.failed shelf.old) (S.failed shelf.new) (O.taken out.old) (O.taken out.new) result }
+    ensures counted { Counts (O.faults out.old) (O.faults out.new) result }
+    ensures same_texts { S.texts shelf.new ≡ S.texts shelf.old }
+{
+    let source = match fetch(alloc, shelf, given.source) {
+        Ok(text) => text,
+        Err(refusal) => return Err(refusal),
+    };
+    let _lock = match fetch(alloc, shelf, given.lock) {
+        Ok(text) => text,
+        Err(refusal) => return Err(refusal),
+    };
+    match lines_of_text(alloc, source.as_slice(), given.thread) {
+        Ok(Some(lines)) => put_lines(out, lines.as_slice()),
+        Ok(None) => Err(Refusal::NotFirstForm(given.source)),
+        Err(NoMemory) => Err(Refusal::Memory),
+    }
+}
+
+// The text of a name.
+fn fetch<'a, S: Shelf>(alloc: Global, shelf: &mut S, name: &'a str) -> Result<Vec<u8>, Refusal<'a>>
+    ensures same { S.texts shelf.new ≡ S.texts shelf.old }
+    ensures fetched { IsFetched (S.texts shelf.old) name.entry.now (S.failed shelf.old) (S.failed shelf.new) result }
+{
+    match shelf.read(alloc, name, TEXT_LIMIT) {
+        Ok(text) => Ok(text),
+        Err(ShelfFault::Failed) => Err(Refusal::Unread(name)),
+        Err(ShelfFault::TooLong) => Err(Refusal::TooLong(name)),
+        Err(ShelfFault::Memory) => Err(Refusal::Memory),
+    }
+}
+
+// The lines that a module text of the first form prints on one thread, whose function has this name.
+fn lines_of_text(alloc: Global, text: &[u8], thread: &str) -> Result<Option<Vec<Text>>, NoMemory>
+    requires { length text.now ≤ text_limit }
+    ensures printed { IfOk result (λ o. IfSome o (λ lines. PrintsLines text.now thread.now lines.items)) }
+    ensures others { IfOk result (λ o. IfNone o ((tree : ModuleTree) → IsFirstForm text.now thread.now tree → ⊥)) }
+{
+    match read_first_form(alloc, text, thread)? {
+        Some(module) => lines_of(alloc, &module),
+        None => Ok(None),
+    }
+}
+
+// Puts the lines, each by itself.
+fn put_lines<'a, O: Sink>(out: &mut O, lines: &[Text]) -> Result<(), Refusal<'a>>
+    ensures put { IsPutLines (O.taken out.old) (joined lines.now) (O.taken out.new) result }
+    ensures counted { Counts (O.faults out.old) (O.faults out.new) result }
+{
+    let mut rest = lines;
+    while let Some((line, after)) = rest.split_first() {
+        match out.put(line.as_str().as_bytes()) {
+            Ok(()) => rest = after,
+            Err(SinkFault::Failed) => return Err(Refusal::Unwritten),
+            Err(SinkFault::Memory) => return Err(Refusal::Memory),
+        }
+    }
+    Ok(())
+}

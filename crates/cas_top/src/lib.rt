@@ -1,0 +1,17 @@
+//! The top call: a command from its words to the bytes that it prints.
+#![tactic(auto)]
+
+mod answer;
+mod first_form;
+mod generate;
+pub mod laws;
+mod machine;
+mod outcome;
+mod printed;
+mod refusal;
+#[cfg(test)]
+mod tests;
+mod top;
+mod words;
+
+pub use top::cascc;

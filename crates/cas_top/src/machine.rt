@@ -1,0 +1,135 @@
+//! The machine that runs the generated code: one thread, on the register eax alone.
+ghost use Rattle.std.specs.Prelude.{◌≡◌, ◌<◌, IfOk, Some, None, slice_get, length};
+ghost use Rattle.cas_top.specs.Machine.{State, start, executed, Runs};
+
+use cas_base::{NoMemory, add};
+use std::alloc::Global;
+use std::marker::Model;
+
+/// The instructions: those of IA-32 on the register eax that the first form needs.
+#[derive(Clone, Copy, Debug, PartialEq, Eq)]
+pub enum Instr {
+    /// `mov eax, i`: the number goes to the register.
+    MovEax(u32),
+    /// `add eax, i`: the number is added to the register, modulo 2^32.
+    AddEax(u32),
+    /// `out eax`: the register is put out.
+    OutEax,
+    /// `ret`: to the outermost return place, which ends the thread.
+    Ret,
+}
+
+/// How a thread ends.
+#[derive(Clone, Copy, Debug, PartialEq, Eq)]
+pub enum End {
+    /// By the return to the outermost return place.
+    Done,
+    /// At what is no place of the code.
+    Bad,
+}
+
+/// What a run that has ended leaves: the words that it has put out, in order, and its end.
+#[derive(Debug, Drop)]
+pub(crate) struct Report {
+    pub(crate) out: Vec<u32>,
+    pub(crate) end: End,
+}
+
+// The thread: the number of its next instruction, its register, its output, and its end, where it has one.
+// Contracts see it as a `State`.
+#[derive(Drop)]
+struct Machine {
+    place: usize,
+    eax: u32,
+    out: Vec<u32>,
+    end: Option<End>,
+}
+
+impl Model for Machine {
+    ghost use Rattle.cas_top.specs.Machine.{State};
+
+    ghost Value = { State };
+
+    ghost view = { λ m. record { place = m.place; eax = m.eax; out = m.out.items; end = m.end } };
+}
+
+impl Machine {
+    // Thread 0 at its start.
+    fn new(alloc: Global) -> Self
+        ensures { result ≡ start 0 }
+    {
+        Machine {
+            place: 0,
+            eax: 0,
+            out: Vec::new(alloc),
+            end: None,
+        }
+    }
+
+    // Executes the instruction at the thread's place.
+    fn step(&mut self, code: &[Instr]) -> Result<(), NoMemory>
+        requires { self.old.end ≡ None }
+        ensures { IfOk result (λ _. self.new ≡ executed (slice_get code.now self.old.place) self.old) }
+    {
+        let Some(instr) = code.get(self.place) else {
+            self.end = Some(End::Bad);
+            return Ok(());
+        };
+        match instr {
+            Instr::MovEax(number) => self.eax = *number,
+            Instr::AddEax(number) => self.eax = add(self.eax, *number),
+            Instr::OutEax => self.out.push(self.eax)?,
+            Instr::Ret => {
+                self.end = Some(End::Done);
+                return Ok(());
+            }
+        }
+        self.place += 1;
+        Ok(())
+    }
+}
+
+/// Runs thread 0 from its start to its end, which it reaches, since each instruction but `ret` goes one
+/// place on.
+pub(crate) fn run(alloc: Global, code: &[Instr]) -> Result<Report, NoMemory>
+    ensures { IfOk result (λ r. (s : State) × Runs code.now (start 0) s × (s.end ≡ Some r.end) × (s.out ≡ r.out.items)) }
+{
+    let mut machine = Machine::new(alloc);
+    loop {
+        machine.step(code)?;
+        if let Some(end) = machine.end {
+            return Ok(Report {
+                out: machine.out,
+                end,
+            });
+        }
+    }
+}
+
+#[cfg(test)]
+mod tests {
+    use super::*;
+    use std::test::Fail;
+
+    #[test]
+    fn sums_wrap_and_are_put_out(rt: HostRuntime) -> Result<(), Fail> {
+        let code = [
+            Instr::MovEax(2147483647),
+            Instr::AddEax(1),
+            Instr::OutEax,
+            Instr::Ret,
+        ];
+        let report = run(rt.alloc(), &code)?;
+        assert_eq!(rt; report.end, End::Done);
+        assert_eq!(rt; report.out.as_slice(), [2147483648].as_slice());
+        Ok(())
+    }
+
+    #[test]
+    fn code_without_a_return_ends_bad(rt: HostRuntime) -> Result<(), Fail> {
+        let report = run(rt.alloc(), &[Instr::MovEax(7), Instr::OutEax])?;
+        assert_eq!(rt; report.end, End::Bad);
+        assert_eq!(rt; report.out.as_slice(), [7].as_slice());
+        Ok(())
+    }
+}

@@ -1,0 +1,322 @@
+//! Calls of the top call, with texts and streams in memory. The wanted bytes are those that `docs/COMMANDS.md`
+//! gives.
+
+use crate::cascc;
+use cas_base::Text;
+use cas_outside::{MemoryShelf, MemorySink, OpenGate};
+use std::alloc::{AllocError, Global};
+use std::process::Abort;
+use std::test::Fail;
+use std::thread::Threads;
+
+const RUN: [&str; 6] = ["run", "m.c", "--lock", "lock.s", "--threads", "w"];
+
+const SUM: &str = "void w(int me) { print(40 + 1); }";
+
+const PRINTED: &str = "0 41\nthread 0 done\n";
+
+const REFUSED: &str = "m.c:1:1: R0\n";
+
+const CANNOT_WRITE: &str = "cascc: cannot write\n";
+
+// What a call is given: its words, the texts, and the numbers of the reads and the puts that fail.
+#[derive(Clone, Copy)]
+struct Given<'a> {
+    words: &'a [&'a str],
+    module_text: &'a str,
+    lock_text: &'a str,
+    reads: &'a [u64],
+    outs: &'a [u64],
+    errs: &'a [u64],
+}
+
+// The status and the bytes that a call is to answer.
+#[derive(Clone, Copy)]
+struct Answer<'a> {
+    status: u8,
+    out: &'a str,
+    err: &'a str,
+}
+
+// The words of the sum's run, with nothing that fails.
+fn sum_run<'a>() -> Given<'a> {
+    Given {
+        words: &RUN,
+        module_text: SUM,
+        lock_text: "lock:\n",
+        reads: &[],
+        outs: &[],
+        errs: &[],
+    }
+}
+
+fn wanted<'a>(status: u8, out: &'a str, err: &'a str) -> Answer<'a> {
+    Answer { status, out, err }
+}
+
+fn words_of(alloc: Global, words: &[&str]) -> Result<Vec<Text>, AllocError> {
+    let mut owned = Vec::new(alloc);
+    for word in words {
+        owned.push(Text::of(String::from_str(alloc, word)?))?;
+    }
+    Ok(owned)
+}
+
+fn entry(alloc: Global, name: &str, text: &str) -> Result<(String, Vec<u8>), AllocError> {
+    let bytes = Vec::from_slice(alloc, text.as_bytes())?;
+    Ok((String::from_str(alloc, name)?, bytes))
+}
+
+fn shelf_of(alloc: Global, given: Given) -> Result<MemoryShelf, AllocError> {
+    let mut texts = Vec::new(alloc);
+    texts.push(entry(alloc, "m.c", given.module_text)?)?;
+    texts.push(entry(alloc, "lock.s", given.lock_text)?)?;
+    let failing = Vec::from_slice(alloc, given.reads)?;
+    Ok(MemoryShelf::new(alloc, texts, failing))
+}
+
+fn sink_of(alloc: Global, failing: &[u64]) -> Result<MemorySink, AllocError> {
+    Ok(MemorySink::new(alloc, Vec::from_slice(alloc, failing)?))
+}
+
+fn assert_answer<R: Abort + Threads + Sync>(
+    rt: &R,
+    alloc: Global,
+    given: Given,
+    wanted: Answer,
+) -> Result<(), AllocError> {
+    let words = words_of(alloc, given.words)?;
+    let mut shelf = shelf_of(alloc, given)?;
+    let mut out = sink_of(alloc, given.outs)?;
+    let mut err = sink_of(alloc, given.errs)?;
+    let status = cascc(
+        rt,
+        alloc,
+        words.as_slice(),
+        &mut shelf,
+        &mut out,
+        &mut err,
+        &OpenGate,
+    );
+    assert_eq!(rt; status, wanted.status);
+    assert_eq!(rt; out.bytes(), wanted.out.as_bytes());
+    assert_eq!(rt; err.bytes(), wanted.err.as_bytes());
+    Ok(())
+}
+
+// The text, so many times.
+fn repeated(alloc: Global, text: &str, count: usize) -> Result<String, AllocError> {
+    let mut whole = String::new(alloc);
+    for _ in 0..count {
+        whole.push_str(text)?;
+    }
+    Ok(whole)
+}
+
+// The text of the first form with so many literals 1 behind the first.
+fn ones(alloc: Global, others: usize) -> Result<String, AllocError> {
+    let added = repeated(alloc, " + 1", others)?;
+    format!(in alloc; "void w(int me) {{ print(1{added}); }}")
+}
+
+fn assert_module<R: Abort + Threads + Sync>(
+    rt: &R,
+    alloc: Global,
+    text: &str,
+    wanted: Answer,
+) -> Result<(), AllocError> {
+    let given = Given {
+        module_text: text,
+        ..sum_run()
+    };
+    assert_answer(rt, alloc, given, wanted)
+}
+
+#[test]
+fn always_want_of_memory(rt: HostRuntime) -> Result<(), Fail> {
+    assert_answer(&rt, rt.alloc(), sum_run(), wanted(0, PRINTED, ""))?;
+    Ok(())
+}
+
+#[test]
+fn sums_are_printed(rt: HostRuntime) -> Result<(), Fail> {
+    let alloc = rt.alloc();
+    let wrapped = "void w(int me) { print(2147483647 + 1); }";
+    assert_module(
+        &rt,
+        alloc,
+        wrapped,
+        wanted(0, "0 -2147483648\nthread 0 done\n", ""),
+    )?;
+    let spaced = "\nvoid  w ( int\nme ){print(0);}\n";
+    assert_module(&rt, alloc, spaced, wanted(0, "0 0\nthread 0 done\n", ""))?;
+    let most = ones(alloc, 499)?;
+    assert_module(
+        &rt,
+        alloc,
+        most.as_str(),
+        wanted(0, "0 500\nthread 0 done\n", ""),
+    )?;
+    Ok(())
+}
+
+#[test]
+fn other_modules_are_refused(rt: HostRuntime) -> Result<(), Fail> {
+    let alloc = rt.alloc();
+    let too_many = ones(alloc, 500)?;
+    let texts = [
+        "",
+        "void v(int me) { print(40 + 1); }",
+        "void w(int me) { print(2147483648); }",
+        "void w(int me) { print(01); }",
+        too_many.as_str(),
+    ];
+    for text in texts {
+        assert_module(&rt, alloc, text, wanted(1, "", REFUSED))?;
+    }
+    Ok(())
+}
+
+#[test]
+fn texts_have_a_limit(rt: HostRuntime) -> Result<(), Fail> {
+    let alloc = rt.alloc();
+    let longest = repeated(alloc, " ", 1_048_576)?;
+    let too_long = repeated(alloc, " ", 1_048_577)?;
+    assert_module(&rt, alloc, longest.as_str(), wanted(1, "", REFUSED))?;
+    assert_module(
+        &rt,
+        alloc,
+        too_long.as_str(),
+        wanted(12, "", "cascc: too long m.c\n"),
+    )?;
+    let at_limit = Given {
+        lock_text: longest.as_str(),
+        ..sum_run()
+    };
+    assert_answer(&rt, alloc, at_limit, wanted(0, PRINTED, ""))?;
+    let above_limit = Given {
+        lock_text: too_long.as_str(),
+        ..sum_run()
+    };
+    assert_answer(
+        &rt,
+        alloc,
+        above_limit,
+        wanted(12, "", "cascc: too long lock.s\n"),
+    )?;
+    Ok(())
+}
+
+fn assert_usage<R: Abort + Threads + Sync>(
+    rt: &R,
+    alloc: Global,
+    words: &[&str],
+) -> Result<(), AllocError> {
+    let given = Given { words, ..sum_run() };
+    assert_answer(rt, alloc, given, wanted(2, "", "cascc: usage\n"))
+}
+
+#[test]
+fn words_that_are_no_command_are_refused(rt: HostRuntime) -> Result<(), Fail> {
+    let alloc = rt.alloc();
+    assert_usage(&rt, alloc, &[])?;
+    assert_usage(&rt, alloc, &["run", "m.c", "--threads", "w"])?;
+    assert_usage(&rt, alloc, &["run", "m.c", "--lock", "lock.s", "--threads"])?;
+    assert_usage(
+        &rt,
+        alloc,
+        &["run", "m.c", "--lock", "lock.s", "--threads", "w", "x"],
+    )?;
+    assert_usage(
+        &rt,
+        alloc,
+        &["run", "m.c", "--threads", "w", "--lock", "lock.s"],
+    )?;
+    Ok(())
+}
+
+#[test]
+fn one_word_away_is_refused(rt: HostRuntime) -> Result<(), Fail> {
+    let alloc = rt.alloc();
+    let wrong = [
+        (0, "check"),
+        (1, ""),
+        (1, "-m.c"),
+        (2, "--look"),
+        (3, ""),
+        (3, "-"),
+        (4, "--thread"),
+        (5, ""),
+        (5, "w,w"),
+        (5, "1w"),
+    ];
+    for (place, word) in wrong {
+        let mut words = RUN;
+        words[place] = word;
+        assert_usage(&rt, alloc, &words)?;
+    }
+    Ok(())
+}
+
+fn assert_faults<R: Abort + Threads + Sync>(
+    rt: &R,
+    alloc: Global,
+    failing: [&[u64]; 3],
+    wanted: Answer,
+) -> Result<(), AllocError> {
+    let [reads, outs, errs] = failing;
+    let given = Given {
+        reads,
+        outs,
+        errs,
+        ..sum_run()
+    };
+    assert_answer(rt, alloc, given, wanted)
+}
+
+#[test]
+fn reads_that_fail_are_told(rt: HostRuntime) -> Result<(), Fail> {
+    let alloc = rt.alloc();
+    assert_faults(
+        &rt,
+        alloc,
+        [&[1], &[], &[]],
+        wanted(3, "", "cascc: cannot read m.c\n"),
+    )?;
+    assert_faults(
+        &rt,
+        alloc,
+        [&[2], &[], &[]],
+        wanted(3, "", "cascc: cannot read lock.s\n"),
+    )?;
+    assert_faults(&rt, alloc, [&[1], &[], &[1]], wanted(4, "", ""))?;
+    let told_at_once = wanted(3, "", "cascc: cannot read m.c\n");
+    assert_faults(&rt, alloc, [&[1], &[], &[2]], told_at_once)?;
+    assert_faults(&rt, alloc, [&[3], &[], &[]], wanted(0, PRINTED, ""))?;
+    let missing = Given {
+        words: &["run", "a.c", "--lock", "lock.s", "--threads", "w"],
+        ..sum_run()
+    };
+    assert_answer(
+        &rt,
+        alloc,
+        missing,
+        wanted(3, "", "cascc: cannot read a.c\n"),
+    )?;
+    Ok(())
+}
+
+#[test]
+fn puts_that_fail_are_told(rt: HostRuntime) -> Result<(), Fail> {
+    let alloc = rt.alloc();
+    assert_faults(&rt, alloc, [&[], &[1], &[]], wanted(4, "", CANNOT_WRITE))?;
+    assert_faults(
+        &rt,
+        alloc,
+        [&[], &[2], &[]],
+        wanted(4, "0 41\n", CANNOT_WRITE),
+    )?;
+    assert_faults(&rt, alloc, [&[], &[2], &[1]], wanted(4, "0 41\n", ""))?;
+    assert_faults(&rt, alloc, [&[], &[3], &[1]], wanted(0, PRINTED, ""))?;
+    Ok(())
+}

@@ -1,0 +1,92 @@
+//! The top call.
+
+ghost use Rattle.std.specs.Prelude.{◌≡◌, ◌<◌, ◌⊎◌};
+ghost use Rattle.cas_top.specs.Answer.{IsPrinted, IsRefused, IsMisused, IsUnread, IsTooLong, IsCut, IsPartly, IsTried, IsUntold, GrowsBy, IsPrinting, IsRefusing, IsRefusalStatus, IsStatus};
+ghost use Rattle.cas_top.specs.Printed.{line_of};
+ghost use Rattle.cas_top.specs.Words.{command_of};
+ghost use Rattle.std.specs.Prelude.{codes};
+
+use crate::answer::perform;
+use crate::refusal::{Refusal, refuse};
+use crate::words::command_of;
+use cas_base::Text;
+use cas_outside::{Gate, Shelf, Sink};
+use std::alloc::Global;
+use std::thread::Threads;
+
+/// Does the command of these words, the words after the program's name: reads the texts that it names from
+/// `shelf`, puts what it prints on `out`, a line a put, and on `err` why it didn't, in one line. Answers the
+/// status.
+///
+/// | Status | Where |
+/// |---|---|
+/// | 0 | the command's text was put whole |
+/// | 1 | the module text isn't of the first form, or its function isn't the thread's |
+/// | 2 | the words give no command |
+/// | 3 | a name's text couldn't be read |
+/// | 4 | a put failed |
+/// | 9 | want of memory |
+/// | 12 | a text is longer than its limit |
+///
+/// The causes of 0, 1, 2 and 12 exclude each other where the shelf tells its texts (`laws::causes_exclude`), and
+/// no other status comes but 3, 4 and 9: so each of them comes exactly where its cause holds, but for a read or a
+/// put that failed and for want of memory.
+pub fn cascc<R: Threads + Sync, S: Shelf, O: Sink, E: Sink, G: Gate>(
+    _rt: &R,
+    alloc: Global,
+    words: &[Text],
+    shelf: &mut S,
+    out: &mut O,
+    err: &mut E,
+    _gate: &G,
+) -> u8
+    // The text that `out` took is that of an ended run of the machine on the code that is generated for the
+    // module, and of an interleaving of the module in which the thread has ended.
+    ensures printed { IsPrinting result →
+        IsPrinted (S.texts shelf.old) (command_of words.now) result (O.taken out.old) (O.taken out.new) }
+
+    // A refusal by the module's text, by the words, by a read that failed, and by a text's length. `err` took the
+    // line that says so.
+    ensures refused { IsRefusing result →
+        IsRefused (S.texts shelf.old) (command_of words.now) result (E.taken err.old) (E.taken err.new) }
+    ensures misused { result ≡ 2 →
+        IsMisused (command_of words.now) (E.taken err.old) (E.taken err.new) }
+    ensures unread { result ≡ 3 →
+        IsUnread (S.texts shelf.old) (command_of words.now) (S.failed shelf.old) (S.failed shelf.new) (E.taken err.old) (E.taken err.new) }
+    ensures too_long { result ≡ 12 →
+        IsTooLong (S.texts shelf.old) (command_of words.now) (E.taken err.old) (E.taken err.new) }
+
+    // A put failed: always where one of `out` did, and else only where that of a refusal's line did.
+    ensures out_failed { O.faults out.old < O.faults out.new →
+        (result ≡ 4)
+        × IsPartly (S.texts shelf.old) (command_of words.now) (O.taken out.old) (O.taken out.new)
+        × IsTried (line_of (codes "cascc: cannot write")) (E.faults err.old) (E.faults err.new) (E.taken err.old) (E.taken err.new) }
+    ensures unwritten { result ≡ 4 →
+        (O.faults out.old < O.faults out.new)
+        ⊎ ((O.taken out.new ≡ O.taken out.old)
+        × IsUntold (S.texts shelf.old) (command_of words.now) (S.failed shelf.old) (S.failed shelf.new) (E.faults err.old) (E.faults err.new) (E.taken err.old) (E.taken err.new)) }
+
+    // Want of memory.
+    ensures out_of_memory { result ≡ 9 →
+        IsTried (line_of (codes "cascc: memory")) (E.faults err.old) (E.faults err.new) (E.taken err.old) (E.taken err.new) }
+
+    // What `out` has after a put that failed or want of memory, and what stays as it was.
+    ensures cut { (result ≡ 4) ⊎ (result ≡ 9) →
+        IsCut (S.texts shelf.old) (command_of words.now) (O.taken out.old) (O.taken out.new) }
+    ensures kept { IsRefusalStatus result → O.taken out.new ≡ O.taken out.old }
+    ensures silent { IsPrinting result → E.taken err.new ≡ E.taken err.old }
+    ensures out_faults { (result ≡ 4 → ⊥) → O.faults out.new ≡ O.faults out.old }
+    ensures err_faults { IsPrinting result ⊎ IsRefusalStatus result → E.faults err.new ≡ E.faults err.old }
+    ensures failed_names { GrowsBy (S.texts shelf.old) (command_of words.now) (S.failed shelf.old) (S.failed shelf.new) result }
+    ensures same_texts { S.texts shelf.new ≡ S.texts shelf.old }
+
+    ensures known { IsStatus result }
+{
+    match command_of(words) {
+        Some(command) => match perform(alloc, command, shelf, out) {
+            Ok(()) => 0,
+            Err(refusal) => refuse(alloc, err, refusal),
+        },
+        None => refuse(alloc, err, Refusal::Usage),
+    }
+}

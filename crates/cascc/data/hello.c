@@ -1,0 +1,1 @@
+void w(int me) { print(40 + 1); }
