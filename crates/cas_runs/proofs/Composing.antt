@@ -1,9 +1,9 @@
 -- Refinements compose; a machine refines itself; and where the target names alone, each of its runs is kept, or the source is Bad before.
-use Rattle.std.proofs.Common.{◌≡◌, ℕ, ◌+◌, ◌≤◌, List, [], ◌∷◌, ◌++◌, ◌⊎◌, Option, Some, None, inl, inr, refl, sym, ap, ◌∙◌, subst, ⊎_elim, arith, append_assoc}
+use Rattle.std.proofs.Common.{◌≡◌, List, [], ◌∷◌, ◌++◌, ◌⊎◌, Option, Some, inl, inr, refl, sym, ap, ◌∙◌, subst, ⊎_elim, arith, append_assoc}
 use Rattle.cas_runs.specs.Label.{NameBytes, RunLabel, Lock, Unlock, Out, Done, Enter, Back, Call, Leave}
 use Rattle.cas_runs.specs.Edge.{Edge}
-use Rattle.cas_runs.specs.Outside.{IsAmong, first, later, MayBring}
-use Rattle.cas_runs.specs.Machine.{Act, Quiet, Says, Crosses, Locks, Hears, Bad, Stops, Saying, Unlocks, Prints, Ends, Machine, label_of, CanCross, Leads, IsBad, Block, begun, onward, Run, starts, quiet, labelled}
+use Rattle.cas_runs.specs.Outside.{MayBring}
+use Rattle.cas_runs.specs.Machine.{Act, Quiet, Says, Crosses, Locks, Hears, Bad, Stops, Saying, Unlocks, Prints, Ends, Machine, label_of, CanCross, Leads, Block, begun, Run, starts, quiet, labelled}
 use Rattle.cas_runs.specs.Refines.{Subsequence, done, keep, skip, Within, EachWithin, none, more, HasRun, BadBefore, Kept, NamedAs, IsCrossing, Refines, NamesAlone, EachKept}
 use Rattle.cas_runs.proofs.Refining.{IsQuiet, leads_not_quiet, one_state, bad_longer, Before, before_label, has_before, has_shorter, crossing_or_not, bad_or_fine}
 use Rattle.cas_runs.specs.Rules.{Proceeds}

@@ -1,8 +1,8 @@
 -- The labels of a run and the number of its quiet steps determine it.
-use Rattle.std.proofs.Common.{◌≡◌, ℕ, suc, ◌+◌, ◌≤◌, List, [], ◌∷◌, ◌++◌, length, refl, sym, ap, ◌∙◌, subst, arith, append_assoc, length-append}
+use Rattle.std.proofs.Common.{◌≡◌, ℕ, ◌+◌, List, [], ◌∷◌, ◌++◌, length, refl, sym, ap, ◌∙◌, subst, arith, append_assoc, length-append}
 use Rattle.cas_runs.specs.Label.{RunLabel}
 use Rattle.cas_runs.specs.Edge.{Edge}
-use Rattle.cas_runs.specs.Machine.{Act, Quiet, Machine, Leads, Block, begun, onward, Run, starts, quiet, labelled, quiet_steps}
+use Rattle.cas_runs.specs.Machine.{Quiet, Machine, Leads, Block, begun, onward, Run, starts, quiet, labelled, quiet_steps}
 use Rattle.cas_runs.specs.Determined.{Same}
 use Rattle.cas_runs.proofs.Refining.{IsQuiet, leads_not_quiet, leads_to_one}
 

@@ -1,15 +1,15 @@
 -- The program with both variables in one block refines the one with two blocks, though a place that crosses is the end of one and the beginning of the other.
-use Rattle.std.proofs.Common.{◌⊎◌, ◌≡◌, ℕ, zero, suc, ◌+◌, ◌-◌, ◌≤◌, List, [], ◌∷◌, ◌++◌, Option, Some, None, Bool, true, false, inl, inr, refl, sym, ap, ◌∙◌, subst, arith}
-use Rattle.std.specs.Prelude.{length, nat_eq, nat_lt, slice_get, if◌then◌else◌}
+use Rattle.std.proofs.Common.{◌⊎◌, ◌≡◌, ℕ, zero, suc, ◌+◌, ◌-◌, ◌≤◌, List, [], ◌∷◌, ◌++◌, Option, Some, None, Bool, true, false, inr, refl, sym, ap, ◌∙◌, subst, arith}
+use Rattle.std.specs.Prelude.{nat_eq, nat_lt, slice_get, if◌then◌else◌}
 use Rattle.std.proofs.lemmas.Bool.Decides.{nat_tests}
 use Rattle.cas_base.specs.declared.kind.Kind.TheVariants.{U32}
-use Rattle.cas_runs.specs.Label.{NameBytes, Shown, Word, Place, Inside, Object, Share, Held, Crossing, RunLabel, Lock, Unlock, Out, Done, Enter, Back, Call, Leave}
+use Rattle.cas_runs.specs.Label.{Shown, Word, Place, Inside, Object, Share, Crossing, RunLabel, Lock, Unlock, Out, Done, Enter, Back, Call, Leave}
 use Rattle.cas_runs.specs.Edge.{Edge, named}
 use Rattle.cas_runs.specs.Outside.{IsAmong, MayBring}
-use Rattle.cas_runs.specs.Naming.{Home, Own, Theirs, Value, Number, Pointer, Part, Named, Naming, Memory, Crossed, named_by, all_named_by, object_named_by, objects_named_by, contents_named_by, is_shown_as, part_at, first_time, taken, place_of, and_then, or_old, written, refilled, with_block, new_block, brought_one, brought}
-use Rattle.cas_runs.specs.Machine.{Act, Quiet, Says, Crosses, Locks, Hears, Bad, Stops, Prints, Ends, CanCross, IsBad, Leads, Block, onward, begun}
+use Rattle.cas_runs.specs.Naming.{Home, Own, Theirs, Value, Number, Pointer, Named, Naming, Memory, Crossed, named_by, all_named_by, objects_named_by, contents_named_by, is_shown_as, part_at, first_time, taken, place_of, and_then, or_old, written, refilled, with_block, brought_one, brought}
+use Rattle.cas_runs.specs.Machine.{Act, Quiet, Says, Crosses, Locks, Hears, Bad, Stops, CanCross, IsBad, Leads, Block, onward, begun}
 use Rattle.cas_runs.specs.Refines.{Within, done}
-use Rattle.cas_runs.specs.Simulation.{BadSoon, now, Follows, related, fails, step, FollowsBy, by, fails_before, FollowsNamed, named as named_as, fails_naming, Answers, Fine, Simulates}
+use Rattle.cas_runs.specs.Simulation.{BadSoon, now, Follows, related, fails, step, FollowsBy, by, fails_before, named as named_as, fails_naming, Answers, Fine, Simulates}
 use Rattle.cas_runs.specs.Trial.{Stage, Ready, Calling, Away, Printing, Ending, Over, Stuck, outside, if_no_share, then_away, calls, first_taken, printing, comes_back, prints_word, in_block, loaded, word_at, apart_parts, apart_memory, joined_parts, joined_memory, apart, joined}
 
 -- what both memories have: the first variable alike, and the objects of the outside

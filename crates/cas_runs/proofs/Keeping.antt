@@ -1,17 +1,17 @@
 -- The small language of critical sections keeps the rules.
-use Rattle.std.proofs.Common.{◌≡◌, ℕ, zero, suc, ◌+◌, ◌≤◌, ◌<◌, ◌^◌, List, [], ◌∷◌, Option, Some, None, refl, sym, ap, ◌∙◌, subst, arith}
+use Rattle.std.proofs.Common.{◌≡◌, ℕ, ◌≤◌, List, [], ◌∷◌, Option, Some, None, refl, sym, ap, subst}
 use Rattle.cas_base.specs.declared.kind.Kind.TheVariants.{U32}
 use Rattle.cas_runs.specs.Label.{RunLabel, Lock, Unlock, Out, Done}
-use Rattle.cas_runs.specs.Edge.{Edge, AreGuarded, IsOfKind}
+use Rattle.cas_runs.specs.Edge.{AreGuarded, IsOfKind}
 use Rattle.cas_runs.specs.Outside.{IsAmong, first, later}
-use Rattle.cas_runs.specs.Machine.{Act, Quiet, Says, Crosses, Locks, Hears, Bad, Stops, Halt, Ended, Taken, Saying, Unlocks, Prints, Ends, Machine, label_of, CanCross, Leads, Block, Run, starts, quiet, labelled}
-use Rattle.cas_runs.specs.Rules.{and_lock, without_lock, locks_after, IsShared, MaySay, MayCross, HasEnded, MayHalt, Proceeds, KeepsRules}
-use Rattle.cas_runs.specs.Sections.{Instruction, Take, Give, Load, Store, Print, Spin, Standing, At, Over, one_lock, standing, first_of_words, act_of, act_at, touched, footprint_at, sections, StoresWords}
+use Rattle.cas_runs.specs.Machine.{Quiet, Says, Crosses, Locks, Stops, Halt, Ended, Taken, Saying, Unlocks, Prints, Ends, label_of, Leads, Block, Run, starts, quiet, labelled}
+use Rattle.cas_runs.specs.Rules.{and_lock, without_lock, locks_after, IsShared, MaySay, HasEnded, MayHalt, KeepsRules}
+use Rattle.cas_runs.specs.Sections.{Instruction, Take, Give, Load, Store, Print, Spin, Standing, At, Over, one_lock, first_of_words, act_of, act_at, footprint_at, sections, StoresWords}
 
 -- what holds where the program stands, after these labels
 data Holds (ls : List RunLabel) : Standing → Type 0 where
-  free : {rest : List Instruction} {register : ℕ} → StoresWords rest → register < 2 ^ 32 → locks_after ls ≡ [] → Holds ls (At rest register None)
-  taken : {rest : List Instruction} {register w : ℕ} → StoresWords rest → register < 2 ^ 32 → w < 2 ^ 32 → locks_after ls ≡ 0 ∷ [] → Holds ls (At rest register (Some w))
+  free : {rest : List Instruction} {register : ℕ} → StoresWords rest → IsOfKind register U32 → locks_after ls ≡ [] → Holds ls (At rest register None)
+  taken : {rest : List Instruction} {register w : ℕ} → StoresWords rest → IsOfKind register U32 → IsOfKind w U32 → locks_after ls ≡ 0 ∷ [] → Holds ls (At rest register (Some w))
   over : HasEnded ls → Holds ls Over
 
 to : (ls : List RunLabel) (x y : Standing) → Holds ls x → x ≡ y → Holds ls y
@@ -38,9 +38,9 @@ quiet_holds ls x y (over h) e = absurd (cc e)
 same_locks : (ls : List RunLabel) (l k : RunLabel) (x y : Standing) → l ≡ k → Holds (l ∷ ls) x → x ≡ y → Holds (k ∷ ls) y
 same_locks ls l k x y e h f = subst (λ v. Holds (k ∷ ls) v) f (subst (λ v. Holds (v ∷ ls) x) e h)
 
-locked_holds : (ls : List RunLabel) (rest : List Instruction) (register : ℕ) → StoresWords rest → register < 2 ^ 32 → locks_after ls ≡ [] → (words : List ℕ) → AreGuarded one_lock 0 words → Holds (Lock 0 words ∷ ls) (At rest register (first_of_words words))
+locked_holds : (ls : List RunLabel) (rest : List Instruction) (register : ℕ) → StoresWords rest → IsOfKind register U32 → locks_after ls ≡ [] → (words : List ℕ) → AreGuarded one_lock 0 words → Holds (Lock 0 words ∷ ls) (At rest register (first_of_words words))
 locked_holds ls rest register s r k [] g = let none = g.kinds in absurd none
-locked_holds ls rest register s r k (w ∷ ws) g = let one = g.kinds in taken s r one.0.below (ap (λ v. and_lock 0 v) k)
+locked_holds ls rest register s r k (w ∷ ws) g = let one = g.kinds in taken s r one.0 (ap (λ v. and_lock 0 v) k)
 
 label_holds : (ls : List RunLabel) (l : RunLabel) (x y : Standing) → Holds ls x → Leads one_lock ls (act_at x) l y → Holds (l ∷ ls) y
 label_holds ls l x y (free {rest = []} s r k) e = same_locks ls Done l Over y e.0 (over refl) e.1
@@ -114,7 +114,7 @@ says_allowed ls x (taken {rest = Take ∷ rest} s r v k) saying y e = absurd (cc
 says_allowed ls x (taken {rest = Give ∷ rest} {w = w} s r v k) saying y e =
     let same : Unlocks 0 (w ∷ []) ≡ saying = cc e in
     let held : IsAmong 0 (locks_after ls) = subst (λ v. IsAmong 0 v) (sym k) first in
-    let words : AreGuarded one_lock 0 (w ∷ []) = record { is_lock = refl; kinds = (record { below = v; narrow = refl }, tt) } in
+    let words : AreGuarded one_lock 0 (w ∷ []) = record { is_lock = refl; kinds = (v, tt) } in
     subst (λ v. MaySay one_lock ls (label_of v)) same (held, words)
 says_allowed ls x (taken {rest = Load ∷ rest} s r v k) saying y e = absurd (cc e)
 says_allowed ls x (taken {rest = Store w ∷ rest} s r v k) saying y e = absurd (cc e)
@@ -174,7 +174,7 @@ halts_allowed ls x (over o) why e = subst (λ v. MayHalt ls v) (let same : Ended
 
 module _ (price : ℕ) (program : List Instruction) (words : StoresWords program) where
   holds_at : {ls : List RunLabel} {bs : List Block} {b : Block} {x : Standing} → Run one_lock (sections price program) ls bs b x → Holds ls x
-  holds_at starts = free words (omega arith) refl
+  holds_at starts = free {register = 0} words refl refl
   holds_at (quiet {ls = ls} {x = x} y r e) = quiet_holds ls x y (holds_at r) e
   holds_at (labelled {ls = ls} {x = x} l y r e) = label_holds ls l x y (holds_at r) e
 

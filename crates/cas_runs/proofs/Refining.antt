@@ -1,10 +1,10 @@
 -- A simulation gives refinement, and refinements compose.
-use Rattle.std.proofs.Common.{◌≡◌, ℕ, ◌+◌, ◌≤◌, List, [], ◌∷◌, ◌++◌, ◌⊎◌, Option, Some, None, inl, inr, refl, sym, ap, ◌∙◌, subst, ⊎_elim, arith, append_assoc}
-use Rattle.cas_runs.specs.Label.{NameBytes, RunLabel, Lock}
+use Rattle.std.proofs.Common.{◌≡◌, ℕ, List, [], ◌∷◌, ◌++◌, ◌⊎◌, Option, Some, inl, inr, refl, sym, ap, ◌∙◌, subst, ⊎_elim, arith}
+use Rattle.cas_runs.specs.Label.{RunLabel, Lock}
 use Rattle.cas_runs.specs.Edge.{Edge}
 use Rattle.cas_runs.specs.Outside.{IsAmong, first, later}
 use Rattle.cas_runs.specs.Machine.{Act, Quiet, Says, Crosses, Locks, Hears, Bad, Stops, Machine, label_of, CanCross, Leads, IsBad, Block, begun, onward, Run, starts, quiet, labelled}
-use Rattle.cas_runs.specs.Refines.{Subsequence, done, keep, skip, Within, EachWithin, none, more, HasRun, BadBefore, Kept, NamedAs, IsCrossing, Refines, NamesAlone, EachKept}
+use Rattle.cas_runs.specs.Refines.{Within, EachWithin, none, more, HasRun, BadBefore, Kept, NamedAs, IsCrossing, Refines}
 use Rattle.cas_runs.specs.Simulation.{BadSoon, now, soon, Follows, related, fails, step, FollowsBy, by, fails_before, step_before, NamesEach, FollowsNamed, named, fails_naming, step_naming, Answers, Fine, Simulates}
 
 pub among_front : (w : ℕ) (xs ys : List ℕ) → IsAmong w xs → IsAmong w (xs ++ ys)

@@ -1,11 +1,12 @@
 -- What the definitions refuse.
-use Rattle.std.proofs.Common.{◌≡◌, ℕ, zero, suc, ◌+◌, ◌≤◌, ◌<◌, ◌^◌, List, [], ◌∷◌, ◌++◌, ◌⊎◌, Option, Some, None, inl, inr, refl, sym, ap, ◌∙◌, subst, ⊎_elim, arith}
+use Rattle.std.proofs.Common.{◌≡◌, ℕ, zero, suc, ◌+◌, ◌≤◌, List, [], ◌∷◌, ◌++◌, ◌⊎◌, Some, None, inl, inr, refl, sym, subst, ⊎_elim, arith}
+use Rattle.cas_base.specs.declared.kind.Kind.TheVariants.{U32}
 use Rattle.cas_runs.specs.Label.{RunLabel, Lock, Unlock, Out}
 use Rattle.cas_runs.specs.Edge.{Edge, AreGuarded, IsOfKind}
-use Rattle.cas_runs.specs.Machine.{Act, Quiet, Says, Crosses, Locks, Hears, Bad, Stops, Saying, Unlocks, Prints, Machine, label_of, Leads, IsBad, Block, begun, onward, Run, starts, quiet, labelled, quiet_now}
-use Rattle.cas_runs.specs.Refines.{HasRun, BadBefore, PaysMore, Kept, IsCrossing, Refines}
+use Rattle.cas_runs.specs.Machine.{Act, Quiet, Says, Crosses, Locks, Hears, Bad, Stops, Machine, Leads, IsBad, Block, begun, onward, Run, starts, quiet, labelled, quiet_now}
+use Rattle.cas_runs.specs.Refines.{HasRun, BadBefore, PaysMore, Refines}
 use Rattle.cas_runs.specs.Sections.{Instruction, Take, Give, Load, Store, Print, Spin, Standing, one_lock, standing, sections}
-use Rattle.cas_runs.proofs.Refining.{IsQuiet, leads_not_quiet, one_state, bad_longer, before_label}
+use Rattle.cas_runs.proofs.Refining.{IsQuiet, leads_not_quiet, one_state, before_label}
 
 -- No step of a target is free, so the quiet steps of a block are fewer than what the source pays.
 
@@ -74,8 +75,8 @@ took w = Lock 0 (w ∷ [])
 abbrev gave : ℕ → RunLabel
 gave w = Unlock 0 (w ∷ [])
 
-guarded_word : (w : ℕ) → w < 2 ^ 32 → AreGuarded one_lock 0 (w ∷ [])
-guarded_word w h = record { is_lock = refl; kinds = (record { below = h; narrow = refl }, tt) }
+guarded_word : (w : ℕ) → IsOfKind w U32 → AreGuarded one_lock 0 (w ∷ [])
+guarded_word w h = record { is_lock = refl; kinds = (h, tt) }
 
 abbrev storing : List Instruction
 storing = Take ∷ Store 1 ∷ Give ∷ []
@@ -113,9 +114,9 @@ dropped_store p q h =
     let t = sections q not_storing in
     let s = sections p storing in
     let ls : List RunLabel = took 0 ∷ [] in
-    let locked : Comes one_lock t ls (standing (Give ∷ []) 0 (Some 0)) = comes_by one_lock t [] (took 0) (standing not_storing 0 None) (standing (Give ∷ []) 0 (Some 0)) (comes_first one_lock t) (0 ∷ [], refl, guarded_word 0 (omega arith), refl) in
+    let locked : Comes one_lock t ls (standing (Give ∷ []) 0 (Some 0)) = comes_by one_lock t [] (took 0) (standing not_storing 0 None) (standing (Give ∷ []) 0 (Some 0)) (comes_first one_lock t) (0 ∷ [], refl, guarded_word 0 refl, refl) in
     let first : Comes one_lock s [] (standing storing 0 None) = comes_first one_lock s in
-    let begins : Comes one_lock s ls (standing (Store 1 ∷ Give ∷ []) 0 (Some 0)) = comes_by one_lock s [] (took 0) (standing storing 0 None) (standing (Store 1 ∷ Give ∷ []) 0 (Some 0)) first (0 ∷ [], refl, guarded_word 0 (omega arith), refl) in
+    let begins : Comes one_lock s ls (standing (Store 1 ∷ Give ∷ []) 0 (Some 0)) = comes_by one_lock s [] (took 0) (standing storing 0 None) (standing (Store 1 ∷ Give ∷ []) 0 (Some 0)) first (0 ∷ [], refl, guarded_word 0 refl, refl) in
     let stored : Comes one_lock s ls (standing (Give ∷ []) 0 (Some 1)) = comes_on one_lock s ls (standing (Store 1 ∷ Give ∷ []) 0 (Some 0)) (standing (Give ∷ []) 0 (Some 1)) begins refl in
     ⊎_elim
     (λ b. ⊎_elim (not_bad one_lock s ls (standing (Give ∷ []) 0 (Some 1)) stored (λ q. q) (λ q. q))
@@ -141,7 +142,7 @@ module _ (p : ℕ) (rest : List Instruction) where
   at_first = comes_first one_lock twice
 
   at_load : Comes one_lock twice (took 0 ∷ []) (standing (Load ∷ Give ∷ Take ∷ rest) 0 (Some 0))
-  at_load = comes_by one_lock twice [] (took 0) (standing (Take ∷ Load ∷ Give ∷ Take ∷ rest) 0 None) (standing (Load ∷ Give ∷ Take ∷ rest) 0 (Some 0)) at_first (0 ∷ [], refl, guarded_word 0 (omega arith), refl)
+  at_load = comes_by one_lock twice [] (took 0) (standing (Take ∷ Load ∷ Give ∷ Take ∷ rest) 0 None) (standing (Load ∷ Give ∷ Take ∷ rest) 0 (Some 0)) at_first (0 ∷ [], refl, guarded_word 0 refl, refl)
 
   at_give : Comes one_lock twice (took 0 ∷ []) (standing (Give ∷ Take ∷ rest) 0 (Some 0))
   at_give = comes_on one_lock twice (took 0 ∷ []) (standing (Load ∷ Give ∷ Take ∷ rest) 0 (Some 0)) (standing (Give ∷ Take ∷ rest) 0 (Some 0)) at_load refl
@@ -150,7 +151,7 @@ module _ (p : ℕ) (rest : List Instruction) where
   at_take = comes_by one_lock twice (took 0 ∷ []) (gave 0) (standing (Give ∷ Take ∷ rest) 0 (Some 0)) (standing (Take ∷ rest) 0 None) at_give (refl, refl)
 
   at_rest : Comes one_lock twice (took 1 ∷ gave 0 ∷ took 0 ∷ []) (standing rest 0 (Some 1))
-  at_rest = comes_by one_lock twice (gave 0 ∷ took 0 ∷ []) (took 1) (standing (Take ∷ rest) 0 None) (standing rest 0 (Some 1)) at_take (1 ∷ [], refl, guarded_word 1 (omega arith), refl)
+  at_rest = comes_by one_lock twice (gave 0 ∷ took 0 ∷ []) (took 1) (standing (Take ∷ rest) 0 None) (standing rest 0 (Some 1)) at_take (1 ∷ [], refl, guarded_word 1 refl, refl)
 
 pub kept_word : (p q : ℕ) → Refines one_lock (sections q not_reading) (sections p reading) → ⊥
 kept_word p q h =

@@ -1,11 +1,9 @@
 -- Refinements of units, of functions and of threads compose.
-use Rattle.std.proofs.Common.{◌≡◌, ℕ, List, [], ◌∷◌, sym, ap, ◌∙◌, subst}
-use Rattle.cas_base.specs.declared.decl.Decl.{Decl}
-use Rattle.cas_base.specs.declared.decl.Global.{Global}
+use Rattle.std.proofs.Common.{ℕ, List, sym, ◌∙◌, subst}
 use Rattle.cas_base.specs.declared.decl.Unit.{Unit as UnitOf}
 use Rattle.cas_runs.specs.Label.{NameBytes}
 use Rattle.cas_runs.specs.Edge.{Edge}
-use Rattle.cas_runs.specs.Unit.{FirstWord, Setting, laid_out, Language, IsLayout, FitsUnit, FitsFunction, UnitRefines, FunctionRefines, ThreadRefines}
+use Rattle.cas_runs.specs.Unit.{FirstWord, laid_out, Language, FitsUnit, FitsFunction, UnitRefines, FunctionRefines, ThreadRefines}
 use Rattle.cas_runs.proofs.Composing.{refines_both}
 
 module _ {F G H T S R : Type 0} (lt : Language F T) (ls : Language G S) (lr : Language H R) where

@@ -1,10 +1,10 @@
 -- What stands at the edge of a unit: the words by number, and the functions by name.
-use Rattle.std.specs.Prelude.{◌≡◌, ℕ, ◌+◌, ◌^◌, ◌<◌, ◌≤◌, nat_eq, Bool, true, false, List, [], ◌∷◌, length, Option, Some, None, slice_get, if◌then◌else◌}
-use Rattle.cas_base.specs.Word.{narrowed}
+use Rattle.std.specs.Prelude.{◌≡◌, ℕ, ◌<◌, ◌≤◌, nat_eq, Bool, true, false, IsTrue, List, [], ◌∷◌, Option, Some, None, slice_get, if◌then◌else◌}
+use Rattle.cas_base.specs.Kind.{is_of_kind}
 use Rattle.cas_base.specs.declared.kind.Kind.{Kind}
 use Rattle.cas_base.specs.declared.kind.Ty.{Ty}
 use Rattle.cas_base.specs.declared.kind.Ty.TheVariants.{Void, Int, Ptr, Array}
-use Rattle.cas_runs.specs.Label.{NameBytes, Shown, Word, Place, Object, Held, Share}
+use Rattle.cas_runs.specs.Label.{NameBytes, Shown, Word, Place, Object, Share}
 
 -- what a word is: a lock, a shared word with its kind and the lock that guards it, if its guard is a lock, or a word of a table of constants
 pub data Cell : Type 0 where
@@ -26,13 +26,8 @@ pub record Edge : Type 0 where
   pub functions : List Signature
 
 -- the word is a value of the kind
-pub record IsOfKind (word : ℕ) (kind : Kind) : Type 0 where
-  pub below : word < 2 ^ 32
-  pub narrow : narrowed word kind ≡ word
-
-abbrev pub AreOfKind : List ℕ → Kind → Type 0
-AreOfKind [] kind = Unit {0}
-AreOfKind (w ∷ ws) kind = IsOfKind w kind × AreOfKind ws kind
+abbrev pub IsOfKind : ℕ → Kind → Type 0
+IsOfKind word kind = IsTrue (is_of_kind word kind)
 
 -- the kind of a word that this lock guards
 abbrev pub kind_under : Option ℕ → ℕ → Kind → Option Kind

@@ -1,8 +1,8 @@
 -- What the outside may bring, after the labels of a run so far. It rests on labels alone, and on no language.
 use Rattle.std.specs.Prelude.{◌≡◌, ℕ, ◌+◌, nat_eq, nat_lt, true, List, [], ◌∷◌, length, Option, Some, None, if◌then◌else◌}
 use Rattle.cas_base.specs.declared.kind.Kind.{Kind}
-use Rattle.cas_runs.specs.Label.{NameBytes, Shown, Word, Place, Inside, Outside, Object, Share, Crossing, RunLabel, Lock, Unlock, Out, Done, Enter, Back, Call, Leave, locks_of}
-use Rattle.cas_runs.specs.Edge.{Signature, Edge, IsOfKind, AreGuarded, IsShare, AreOfTypes, returned, signature_of}
+use Rattle.cas_runs.specs.Label.{NameBytes, Shown, Word, Place, Outside, Object, Crossing, RunLabel, Lock, Unlock, Out, Done, Enter, Back, Call, Leave, locks_of}
+use Rattle.cas_runs.specs.Edge.{Signature, Edge, IsOfKind, IsShare, AreOfTypes, returned, signature_of}
 
 -- a call or an entry that hasn't returned yet
 pub data Pending : Type 0 where

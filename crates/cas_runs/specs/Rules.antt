@@ -1,8 +1,9 @@
 -- The rules that each language's machine keeps, whatever the unit does: what would break them is Bad, or has no next step.
-use Rattle.std.specs.Prelude.{◌≡◌, ℕ, ◌^◌, ◌<◌, ◌≤◌, nat_eq, nat_lt, List, [], ◌∷◌, length, Option, Some, None, slice_get, if◌then◌else◌}
+use Rattle.std.specs.Prelude.{◌≡◌, ℕ, ◌≤◌, nat_eq, nat_lt, List, [], ◌∷◌, length, Option, Some, None, slice_get, if◌then◌else◌}
 use Rattle.cas_base.specs.declared.kind.Kind.{Kind}
+use Rattle.cas_base.specs.declared.kind.Kind.TheVariants.{U32}
 use Rattle.cas_runs.specs.Label.{NameBytes, Shown, Inside, Object, Crossing, RunLabel, Lock, Unlock, Out, Done, Enter, Back, Call, Leave, locks_of}
-use Rattle.cas_runs.specs.Edge.{SharedWord, Edge, AreGuarded, IsShare}
+use Rattle.cas_runs.specs.Edge.{SharedWord, Edge, IsOfKind, AreGuarded, IsShare}
 use Rattle.cas_runs.specs.Outside.{Pending, Entered, IsAmong, pending, crossed}
 use Rattle.cas_runs.specs.Machine.{Says, Crosses, Locks, Stops, Halt, Ended, Taken, Full, Machine, Saying, label_of, CanCross, Block, Run}
 
@@ -81,7 +82,7 @@ pub record IsReturn (before : List RunLabel) : Type 0 where
 -- a label that the unit may say after these. An Unlock is of a lock in the share, and carries the values of its words
 abbrev pub MaySay : Edge → List RunLabel → RunLabel → Type 0
 MaySay edge before (Unlock l words) = IsAmong l (locks_after before) × AreGuarded edge l words
-MaySay edge before (Out w) = w < 2 ^ 32
+MaySay edge before (Out w) = IsOfKind w U32
 MaySay edge before Done = Unit {0}
 MaySay edge before (Lock l words) = ⊥
 MaySay edge before (Enter f crossing) = ⊥

@@ -1,7 +1,7 @@
 -- A small language of critical sections, on which what the definitions refuse is shown: one lock, the one word that it guards, and a register.
-use Rattle.std.specs.Prelude.{ℕ, ◌^◌, ◌<◌, List, [], ◌∷◌, Option, Some, None}
+use Rattle.std.specs.Prelude.{ℕ, List, [], ◌∷◌, Option, Some, None}
 use Rattle.cas_base.specs.declared.kind.Kind.TheVariants.{U32}
-use Rattle.cas_runs.specs.Edge.{Edge, LockWord, SharedWord}
+use Rattle.cas_runs.specs.Edge.{Edge, LockWord, SharedWord, IsOfKind}
 use Rattle.cas_runs.specs.Machine.{Act, Quiet, Says, Locks, Bad, Stops, Taken, Ended, Unlocks, Prints, Ends, Footprint, Machine}
 
 pub data Instruction : Type 0 where
@@ -78,7 +78,7 @@ sections price program = record { start = standing program 0 None; act = act_at;
 -- what the program stores are words
 abbrev pub StoresWords : List Instruction → Type 0
 StoresWords [] = Unit {0}
-StoresWords (Store word ∷ rest) = (word < 2 ^ 32) × StoresWords rest
+StoresWords (Store word ∷ rest) = IsOfKind word U32 × StoresWords rest
 StoresWords (Take ∷ rest) = StoresWords rest
 StoresWords (Give ∷ rest) = StoresWords rest
 StoresWords (Load ∷ rest) = StoresWords rest

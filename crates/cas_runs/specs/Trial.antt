@@ -2,11 +2,10 @@
 -- stands at the place that comes back. Its variables are blocks of their own, or one block.
 use Rattle.std.specs.Prelude.{ℕ, nat_eq, List, [], ◌∷◌, Option, Some, None, slice_get, if◌then◌else◌}
 use Rattle.cas_base.specs.declared.kind.Kind.TheVariants.{U32}
-use Rattle.cas_base.specs.declared.kind.Ty.TheVariants.{Void, Ptr}
-use Rattle.cas_runs.specs.Label.{NameBytes, Shown, Word, Place, Share, Held, Crossing, RunLabel, Lock, Unlock, Out, Done, Enter, Back, Call, Leave}
-use Rattle.cas_runs.specs.Edge.{Edge, Signature, named}
-use Rattle.cas_runs.specs.Naming.{Home, Own, Theirs, Value, Number, Pointer, Part, Named, Naming, Memory, Crossed, all_named_by, objects_named_by, taken, and_then, brought}
-use Rattle.cas_runs.specs.Machine.{Act, Quiet, Says, Crosses, Hears, Bad, Stops, Ended, Saying, Prints, Ends, Footprint, Machine}
+use Rattle.cas_runs.specs.Label.{NameBytes, Shown, Share, RunLabel, Lock, Unlock, Out, Done, Enter, Back, Call, Leave}
+use Rattle.cas_runs.specs.Edge.{named}
+use Rattle.cas_runs.specs.Naming.{Home, Own, Theirs, Value, Number, Pointer, Part, Naming, Memory, Crossed, all_named_by, objects_named_by, taken, and_then, brought}
+use Rattle.cas_runs.specs.Machine.{Act, Quiet, Says, Crosses, Hears, Bad, Stops, Ended, Prints, Ends, Machine}
 
 -- where the program stands
 pub data Stage : Type 0 where

@@ -1,8 +1,7 @@
 -- Refinement of units, of functions and of threads, in any two languages of the compiler.
-use Rattle.std.specs.Prelude.{◌≡◌, ℕ, ◌+◌, ◌<◌, ◌≤◌, Bool, true, false, ◌&&◌, if◌then◌else◌, List, [], ◌∷◌, length, map, Option, Some, None, slice_get, ◌⊎◌}
+use Rattle.std.specs.Prelude.{◌≡◌, ℕ, ◌+◌, ◌<◌, ◌≤◌, Bool, true, false, ◌&&◌, if◌then◌else◌, List, [], ◌∷◌, Option, Some, None, slice_get, ◌⊎◌}
 use Rattle.cas_base.specs.declared.kind.Ty.{Ty}
 use Rattle.cas_base.specs.declared.kind.Ty.TheVariants.{Void, Int, Ptr, Array}
-use Rattle.cas_base.specs.declared.kind.Kind.{Kind}
 use Rattle.cas_base.specs.declared.decl.Decl.{Decl}
 use Rattle.cas_base.specs.declared.decl.Form.{Form}
 use Rattle.cas_base.specs.declared.decl.Form.TheVariants.{Lock, Shared, Table, Function}
@@ -10,7 +9,6 @@ use Rattle.cas_base.specs.declared.decl.Global.{Global}
 use Rattle.cas_base.specs.declared.decl.Unit.{Unit as UnitOf}
 use Rattle.cas_runs.specs.Label.{NameBytes}
 use Rattle.cas_runs.specs.Edge.{Cell, LockWord, SharedWord, TableWord, Signature, Edge, signature_of, named, IsOfKind}
-use Rattle.cas_runs.specs.Outside.{IsAmong}
 use Rattle.cas_runs.specs.Naming.{Layout, Part, ArePlaced}
 use Rattle.cas_runs.specs.Machine.{Machine}
 use Rattle.cas_runs.specs.Refines.{Refines}
