@@ -3,8 +3,8 @@ use Rattle.std.proofs.Common.{◌≡◌, List, [], ◌∷◌, ◌++◌, ◌⊎�
 use Rattle.cas_runs.specs.Label.{NameBytes, RunLabel, Lock, Unlock, Out, Done, Enter, Back, Call, Leave}
 use Rattle.cas_runs.specs.Edge.{Edge}
 use Rattle.cas_runs.specs.Outside.{MayBring}
-use Rattle.cas_runs.specs.Machine.{Act, Quiet, Says, Crosses, Locks, Hears, Bad, Stops, Saying, Unlocks, Prints, Ends, Machine, label_of, CanCross, Leads, Block, begun, Run, starts, quiet, labelled}
-use Rattle.cas_runs.specs.Refines.{Subsequence, done, keep, skip, Within, EachWithin, none, more, HasRun, BadBefore, Kept, NamedAs, IsCrossing, Refines, NamesAlone, EachKept}
+use Rattle.cas_runs.specs.Machine.{Act, Quiet, Says, Crosses, Locks, Hears, Bad, Stops, Halt, Ended, Taken, Full, Saying, Unlocks, Prints, Ends, Machine, label_of, CanCross, Leads, Block, begun, Run, starts, quiet, labelled}
+use Rattle.cas_runs.specs.Refines.{HaltsToo, Subsequence, done, keep, skip, Within, EachWithin, none, more, HasRun, BadBefore, Kept, NamedAs, IsCrossing, Refines, NamesAlone, EachKept}
 use Rattle.cas_runs.proofs.Refining.{IsQuiet, leads_not_quiet, one_state, bad_longer, Before, before_label, has_before, has_shorter, crossing_or_not, bad_or_fine}
 use Rattle.cas_runs.specs.Rules.{Proceeds}
 
@@ -121,11 +121,17 @@ module _ {T S R : Type 0} (edge : Edge) (t : Machine T) (s : Machine S) (r : Mac
       let before = before_label edge s l ls m.run refl in
       k.follows ls before.blocks before.block before.at before.run has (λ c. n (crosses_by edge ls (s.act before.at) l before.to before.leads c)) l before.to before.leads
 
+  halts_both : (ls : List RunLabel) → HasRun edge r ls → (why : Halt) → HaltsToo edge s ls why → BadBefore edge r ls ⊎ HaltsToo edge r ls why
+  halts_both ls has Ended m = k.halts ls m.blocks m.block m.at m.run has Ended m.stops
+  halts_both ls has (Taken lock) m = k.halts ls m.blocks m.block m.at m.run has (Taken lock) m.stops
+  halts_both ls has Full m = inr tt
+
   pub refines_both : Refines edge t r
   refines_both = record {
     kept = λ ls bs b x run has. ⊎_elim inl (λ m. ⊎_elim inl (kept_both ls bs b x has) (either ls has (h.kept ls bs b x run m))) (middle run has);
     follows = λ ls bs b x run has n l x' e. ⊎_elim inl (λ m. ⊎_elim inl (λ o. follows_both ls has l (not_crossing edge ls (t.act x) l x' e n) o) (either ls has (h.follows ls bs b x run m n l x' e))) (middle run has);
     names = λ ls bs b x run has next e. ⊎_elim inl (λ m. ⊎_elim inl (named_both ls next has) (either ls has (h.names ls bs b x run m next e))) (middle run has);
+    halts = λ ls bs b x run has why e. ⊎_elim inl (λ m. ⊎_elim inl (halts_both ls has why) (either ls has (h.halts ls bs b x run m why e))) (middle run has);
   }
 
 -- Where each Call and Leave of the target has one label, each of its runs is kept.
@@ -174,6 +180,11 @@ module _ {S : Type 0} (edge : Edge) (m : Machine S) (rules : Proceeds m) where
       (λ h. inr (record { s_blocks = bs; s_block = b; s_at = x; run = run; fine = h; costs = rules.costs x; within = each_same bs; within_now = within_same b; opened = sub_same (m.open_functions x) }))
       (bad_or_fine (m.act x))
 
+  halts_itself : (ls : List RunLabel) (bs : List Block) (b : Block) (x : S) → Run edge m ls bs b x → (why : Halt) → m.act x ≡ Stops why → HaltsToo edge m ls why
+  halts_itself ls bs b x run Ended e = record { blocks = bs; block = b; at = x; run = run; stops = e }
+  halts_itself ls bs b x run (Taken lock) e = record { blocks = bs; block = b; at = x; run = run; stops = e }
+  halts_itself ls bs b x run Full e = tt
+
   pub refines_itself : Refines edge m m
   refines_itself = record {
     kept = λ ls bs b x run has. kept_same ls bs b x run;
@@ -181,4 +192,5 @@ module _ {S : Type 0} (edge : Edge) (m : Machine S) (rules : Proceeds m) where
     names = λ ls bs b x run has next e.
         let some = rules.named x next e in
         inr (record { blocks = bs; block = b; at = x; run = run; s_next = next; crosses = e; some_label = some.0; some_next = some.1; can_cross = some.2; names = some.3; each = λ l y v h. (y, h) });
+    halts = λ ls bs b x run has why e. inr (halts_itself ls bs b x run why e);
   }

@@ -7,9 +7,9 @@ use Rattle.cas_runs.specs.Label.{Shown, Word, Place, Inside, Object, Share, Cros
 use Rattle.cas_runs.specs.Edge.{Edge, named}
 use Rattle.cas_runs.specs.Outside.{IsAmong, MayBring}
 use Rattle.cas_runs.specs.Naming.{Home, Own, Theirs, Value, Number, Pointer, Named, Naming, Memory, Crossed, named_by, all_named_by, objects_named_by, contents_named_by, is_shown_as, part_at, first_time, taken, place_of, and_then, or_old, written, refilled, with_block, brought_one, brought}
-use Rattle.cas_runs.specs.Machine.{Act, Quiet, Says, Crosses, Locks, Hears, Bad, Stops, CanCross, IsBad, Leads, Block, onward, begun}
+use Rattle.cas_runs.specs.Machine.{Act, Quiet, Says, Crosses, Locks, Hears, Bad, Stops, Ended, Taken, Full, CanCross, IsBad, Leads, Block, onward, begun}
 use Rattle.cas_runs.specs.Refines.{Within, done}
-use Rattle.cas_runs.specs.Simulation.{BadSoon, now, Follows, related, fails, step, FollowsBy, by, fails_before, named as named_as, fails_naming, Answers, Fine, Simulates}
+use Rattle.cas_runs.specs.Simulation.{halts, fails_halting, BadSoon, now, Follows, related, fails, step, FollowsBy, by, fails_before, named as named_as, fails_naming, Answers, Fine, Simulates}
 use Rattle.cas_runs.specs.Trial.{Stage, Ready, Calling, Away, Printing, Ending, Over, Stuck, outside, if_no_share, then_away, calls, first_taken, printing, comes_back, prints_word, in_block, loaded, word_at, apart_parts, apart_memory, joined_parts, joined_memory, apart, joined}
 
 -- what both memories have: the first variable alike, and the objects of the outside
@@ -213,7 +213,9 @@ module _ (edge : Edge) (a b : ℕ) where
   bad_answers ls (Locks l n) c y d h = λ ws g. fails_before h
   bad_answers ls (Hears n) c y d h = λ l m. fails_before h
   bad_answers ls Bad c y d h = now h
-  bad_answers ls (Stops w) c y d h = tt
+  bad_answers ls (Stops Ended) c y d h = fails_halting h
+  bad_answers ls (Stops (Taken lock)) c y d h = fails_halting h
+  bad_answers ls (Stops Full) c y d h = tt
 
   -- by a Call
   abbrev FollowsAt : List RunLabel → RunLabel → Stage → Option Stage → Type 0
@@ -311,7 +313,7 @@ module _ (edge : Edge) (a b : ℕ) where
   answers_of ls x c y d (away {ns = ns} {t = t} {s = s} h known alike) = hears_too ls ns t s known alike
   answers_of ls x c y d (prints {t = t} {s = s} {at = at} h k alike) = prints_too ls c d s at (loaded s at) (loaded t at) refl (loads_too t s alike at k)
   answers_of ls x c y d (ending h) = by Over (refl, refl) (related (over (small_begun Over Over)))
-  answers_of ls x c y d (over h) = tt
+  answers_of ls x c y d (over h) = halts refl
   answers_of ls x c y d (stuck h) = now tt
 
   fine_small : (x y : Stage) (c d : Block) → Small c d → BadSoon (apart a b) y ⊎ Fine edge (joined a b) (apart a b) Rel x c y d

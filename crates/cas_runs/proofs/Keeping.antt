@@ -1,8 +1,9 @@
 -- The small language of critical sections keeps the rules.
+use Rattle.std.specs.Prelude.{slice_get}
 use Rattle.std.proofs.Common.{◌≡◌, ℕ, ◌≤◌, List, [], ◌∷◌, Option, Some, None, refl, sym, ap, subst}
 use Rattle.cas_base.specs.declared.kind.Kind.TheVariants.{U32}
 use Rattle.cas_runs.specs.Label.{RunLabel, Lock, Unlock, Out, Done}
-use Rattle.cas_runs.specs.Edge.{AreGuarded, IsOfKind}
+use Rattle.cas_runs.specs.Edge.{LockWord, AreGuarded, IsOfKind}
 use Rattle.cas_runs.specs.Outside.{IsAmong, first, later}
 use Rattle.cas_runs.specs.Machine.{Quiet, Says, Crosses, Locks, Stops, Halt, Ended, Taken, Saying, Unlocks, Prints, Ends, label_of, Leads, Block, Run, starts, quiet, labelled}
 use Rattle.cas_runs.specs.Rules.{and_lock, without_lock, locks_after, IsShared, MaySay, HasEnded, MayHalt, KeepsRules}
@@ -172,6 +173,20 @@ halts_allowed ls x (taken {rest = Print ∷ rest} s r v k) why e = absurd (cc e)
 halts_allowed ls x (taken {rest = Spin ∷ rest} s r v k) why e = absurd (cc e)
 halts_allowed ls x (over o) why e = subst (λ v. MayHalt ls v) (let same : Ended ≡ why = cc e in same) o
 
+takes_lock : (x : Standing) → (lock : ℕ) (next : List ℕ → Standing) → act_at x ≡ Locks lock next → slice_get one_lock.cells lock ≡ Some LockWord
+takes_lock (At [] register held) lock next e = absurd (cc e)
+takes_lock (At (Take ∷ rest) register None) lock next e = subst (λ v. slice_get one_lock.cells v ≡ Some LockWord) (let same : 0 ≡ lock = cc e in same) refl
+takes_lock (At (Take ∷ rest) register (Some w)) lock next e = absurd (cc e)
+takes_lock (At (Give ∷ rest) register None) lock next e = absurd (cc e)
+takes_lock (At (Give ∷ rest) register (Some w)) lock next e = absurd (cc e)
+takes_lock (At (Load ∷ rest) register None) lock next e = absurd (cc e)
+takes_lock (At (Load ∷ rest) register (Some w)) lock next e = absurd (cc e)
+takes_lock (At (Store u ∷ rest) register None) lock next e = absurd (cc e)
+takes_lock (At (Store u ∷ rest) register (Some w)) lock next e = absurd (cc e)
+takes_lock (At (Print ∷ rest) register held) lock next e = absurd (cc e)
+takes_lock (At (Spin ∷ rest) register held) lock next e = absurd (cc e)
+takes_lock Over lock next e = absurd (cc e)
+
 module _ (price : ℕ) (program : List Instruction) (words : StoresWords program) where
   holds_at : {ls : List RunLabel} {bs : List Block} {b : Block} {x : Standing} → Run one_lock (sections price program) ls bs b x → Holds ls x
   holds_at starts = free {register = 0} words refl refl
@@ -188,7 +203,7 @@ sections_keep price program p words = record {
   reads = λ ls bs b x r. reads_shared ls x (holds_at price program words r);
   writes = λ ls bs b x r. writes_shared ls x (holds_at price program words r);
   says = λ ls bs b x r. says_allowed ls x (holds_at price program words r);
-  locks = λ ls bs b x r. locks_free ls x (holds_at price program words r);
+  locks = λ ls bs b x r lock next e. (takes_lock x lock next e, locks_free ls x (holds_at price program words r) lock next e);
   crosses = λ ls bs b x r next e. absurd (not_crossing price program words x next e);
   halts = λ ls bs b x r. halts_allowed ls x (holds_at price program words r);
 }

@@ -3,9 +3,9 @@ use Rattle.std.proofs.Common.{◌≡◌, ℕ, List, [], ◌∷◌, ◌++◌, ◌
 use Rattle.cas_runs.specs.Label.{RunLabel, Lock}
 use Rattle.cas_runs.specs.Edge.{Edge}
 use Rattle.cas_runs.specs.Outside.{IsAmong, first, later}
-use Rattle.cas_runs.specs.Machine.{Act, Quiet, Says, Crosses, Locks, Hears, Bad, Stops, Machine, label_of, CanCross, Leads, IsBad, Block, begun, onward, Run, starts, quiet, labelled}
-use Rattle.cas_runs.specs.Refines.{Within, EachWithin, none, more, HasRun, BadBefore, Kept, NamedAs, IsCrossing, Refines}
-use Rattle.cas_runs.specs.Simulation.{BadSoon, now, soon, Follows, related, fails, step, FollowsBy, by, fails_before, step_before, NamesEach, FollowsNamed, named, fails_naming, step_naming, Answers, Fine, Simulates}
+use Rattle.cas_runs.specs.Machine.{Act, Quiet, Says, Crosses, Locks, Hears, Bad, Stops, Halt, Ended, Taken, Full, Machine, label_of, CanCross, Leads, IsBad, Block, begun, onward, Run, starts, quiet, labelled}
+use Rattle.cas_runs.specs.Refines.{Halted, HaltsToo, Within, EachWithin, none, more, HasRun, BadBefore, Kept, NamedAs, IsCrossing, Refines}
+use Rattle.cas_runs.specs.Simulation.{HaltsSoon, halts, fails_halting, step_halting, StopsToo, BadSoon, now, soon, Follows, related, fails, step, FollowsBy, by, fails_before, step_before, NamesEach, FollowsNamed, named, fails_naming, step_naming, Answers, Fine, Simulates}
 
 pub among_front : (w : ℕ) (xs ys : List ℕ) → IsAmong w xs → IsAmong w (xs ++ ys)
 among_front w xs ys first = first
@@ -158,6 +158,19 @@ bad_or_fine (Locks k n) = inr (λ h. h)
 bad_or_fine (Hears n) = inr (λ h. h)
 bad_or_fine (Stops w) = inr (λ h. h)
 
+-- The source halts too.
+
+module _ {S : Type 0} (edge : Edge) (s : Machine S) where
+  halts_soon : (ls : List RunLabel) (cs : List Block) (why : Halt) (c : Block) (y : S) → Run edge s ls cs c y → HaltsSoon s why y → BadBefore edge s ls ⊎ Halted edge s ls why
+  halts_soon ls cs why c y r (halts e) = inr (record { blocks = cs; block = c; at = y; run = r; stops = e })
+  halts_soon ls cs why c y r (fails_halting b) = inl (bad_before edge s ls cs c y r (now b))
+  halts_soon ls cs why c y r (step_halting y' e h) = halts_soon ls cs why (onward s c y') y' (quiet y' r e) h
+
+  halted : (ls : List RunLabel) (cs : List Block) (c : Block) (y : S) → Run edge s ls cs c y → (why : Halt) → StopsToo s why y → BadBefore edge s ls ⊎ HaltsToo edge s ls why
+  halted ls cs c y r Ended h = halts_soon ls cs Ended c y r h
+  halted ls cs c y r (Taken lock) h = halts_soon ls cs (Taken lock) c y r h
+  halted ls cs c y r Full h = inr tt
+
 -- The law.
 
 module _ {T S : Type 0} (edge : Edge) (t : Machine T) (s : Machine S) (Related : List RunLabel → T → Block → S → Block → Type 0) where
@@ -282,9 +295,15 @@ module _ {T S : Type 0} (edge : Edge) (t : Machine T) (s : Machine S) (Related :
         (naming_of ls bs k.blocks b next k.block k.at k.run k.within f.within (follows_crossing ls (t.act x) next b k.at k.block (sim.answers ls x b k.at k.block k.related) e)))
         (sim.fine ls x b k.at k.block k.related)
 
+    halts_of : (ls : List RunLabel) (bs : List Block) (b : Block) (x : T) (why : Halt) → t.act x ≡ Stops why → Linked ls bs b x → BadBefore edge s ls ⊎ HaltsToo edge s ls why
+    halts_of ls bs b x why e k =
+        let P : Act T → Type 0 = λ v. Answers edge t s Related ls v b k.at k.block in
+        halted edge s ls k.blocks k.block k.at k.run why (subst P e (sim.answers ls x b k.at k.block k.related))
+
     pub steps_refine : Refines edge t s
     steps_refine = record {
       kept = λ ls bs b x r has. ⊎_elim inl (kept_of ls bs b x) (linked r has);
       follows = λ ls bs b x r has n l x' e. ⊎_elim inl (λ k. has_by l ls k.blocks x' k.block k.at k.run (follows_label ls (t.act x) l x' b k.at k.block (sim.answers ls x b k.at k.block k.related) n e)) (linked r has);
       names = λ ls bs b x r has next e. ⊎_elim inl (names_of ls bs b x next e) (linked r has);
+      halts = λ ls bs b x r has why e. ⊎_elim inl (halts_of ls bs b x why e) (linked r has);
     }

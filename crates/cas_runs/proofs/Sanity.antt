@@ -3,8 +3,8 @@ use Rattle.std.proofs.Common.{◌≡◌, ℕ, zero, suc, ◌+◌, ◌≤◌, Lis
 use Rattle.cas_base.specs.declared.kind.Kind.TheVariants.{U32}
 use Rattle.cas_runs.specs.Label.{RunLabel, Lock, Unlock, Out}
 use Rattle.cas_runs.specs.Edge.{Edge, AreGuarded, IsOfKind}
-use Rattle.cas_runs.specs.Machine.{Act, Quiet, Says, Crosses, Locks, Hears, Bad, Stops, Machine, Leads, IsBad, Block, begun, onward, Run, starts, quiet, labelled, quiet_now}
-use Rattle.cas_runs.specs.Refines.{HasRun, BadBefore, PaysMore, Refines}
+use Rattle.cas_runs.specs.Machine.{Act, Quiet, Says, Crosses, Locks, Hears, Bad, Stops, Machine, Leads, IsBad, Block, begun, onward, Run, starts, quiet, labelled, quiet_now, Halt, Taken}
+use Rattle.cas_runs.specs.Refines.{Halted, HasRun, BadBefore, PaysMore, Refines}
 use Rattle.cas_runs.specs.Sections.{Instruction, Take, Give, Load, Store, Print, Spin, Standing, one_lock, standing, sections}
 use Rattle.cas_runs.proofs.Refining.{IsQuiet, leads_not_quiet, one_state, before_label}
 
@@ -202,3 +202,33 @@ endless_loop p q h =
     ⊎_elim (λ b. not_bad one_lock s [] (standing (Print ∷ []) 0 None) (comes_first one_lock s) (λ q. q) (λ q. q) (bad_first one_lock s b))
     (λ m. let w = pays_once p [] m.blocks m.block m.at refl m.run in let more = m.more_than in let counted = k.counted in let least = w.0 in absurd (omega (arith, more, counted, least)))
     (quiet_paid one_lock (sections q (Spin ∷ [])) s h [] [] k.block (standing (Spin ∷ []) 0 None) k.run (has_of one_lock s [] (standing (Print ∷ []) 0 None) (comes_first one_lock s)))
+
+-- A unit that locks again where the source unlocks doesn't refine.
+
+abbrev locking : List Instruction
+locking = Take ∷ Take ∷ []
+
+abbrev unlocking : List Instruction
+unlocking = Take ∷ Give ∷ []
+
+stops_elsewhere : (p : ℕ) (ls : List RunLabel) (why : Halt) → Halted one_lock (sections p unlocking) ls why → (x : Standing) → Comes one_lock (sections p unlocking) ls x → (IsQuiet ((sections p unlocking).act x) → ⊥) → ((sections p unlocking).act x ≡ Stops why → ⊥) → ⊥
+stops_elsewhere p ls why h x c n m =
+    let s = sections p unlocking in
+    let not_quiet : IsQuiet (s.act h.at) → ⊥ = λ q. let none : ⊥ = subst IsQuiet h.stops q in none in
+    let same : h.at ≡ x = one_state one_lock s h.run c.run not_quiet n in
+    m (subst (λ v. s.act v ≡ Stops why) same h.stops)
+
+pub self_lock : (p q : ℕ) → Refines one_lock (sections q locking) (sections p unlocking) → ⊥
+self_lock p q h =
+    let t = sections q locking in
+    let s = sections p unlocking in
+    let ls : List RunLabel = took 0 ∷ [] in
+    let locked : Comes one_lock t ls (standing (Take ∷ []) 0 (Some 0)) = comes_by one_lock t [] (took 0) (standing locking 0 None) (standing (Take ∷ []) 0 (Some 0)) (comes_first one_lock t) (0 ∷ [], refl, guarded_word 0 refl, refl) in
+    let first : Comes one_lock s [] (standing unlocking 0 None) = comes_first one_lock s in
+    let giving : Comes one_lock s ls (standing (Give ∷ []) 0 (Some 0)) = comes_by one_lock s [] (took 0) (standing unlocking 0 None) (standing (Give ∷ []) 0 (Some 0)) first (0 ∷ [], refl, guarded_word 0 refl, refl) in
+    ⊎_elim
+    (λ b. ⊎_elim (not_bad one_lock s ls (standing (Give ∷ []) 0 (Some 0)) giving (λ q. q) (λ q. q))
+    (λ b. not_bad one_lock s [] (standing unlocking 0 None) first (λ q. q) (λ q. q) (bad_first one_lock s b))
+    (bad_last one_lock s (took 0) [] b))
+    (λ k. stops_elsewhere p ls (Taken 0) k (standing (Give ∷ []) 0 (Some 0)) giving (λ q. q) (λ e. absurd (cc e)))
+    (h.halts ls locked.blocks locked.block (standing (Take ∷ []) 0 (Some 0)) locked.run (has_of one_lock s ls (standing (Give ∷ []) 0 (Some 0)) giving) (Taken 0) refl)

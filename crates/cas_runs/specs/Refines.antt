@@ -3,7 +3,7 @@ use Rattle.std.specs.Prelude.{◌≡◌, ℕ, ◌<◌, ◌≤◌, List, [], ◌�
 use Rattle.cas_runs.specs.Label.{NameBytes, RunLabel}
 use Rattle.cas_runs.specs.Edge.{Edge}
 use Rattle.cas_runs.specs.Outside.{IsAmong}
-use Rattle.cas_runs.specs.Machine.{Act, Quiet, Says, Crosses, Locks, Hears, Bad, Stops, Machine, CanCross, Leads, IsBad, Block, Run}
+use Rattle.cas_runs.specs.Machine.{Act, Quiet, Says, Crosses, Locks, Hears, Bad, Stops, Halt, Ended, Taken, Full, Machine, CanCross, Leads, IsBad, Block, Run}
 
 -- the same names in order, with some left out
 pub data Subsequence : List NameBytes → List NameBytes → Type 0 where
@@ -66,6 +66,20 @@ pub record NamedAs {T S : Type 0} (edge : Edge) (s : Machine S) (labels : List R
   pub names : s_next some_label ≡ Some some_next
   pub each : (l : RunLabel) (y : S) → CanCross l → s_next l ≡ Some y → (x : T) × (next l ≡ Some x)
 
+-- the source has a run with these labels that has no next step, for this reason
+pub record Halted {S : Type 0} (edge : Edge) (s : Machine S) (labels : List RunLabel) (why : Halt) : Type 0 where
+  pub blocks : List Block
+  pub block : Block
+  pub at : S
+  pub run : Run edge s labels blocks block at
+  pub stops : s.act at ≡ Stops why
+
+-- the source halts too. A full stack is the target's own
+abbrev pub HaltsToo : {S : Type 0} → Edge → Machine S → List RunLabel → Halt → Type 0
+HaltsToo edge s labels Ended = Halted edge s labels Ended
+HaltsToo edge s labels (Taken lock) = Halted edge s labels (Taken lock)
+HaltsToo edge s labels Full = Unit {0}
+
 -- the act is a Call or a Leave
 abbrev pub IsCrossing : {S : Type 0} → Act S → Type 0
 IsCrossing (Crosses next) = Unit {0}
@@ -85,6 +99,8 @@ pub record Refines {T S : Type 0} (edge : Edge) (t : Machine T) (s : Machine S) 
   pub follows : (ls : List RunLabel) (bs : List Block) (b : Block) (x : T) → Run edge t ls bs b x → HasRun edge s ls → (IsCrossing (t.act x) → ⊥) → (l : RunLabel) (y : T) → Leads edge ls (t.act x) l y → BadBefore edge s ls ⊎ HasRun edge s (l ∷ ls)
   -- where the target is at a Call or a Leave, the source comes to one, and names what crosses in a way that the target can
   pub names : (ls : List RunLabel) (bs : List Block) (b : Block) (x : T) → Run edge t ls bs b x → HasRun edge s ls → (next : RunLabel → Option T) → t.act x ≡ Crosses next → BadBefore edge s ls ⊎ NamedAs edge s ls next
+  -- where the target has no next step, the source has none, unless the target's stack is full
+  pub halts : (ls : List RunLabel) (bs : List Block) (b : Block) (x : T) → Run edge t ls bs b x → HasRun edge s ls → (why : Halt) → t.act x ≡ Stops why → BadBefore edge s ls ⊎ HaltsToo edge s ls why
 
 -- the source has a run with these labels, which pays more than this in its last block
 pub record PaysMore {S : Type 0} (edge : Edge) (s : Machine S) (labels : List RunLabel) (count : ℕ) : Type 0 where

@@ -3,7 +3,7 @@ use Rattle.std.specs.Prelude.{◌≡◌, ℕ, ◌≤◌, nat_eq, nat_lt, List, [
 use Rattle.cas_base.specs.declared.kind.Kind.{Kind}
 use Rattle.cas_base.specs.declared.kind.Kind.TheVariants.{U32}
 use Rattle.cas_runs.specs.Label.{NameBytes, Shown, Inside, Object, Crossing, RunLabel, Lock, Unlock, Out, Done, Enter, Back, Call, Leave, locks_of}
-use Rattle.cas_runs.specs.Edge.{SharedWord, Edge, IsOfKind, AreGuarded, IsShare}
+use Rattle.cas_runs.specs.Edge.{LockWord, SharedWord, Edge, IsOfKind, AreGuarded, IsShare}
 use Rattle.cas_runs.specs.Outside.{Pending, Entered, IsAmong, pending, crossed}
 use Rattle.cas_runs.specs.Machine.{Says, Crosses, Locks, Stops, Halt, Ended, Taken, Full, Machine, Saying, label_of, CanCross, Block, Run}
 
@@ -116,13 +116,13 @@ pub record Proceeds {S : Type 0} (m : Machine S) : Type 0 where
   pub costs : (x : S) → 1 ≤ m.price x
   pub named : (x : S) (next : RunLabel → Option S) → m.act x ≡ Crosses next → (l : RunLabel) × (y : S) × CanCross l × (next l ≡ Some y)
 
--- the machine keeps the rules: it touches shared words of its share alone, unlocks what is in the share, and locks what isn't; it shows the outside its share
+-- the machine keeps the rules: it touches shared words of its share alone, unlocks what is in the share, and locks what is a lock and isn't in it; it shows the outside its share
 -- and the objects that have crossed; and it stops only where it has ended, where the lock is in the share, or where its stack is full
 pub record KeepsRules {S : Type 0} (edge : Edge) (m : Machine S) : Type 0 where
   pub proceeds : Proceeds m
   pub reads : (ls : List RunLabel) (bs : List Block) (b : Block) (x : S) → Run edge m ls bs b x → (w : ℕ) → IsAmong w (m.footprint x).reads → IsShared edge (locks_after ls) w
   pub writes : (ls : List RunLabel) (bs : List Block) (b : Block) (x : S) → Run edge m ls bs b x → (w : ℕ) → IsAmong w (m.footprint x).writes → IsShared edge (locks_after ls) w
   pub says : (ls : List RunLabel) (bs : List Block) (b : Block) (x : S) → Run edge m ls bs b x → (saying : Saying) (y : S) → m.act x ≡ Says saying y → MaySay edge ls (label_of saying)
-  pub locks : (ls : List RunLabel) (bs : List Block) (b : Block) (x : S) → Run edge m ls bs b x → (lock : ℕ) (next : List ℕ → S) → m.act x ≡ Locks lock next → IsAmong lock (locks_after ls) → ⊥
+  pub locks : (ls : List RunLabel) (bs : List Block) (b : Block) (x : S) → Run edge m ls bs b x → (lock : ℕ) (next : List ℕ → S) → m.act x ≡ Locks lock next → (slice_get edge.cells lock ≡ Some LockWord) × (IsAmong lock (locks_after ls) → ⊥)
   pub crosses : (ls : List RunLabel) (bs : List Block) (b : Block) (x : S) → Run edge m ls bs b x → (next : RunLabel → Option S) → m.act x ≡ Crosses next → (l : RunLabel) (y : S) → CanCross l → next l ≡ Some y → MayCross edge ls l
   pub halts : (ls : List RunLabel) (bs : List Block) (b : Block) (x : S) → Run edge m ls bs b x → (why : Halt) → m.act x ≡ Stops why → MayHalt ls why

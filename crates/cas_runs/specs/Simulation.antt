@@ -3,13 +3,25 @@ use Rattle.std.specs.Prelude.{◌≡◌, ℕ, ◌≤◌, List, [], ◌∷◌, Op
 use Rattle.cas_runs.specs.Label.{RunLabel, Lock}
 use Rattle.cas_runs.specs.Edge.{Edge, AreGuarded}
 use Rattle.cas_runs.specs.Outside.{MayBring}
-use Rattle.cas_runs.specs.Machine.{Act, Quiet, Says, Crosses, Locks, Hears, Bad, Stops, Machine, label_of, CanCross, Leads, IsBad, Block, begun, onward}
+use Rattle.cas_runs.specs.Machine.{Act, Quiet, Says, Crosses, Locks, Hears, Bad, Stops, Halt, Ended, Taken, Full, Machine, label_of, CanCross, Leads, IsBad, Block, begun, onward}
 use Rattle.cas_runs.specs.Refines.{Within, Subsequence}
 
 -- quiet steps lead to a step that is Bad
 pub data BadSoon {S : Type 0} (m : Machine S) : S → Type 0 where
   now : {y : S} → IsBad (m.act y) → BadSoon m y
   soon : {y : S} (y' : S) → m.act y ≡ Quiet y' → BadSoon m y' → BadSoon m y
+
+-- quiet steps lead to a state without a next step, for this reason, or to a step that is Bad
+pub data HaltsSoon {S : Type 0} (m : Machine S) (why : Halt) : S → Type 0 where
+  halts : {y : S} → m.act y ≡ Stops why → HaltsSoon m why y
+  fails_halting : {y : S} → IsBad (m.act y) → HaltsSoon m why y
+  step_halting : {y : S} (y' : S) → m.act y ≡ Quiet y' → HaltsSoon m why y' → HaltsSoon m why y
+
+-- what the source does where the target halts for this reason. A full stack is the target's own
+abbrev pub StopsToo : {S : Type 0} → Machine S → Halt → S → Type 0
+StopsToo m Ended y = HaltsSoon m Ended y
+StopsToo m (Taken lock) y = HaltsSoon m (Taken lock) y
+StopsToo m Full y = Unit {0}
 
 module _ {T S : Type 0} (edge : Edge) (t : Machine T) (s : Machine S) (Related : List RunLabel → T → Block → S → Block → Type 0) where
   -- from y the source goes by quiet steps to a state that is related to x, or reaches a step that is Bad
@@ -42,7 +54,7 @@ module _ {T S : Type 0} (edge : Edge) (t : Machine T) (s : Machine S) (Related :
   Answers ls (Locks lock next) b y c = (words : List ℕ) → AreGuarded edge lock words → FollowsBy ls (Lock lock words) (next words) y
   Answers ls (Hears next) b y c = (l : RunLabel) → MayBring edge ls l → FollowsBy ls l (next l) y
   Answers ls Bad b y c = BadSoon s y
-  Answers ls (Stops why) b y c = Unit {0}
+  Answers ls (Stops why) b y c = StopsToo s why y
 
   -- what is asked of the blocks, of the price and of the open functions
   pub record Fine (x : T) (b : Block) (y : S) (c : Block) : Type 0 where

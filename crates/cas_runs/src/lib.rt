@@ -14,5 +14,7 @@ pub use compose::{
     units_compose,
 };
 pub use pass::{Pass, run_pass, steps_refine};
-pub use refused::{dropped_store_refused, endless_loop_refused, kept_word_refused};
+pub use refused::{
+    dropped_store_refused, endless_loop_refused, kept_word_refused, self_lock_refused,
+};
 pub use rules::sections_keep_rules;

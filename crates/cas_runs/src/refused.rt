@@ -19,3 +19,9 @@ pub fn dropped_store_refused()
 pub fn kept_word_refused()
     ensures { (p q : ℕ) → Refines one_lock (sections q (Take ∷ Load ∷ Give ∷ Take ∷ Print ∷ [])) (sections p (Take ∷ Load ∷ Give ∷ Take ∷ Load ∷ Print ∷ [])) → ⊥ }
 {}
+
+/// A unit that locks again where the source unlocks, and so never goes on, doesn't refine.
+#[tactic(auto, using(crate::proofs::Sanity::self_lock))]
+pub fn self_lock_refused()
+    ensures { (p q : ℕ) → Refines one_lock (sections q (Take ∷ Take ∷ [])) (sections p (Take ∷ Give ∷ [])) → ⊥ }
+{}
