@@ -1,1 +1,8 @@
+pub mod Answers
+pub mod Comments
+pub mod Literals
+pub mod Names
+pub mod Once
 mod Rows
+pub mod Spellings
+pub mod Within

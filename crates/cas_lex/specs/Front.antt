@@ -35,19 +35,24 @@ abbrev pub sign_front : Option Sign → Front
 sign_front (Some s) = Token (kind.Sign s) (length (sign_spelling s))
 sign_front None = Fault R7
 
+-- what stands at the front of a text that begins with this byte, which begins no name and no literal
+unfoldable pub mark_at : ℕ → List ℕ → Front
+mark_at b text =
+    if is_blank b then Blank 1 else (
+    if not (is_character b) then Fault R1 else (
+    if starts_with nat_eq text (codes "//") then Blank (line_comment_len text) else (
+    if starts_with nat_eq text (codes "/*") then block_comment (block_comment_len text) else (
+    if starts_with nat_eq text (codes "->") then Fault R7 else
+    sign_front (sign_at text)))))
+
 -- what stands at the front of a text that begins with this byte
 unfoldable pub front_at : ℕ → List ℕ → Front
 front_at b text =
-    if not (is_character b) then Fault R1 else (
-    if is_blank b then Blank 1 else (
-    if starts_with nat_eq text (codes "//") then Blank (line_comment_len text) else (
-    if starts_with nat_eq text (codes "/*") then block_comment (block_comment_len text) else (
-    if starts_with nat_eq text (codes "->") then Fault R7 else (
     if is_first_byte b then name_at (take_while is_name_byte text) else (
     if is_ascii_digit b then literal_at text else
-    sign_front (sign_at text)))))))
+    mark_at b text)
 
--- what stands at the front of a text; nothing that the lexer asks for stands at the front of the empty text
+-- what stands at the front of a text; at the front of the empty text nothing stands
 abbrev pub front : List ℕ → Front
 front [] = Blank 0
 front (b ∷ bs) = front_at b (b ∷ bs)

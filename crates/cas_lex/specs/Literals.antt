@@ -1,5 +1,5 @@
 -- Literals: decimal digits that don't begin with 0, `0`, or `0x` with hexadecimal digits, each with an optional `u`.
-use Rattle.std.specs.Prelude.{ℕ, ◌+◌, Bool, true, false, ◌&&◌, ◌||◌, ◌==◌, nat_lt, if◌then◌else◌, List, [], ◌∷◌, length, drop, take_while}
+use Rattle.std.specs.Prelude.{ℕ, ◌+◌, Bool, true, false, ◌&&◌, ◌||◌, ◌==◌, nat_lt, if◌then◌else◌, List, [], ◌∷◌, length, drop, take_while, Option, Some, None}
 use Rattle.std.specs.Char.{is_ascii_digit, is_ascii_hexdigit}
 use Rattle.std.specs.Str.Parse.{digits_value}
 use Rattle.cas_base.specs.Name.{is_first_byte}
@@ -29,13 +29,18 @@ begins_with_letter (b ∷ bs) = is_first_byte b
 -- a literal of this value, with a `u` or without, of n bytes in all, and what follows it
 abbrev pub ended_literal : ℕ → Bool → ℕ → List ℕ → Front
 ended_literal value has_u n after =
-    if nat_lt 4294967295 value then Fault R3
-    else (if begins_with_letter after then Fault R7 else Token (Literal value (literal_kind has_u value)) n)
+    if begins_with_letter after then Fault R7 else Token (Literal value (literal_kind has_u value)) n
+
+-- a value of 32 bits, or none where it is greater
+abbrev pub small : ℕ → Option ℕ
+small value = if nat_lt 4294967295 value then None else Some value
 
 -- a literal of this value, of n bytes before its suffix, and what follows these
 abbrev pub literal_before : ℕ → ℕ → List ℕ → Front
 literal_before value n after =
-    if begins_with_u after then ended_literal value true (n + 1) (drop 1 after) else ended_literal value false n after
+    if nat_lt 4294967295 value then Fault R3
+    else (if begins_with_u after then ended_literal value true (n + 1) (drop 1 after)
+    else ended_literal value false n after)
 
 -- whether a text begins with `0x` or `0X` and a hexadecimal digit
 abbrev pub is_hexadecimal : List ℕ → Bool
@@ -51,9 +56,10 @@ is_octal digits = false
 abbrev pub literal_at : List ℕ → Front
 literal_at text =
     if is_hexadecimal text then
-      (let digits = take_while is_ascii_hexdigit (drop 2 text) in
-       literal_before (digits_value 16 digits) (2 + length digits) (drop (2 + length digits) text))
+    (let rest = drop 2 text in
+    let digits = take_while is_ascii_hexdigit rest in
+    literal_before (digits_value 16 digits) (2 + length digits) (drop (length digits) rest))
     else
-      (let digits = take_while is_ascii_digit text in
-       if is_octal digits then Fault R7
-       else literal_before (digits_value 10 digits) (length digits) (drop (length digits) text))
+    (let digits = take_while is_ascii_digit text in
+    if is_octal digits then Fault R7
+    else literal_before (digits_value 10 digits) (length digits) (drop (length digits) text))

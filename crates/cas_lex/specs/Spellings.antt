@@ -101,9 +101,9 @@ sign_spelling s.CloseBrace = codes "}"
 abbrev pub signs : List Sign
 signs =
     s.ShiftLeftEqual ∷ s.ShiftRightEqual
-    ∷ s.ShiftLeft ∷ s.ShiftRight ∷ s.AndAnd ∷ s.OrOr ∷ s.EqualEqual ∷ s.NotEqual ∷ s.LessEqual ∷ s.GreaterEqual
-    ∷ s.PlusEqual ∷ s.MinusEqual ∷ s.StarEqual ∷ s.SlashEqual ∷ s.PercentEqual ∷ s.AndEqual ∷ s.OrEqual
-    ∷ s.CaretEqual ∷ s.PlusPlus ∷ s.MinusMinus
+    ∷ s.PlusPlus ∷ s.MinusMinus ∷ s.AndAnd ∷ s.OrOr ∷ s.ShiftLeft ∷ s.ShiftRight ∷ s.EqualEqual ∷ s.NotEqual
+    ∷ s.LessEqual ∷ s.GreaterEqual ∷ s.PlusEqual ∷ s.MinusEqual ∷ s.StarEqual ∷ s.SlashEqual ∷ s.PercentEqual
+    ∷ s.AndEqual ∷ s.OrEqual ∷ s.CaretEqual
     ∷ s.Plus ∷ s.Minus ∷ s.Star ∷ s.Slash ∷ s.Percent ∷ s.And ∷ s.Or ∷ s.Caret ∷ s.Tilde ∷ s.Not ∷ s.Less
     ∷ s.Greater ∷ s.Equal ∷ s.Question ∷ s.Colon ∷ s.Semicolon ∷ s.Comma ∷ s.OpenParen ∷ s.CloseParen
     ∷ s.OpenBracket ∷ s.CloseBracket ∷ s.OpenBrace ∷ s.CloseBrace ∷ []

@@ -3,8 +3,21 @@
 #![tactic(auto)]
 
 mod code;
+mod comment;
+mod fault;
 mod front;
+mod lexing;
+mod literal;
+mod place;
+mod sign;
 mod token;
+mod word;
 
 pub use code::ReadCode;
+pub use fault::LexFault;
+pub use lexing::lex;
+pub use place::end_of;
 pub use token::{Sign, Token, TokenKind, Word};
+
+#[cfg(test)]
+mod tests;

@@ -1,5 +1,8 @@
 //! Tokens.
 
+ghost use Rattle.std.specs.Prelude.{◌≡◌, length};
+ghost use Rattle.cas_lex.specs.Spellings.{sign_spelling, word_spelling};
+
 use cas_base::{Kind, Name, Place};
 
 /// A token, at the place of its first byte.
@@ -135,4 +138,88 @@ pub enum Sign {
     OpenBrace,
     /// `}`
     CloseBrace,
+}
+
+impl Word {
+    /// The word's text.
+    pub fn as_str(self) -> &'static str
+        ensures { result.now ≡ word_spelling self }
+    {
+        match self {
+            Word::Void => "void",
+            Word::Char => "char",
+            Word::Short => "short",
+            Word::Int => "int",
+            Word::Unsigned => "unsigned",
+            Word::Signed => "signed",
+            Word::Const => "const",
+            Word::Extern => "extern",
+            Word::If => "if",
+            Word::Else => "else",
+            Word::While => "while",
+            Word::Do => "do",
+            Word::For => "for",
+            Word::Break => "break",
+            Word::Continue => "continue",
+            Word::Return => "return",
+            Word::Lock => "lock",
+            Word::Unlock => "unlock",
+            Word::Shared => "shared",
+            Word::Holds => "holds",
+            Word::Print => "print",
+        }
+    }
+}
+
+impl Sign {
+    /// The sign's text.
+    pub fn as_str(self) -> &'static str
+        ensures { result.now ≡ sign_spelling self }
+    {
+        match self {
+            Sign::ShiftLeftEqual => "<<=",
+            Sign::ShiftRightEqual => ">>=",
+            Sign::ShiftLeft => "<<",
+            Sign::ShiftRight => ">>",
+            Sign::AndAnd => "&&",
+            Sign::OrOr => "||",
+            Sign::EqualEqual => "==",
+            Sign::NotEqual => "!=",
+            Sign::LessEqual => "<=",
+            Sign::GreaterEqual => ">=",
+            Sign::PlusEqual => "+=",
+            Sign::MinusEqual => "-=",
+            Sign::StarEqual => "*=",
+            Sign::SlashEqual => "/=",
+            Sign::PercentEqual => "%=",
+            Sign::AndEqual => "&=",
+            Sign::OrEqual => "|=",
+            Sign::CaretEqual => "^=",
+            Sign::PlusPlus => "++",
+            Sign::MinusMinus => "--",
+            Sign::Plus => "+",
+            Sign::Minus => "-",
+            Sign::Star => "*",
+            Sign::Slash => "/",
+            Sign::Percent => "%",
+            Sign::And => "&",
+            Sign::Or => "|",
+            Sign::Caret => "^",
+            Sign::Tilde => "~",
+            Sign::Not => "!",
+            Sign::Less => "<",
+            Sign::Greater => ">",
+            Sign::Equal => "=",
+            Sign::Question => "?",
+            Sign::Colon => ":",
+            Sign::Semicolon => ";",
+            Sign::Comma => ",",
+            Sign::OpenParen => "(",
+            Sign::CloseParen => ")",
+            Sign::OpenBracket => "[",
+            Sign::CloseBracket => "]",
+            Sign::OpenBrace => "{",
+            Sign::CloseBrace => "}",
+        }
+    }
 }
