@@ -1,15 +1,17 @@
 //! Laws of the definitions, as functions without effect: each clause holds at all arguments.
 
 ghost use Rattle.std.specs.Prelude.{◌≡◌, ◌+◌, ◌*◌, ◌%◌, ◌^◌, ◌<◌, pos, ◌+ℤ◌, ◌-ℤ◌, ◌*ℤ◌, ◌≤ℤ◌, ◌<ℤ◌};
-ghost use Rattle.std.specs.Prelude.{IsTrue, IfSome, FitsSigned, int_div, int_rem};
+ghost use Rattle.std.specs.Prelude.{◌↔◌, ℕ, IsTrue, IfSome, IsNone, FitsSigned, int_div, int_rem};
 ghost use Rattle.std.specs.Int.{int_shr, w32};
 ghost use Rattle.cas_base.specs.Kind.{is_of_kind, size_of};
+ghost use Rattle.cas_base.specs.Names.{IsRow};
 ghost use Rattle.cas_base.specs.Word.{signed, word_of, wrapped, narrowed};
 ghost use Rattle.cas_base.specs.Word.{word_add, word_sub, word_mul, word_shl, word_shr, word_sar};
 ghost use Rattle.cas_base.specs.Word.{word_div_signed, word_rem_signed, word_div_unsigned, word_rem_unsigned};
 ghost use Rattle.cas_base.specs.Word.{IsTruncatedDivision};
 
 use crate::kind::Kind;
+use crate::names::Names;
 
 /// A word is the word of its signed reading.
 pub fn word_of_signed(a: u32)
@@ -114,3 +116,20 @@ pub fn narrow_is_congruent(a: u32, value: u32, kind: Kind)
     ensures only { IsTrue (is_of_kind value kind) → value % size_of kind ≡ a % size_of kind →
         value ≡ narrowed a kind }
 {}
+
+/// The row that is spelt at a number is found at that number.
+pub fn spelt_row_is_found<const N: usize>(names: &Names<'_, N>, k: usize) -> Option<usize>
+    requires { k < N }
+    ensures { result ≡ Some k }
+{
+    names.find(names.spell(k))
+}
+
+/// The row at the number that is found for a text spells the text.
+pub fn found_row_spells<'a, const N: usize>(names: &Names<'a, N>, text: &str) -> Option<&'a str>
+    ensures spelt { IfSome result (λ row. row.now ≡ text.now) }
+    ensures none { IsNone result ↔ ((k : ℕ) → ¬ (IsRow names.now k text.now)) }
+{
+    let k = names.find(text)?;
+    Some(names.spell(k))
+}

@@ -8,6 +8,7 @@ mod kind;
 pub mod laws;
 mod memory;
 mod name;
+mod names;
 mod place;
 mod seq;
 #[cfg(test)]
@@ -20,6 +21,7 @@ pub use decl::{Decl, Form, Global, Unit};
 pub use kind::{Kind, Ty};
 pub use memory::NoMemory;
 pub use name::{NAME_LIMIT, Name, NameFault};
+pub use names::Names;
 pub use place::Place;
 pub use seq::Seq;
 pub use text::Text;
