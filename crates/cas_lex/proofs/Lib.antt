@@ -5,4 +5,5 @@ pub mod Names
 pub mod Once
 mod Rows
 pub mod Spellings
+pub mod Total
 pub mod Within

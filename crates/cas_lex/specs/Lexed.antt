@@ -1,5 +1,5 @@
 -- The tokens of a text, with the places where they begin, and its first lexical fault.
-use Rattle.std.specs.Prelude.{◌≢◌, ◌≡◌, ℕ, List, [], ◌∷◌, take, drop, IsUtf8}
+use Rattle.std.specs.Prelude.{◌≢◌, ◌≡◌, ◌⊎◌, ℕ, List, [], ◌∷◌, take, drop, IsUtf8}
 use Rattle.std.specs.Str.Lossy.{utf8_valid_len}
 use Rattle.cas_base.specs.declared.place.Place.{Place}
 use Rattle.cas_lex.specs.declared.code.ReadCode.{ReadCode}
@@ -30,3 +30,8 @@ HasTokens text tokens = IsUtf8 text × Lexed start text tokens at_end
 pub data HasFault : List ℕ → ReadCode → Place → Type 0 where
   broken : (text : List ℕ) (p : Place) → ¬ (IsUtf8 text) → p ≡ behind start (take (utf8_valid_len text) text) → HasFault text R1 p
   met : (text : List ℕ) (tokens : List Token) (code : ReadCode) (p : Place) → IsUtf8 text → Lexed start text tokens (at_fault code p) → HasFault text code p
+
+-- a text has tokens, or a first lexical fault
+abbrev pub IsLexed : List ℕ → Type 0
+IsLexed text =
+    ((tokens : List Token) × HasTokens text tokens) ⊎ ((code : ReadCode) × (p : Place) × HasFault text code p)

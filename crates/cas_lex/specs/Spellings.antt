@@ -1,5 +1,5 @@
 -- How words and signs are spelt.
-use Rattle.std.specs.Prelude.{ℕ, Bool, nat_eq, List, [], ◌∷◌, find, codes, bytes_eq, Option}
+use Rattle.std.specs.Prelude.{ℕ, Bool, nat_eq, List, [], ◌∷◌, ◌++◌, map, find, codes, bytes_eq, Option}
 use Rattle.std.specs.List.{starts_with, list_any}
 use Rattle.cas_lex.specs.declared.token.Word.{Word}
 use Rattle.cas_lex.specs.declared.token.Word.TheVariants as w
@@ -50,6 +50,10 @@ left_out_words =
 -- whether these bytes are a word that is left out
 abbrev pub is_left_out : List ℕ → Bool
 is_left_out text = list_any (λ word. bytes_eq word text) left_out_words
+
+-- all words, and then those that are left out
+abbrev pub reserved : List (List ℕ)
+reserved = map word_spelling words ++ left_out_words
 
 -- the bytes of a sign
 abbrev pub sign_spelling : Sign → List ℕ

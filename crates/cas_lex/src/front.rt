@@ -7,13 +7,15 @@ ghost use Rattle.cas_lex.specs.Characters as characters;
 ghost use Rattle.cas_lex.specs.Comments as comments;
 ghost use Rattle.cas_lex.specs.Literals.{begins_with_letter};
 ghost use Rattle.cas_lex.specs.Front as spec;
+ghost use Rattle.cas_base.specs.Names.{IsRow};
+ghost use Rattle.cas_lex.specs.Spellings.{reserved};
 
 use crate::code::ReadCode;
 use crate::comment::{block_comment_len, line_comment_len};
 use crate::literal::literal_at;
 use crate::sign::sign_at;
 use crate::token::{Sign, TokenKind};
-use crate::word::{is_left_out, word_of};
+use crate::word::{WordTable, word_at};
 use cas_base::{NAME_LIMIT, Name, NameFault, NoMemory};
 use std::alloc::Global;
 
@@ -30,7 +32,7 @@ pub enum Front {
 
 /// What stands at the front of a text.
 #[tactic(auto, unfolding(crate::specs::Front::front_at))]
-pub fn front_of(alloc: Global, text: &[u8]) -> Result<Front, NoMemory>
+pub fn front_of(alloc: Global, words: &WordTable, text: &[u8]) -> Result<Front, NoMemory>
     ensures { IfOk result (λ found. found ≡ spec.front text.now) }
 {
     match text {
@@ -38,7 +40,7 @@ pub fn front_of(alloc: Global, text: &[u8]) -> Result<Front, NoMemory>
         [first, ..] => {
             let first = *first;
             if begins_name(first) {
-                name_at(alloc, name_text(text))
+                name_at(alloc, words, name_text(text))
             } else if first.is_ascii_digit() {
                 Ok(literal_at(text))
             } else {
@@ -88,17 +90,34 @@ fn sign_front(sign: Option<Sign>) -> Front
 }
 
 // What the text of a name or a word is.
-fn name_at(alloc: Global, text: &str) -> Result<Front, NoMemory>
+fn name_at(alloc: Global, words: &WordTable, text: &str) -> Result<Front, NoMemory>
     requires begins { IsTrue (begins_with_letter text.now) }
     requires goes_on { IsTrue (list_all is_name_byte text.now) }
     ensures { IfOk result (λ found. found ≡ spec.name_at text.now) }
 {
-    if is_left_out(text) {
-        return Ok(Front::Fault(ReadCode::R7));
+    match words.find(text) {
+        Some(row) => Ok(reserved_front(row, text)),
+        None => plain_name(alloc, text),
     }
-    if let Some(word) = word_of(text) {
-        return Ok(Front::Token(TokenKind::Word(word), text.len()));
+}
+
+// What the text of a row is.
+fn reserved_front(row: usize, text: &str) -> Front
+    requires { IsRow reserved row text.now }
+    ensures { result ≡ spec.name_at text.now }
+{
+    match word_at(row) {
+        Some(word) => Front::Token(TokenKind::Word(word), text.len()),
+        None => Front::Fault(ReadCode::R7),
     }
+}
+
+// A name that is no row.
+fn plain_name(alloc: Global, text: &str) -> Result<Front, NoMemory>
+    requires begins { IsTrue (begins_with_letter text.now) }
+    requires goes_on { IsTrue (list_all is_name_byte text.now) }
+    ensures { IfOk result (λ found. found ≡ spec.word_or_name None text.now) }
+{
     if text.len() > NAME_LIMIT {
         return Ok(Front::Fault(ReadCode::R4));
     }

@@ -13,6 +13,7 @@ use crate::fault::LexFault;
 use crate::front::{Front, front_of};
 use crate::place::{START, behind};
 use crate::token::Token;
+use crate::word::WordTable;
 use std::alloc::Global;
 
 /// The tokens of a text. (C's tokens, by longest match.)
@@ -50,11 +51,12 @@ fn tokens_of(alloc: Global, text: &[u8]) -> Result<Vec<Token>, LexFault>
     requires utf8 { IsUtf8 text.now }
     ensures { answers.IsAnswer text.now result }
 {
+    let words = WordTable::new();
     let mut tokens = Vec::new(alloc);
     let mut rest = text;
     let mut place = START;
-    while !rest.is_empty() {
-        let len = match front_of(alloc, rest)? {
+    'fronts: while !rest.is_empty() {
+        let len = match front_of(alloc, &words, rest)? {
             Front::Blank(len) => len,
             Front::Token(kind, len) => {
                 tokens.push(Token { kind, place })?;

@@ -6,6 +6,7 @@ mod code;
 mod comment;
 mod fault;
 mod front;
+pub mod laws;
 mod lexing;
 mod literal;
 mod place;

@@ -16,11 +16,11 @@ is_nil (x ∷ xs) h = absurd (omega arith)
 
 pub returns-in-Fault : goal.returns-in-Fault
 returns-in-Fault c =
-    let place = c.loop-rest.place in
-    let rest = c.loop-rest.rest.now in
+    let place = c.fronts.place in
+    let rest = c.fronts.rest.now in
     let some : (rest ≡ [] → ⊥) = search rules in
-    met c.args.text.now (c.loop-rest.tokens.items ++ []) c.in-Fault.code place c.requires.utf8
-    (c.loop-rest.invariant.lexed [] (at_fault c.in-Fault.code place)
+    met c.args.text.now (c.fronts.tokens.items ++ []) c.in-Fault.code place c.requires.utf8
+    (c.fronts.invariant.lexed [] (at_fault c.in-Fault.code place)
     (fails place rest c.in-Fault.code some (sym c.in_ok-len.ensures ∙ c.in-Fault.is)))
 
 -- what a front goes past is within the text
@@ -32,16 +32,16 @@ token-within text kind n some is = rw is at (front-within text some)
 
 pub split_at-requires : goal.split_at-requires
 split_at-requires c =
-    let rest = c.loop-rest.rest.now in
+    let rest = c.fronts.rest.now in
     let some : (rest ≡ [] → ⊥) = search rules in
     elim c.match-branch-2.branch [
       | in-Blank w ↦ (blank-within rest c.match-branch-2.len some (sym c.in_ok-len.ensures ∙ (w.in-Blank.is ∙ ap f.Blank (sym w.len-is)))).1
       | in-Token+in_ok-push-in-Token w ↦ (token-within rest w.in-Token.kind c.match-branch-2.len some (sym c.in_ok-len.ensures ∙ (w.in-Token.is ∙ ap (f.Token w.in-Token.kind) (sym w.len-is)))).1
     ]
 
-pub loop-rest-smaller : goal.loop-rest-smaller
-loop-rest-smaller c =
-    let rest = c.loop-rest.rest.now in
+pub fronts-smaller : goal.fronts-smaller
+fronts-smaller c =
+    let rest = c.fronts.rest.now in
     let some : (rest ≡ [] → ⊥) = search rules in
     let positive : 0 < c.match-branch-2.len = elim c.match-branch-2.branch [
       | in-Blank w ↦ (blank-within rest c.match-branch-2.len some (sym c.in_ok-len.ensures ∙ (w.in-Blank.is ∙ ap f.Blank (sym w.len-is)))).0
@@ -49,10 +49,10 @@ loop-rest-smaller c =
     ] in
     grind (arith, common_steps)
 
-pub loop-rest-preserved : goal.loop-rest-preserved
-loop-rest-preserved c =
-    let place = c.loop-rest.place in
-    let rest = c.loop-rest.rest.now in
+pub fronts-preserved : goal.fronts-preserved
+fronts-preserved c =
+    let place = c.fronts.place in
+    let rest = c.fronts.rest.now in
     let n = c.match-branch-2.len in
     let some : (rest ≡ [] → ⊥) = search rules in
     let on : (tokens : List Token) (stop : Stop) → Lexed c.behind-place.result c.split_at.result.1.now tokens stop → Lexed (behind place (take n rest)) (drop n rest) tokens stop = λ tokens stop h.
@@ -60,10 +60,10 @@ loop-rest-preserved c =
     in
     record {
       lexed = λ tokens stop h. elim c.match-branch-2.branch [
-        | in-Blank w ↦ rw w.tokens-is (c.loop-rest.invariant.lexed tokens stop (skips place rest n tokens stop some (sym c.in_ok-len.ensures ∙ (w.in-Blank.is ∙ ap f.Blank (sym w.len-is))) (on tokens stop h)))
+        | in-Blank w ↦ rw w.tokens-is (c.fronts.invariant.lexed tokens stop (skips place rest n tokens stop some (sym c.in_ok-len.ensures ∙ (w.in-Blank.is ∙ ap f.Blank (sym w.len-is))) (on tokens stop h)))
         | in-Token+in_ok-push-in-Token w ↦
             let token : Token = record { kind = w.in-Token.kind; place = place } in
-            rw (w.tokens-is, w.in_ok-push-in-Token.ensures.items, append_assoc) (c.loop-rest.invariant.lexed (token ∷ tokens) stop
+            rw (w.tokens-is, w.in_ok-push-in-Token.ensures.items, append_assoc) (c.fronts.invariant.lexed (token ∷ tokens) stop
             (takes place rest w.in-Token.kind n tokens stop some (sym c.in_ok-len.ensures ∙ (w.in-Token.is ∙ ap (f.Token w.in-Token.kind) (sym w.len-is))) (on tokens stop h)))
       ];
       lines = grind (arith, common_steps);
@@ -72,5 +72,5 @@ loop-rest-preserved c =
 
 pub returns : goal.returns
 returns c =
-    let none : c.loop-rest.rest.now ≡ [] = is_nil _ (grind arith) in
-    (c.requires.utf8, rw (sym (append-nil c.loop-rest.tokens.items)) (c.loop-rest.invariant.lexed [] at_end (rw none (ends c.loop-rest.place))))
+    let none : c.fronts.rest.now ≡ [] = is_nil _ (grind arith) in
+    (c.requires.utf8, rw (sym (append-nil c.fronts.tokens.items)) (c.fronts.invariant.lexed [] at_end (rw none (ends c.fronts.place))))
