@@ -1,5 +1,5 @@
 -- An answer that a text may get is the only one, but for want of memory.
-use Rattle.std.proofs.Common.{◌≡◌, ℕ, List, Ok, Err, refl, sym, inl, inr, ap}
+use Rattle.std.proofs.Common.{ℕ, List, Ok, Err, refl, inl, inr}
 use Rattle.cas_base.specs.declared.place.Place.{Place}
 use Rattle.cas_lex.specs.declared.code.ReadCode.{ReadCode}
 use Rattle.cas_lex.specs.declared.token.Token.{Token}

@@ -1,11 +1,10 @@
 -- A text has one list of tokens, and they stop at one place.
-use Rattle.std.proofs.Common.{◌≡◌, ℕ, List, [], ◌∷◌, take, drop, refl, sym, subst, ◌≢◌}
+use Rattle.std.proofs.Common.{◌≡◌, ℕ, List, take, drop, refl, subst}
 use Rattle.cas_base.specs.declared.place.Place.{Place}
 use Rattle.cas_lex.specs.declared.code.ReadCode.{ReadCode}
 use Rattle.cas_lex.specs.declared.token.Token.{Token}
-use Rattle.cas_lex.specs.Front.{front}
 use Rattle.cas_lex.specs.Lexed.{Stop, at_end, at_fault, Lexed, ends, skips, takes, fails, HasTokens, HasFault, broken, met}
-use Rattle.cas_lex.specs.Places.{start, behind}
+use Rattle.cas_lex.specs.Places.{behind}
 
 -- from one place on a text has one list of tokens, and one end of them
 pub Lexed-once : {p : Place} {text : List ℕ} {ts : List Token} {stop : Stop} → Lexed p text ts stop → (us : List Token) (other : Stop) → Lexed p text us other → (ts ≡ us) × (stop ≡ other)

@@ -1,7 +1,7 @@
 -- The definitions, computed on texts.
-use Rattle.std.proofs.Common.{◌≡◌, ℕ, List, [], ◌∷◌, codes, refl, length}
+use Rattle.std.proofs.Common.{◌≡◌, [], ◌∷◌, codes, refl}
 use Rattle.cas_base.specs.declared.kind.Kind.TheVariants.{I32, U32}
-use Rattle.cas_lex.specs.declared.code.ReadCode.TheVariants.{R1, R2, R3, R4, R7}
+use Rattle.cas_lex.specs.declared.code.ReadCode.TheVariants.{R1, R2, R3, R7}
 use Rattle.cas_lex.specs.declared.token.TokenKind.TheVariants as kind
 use Rattle.cas_lex.specs.declared.token.Word.TheVariants as w
 use Rattle.cas_lex.specs.declared.token.Sign.TheVariants as s

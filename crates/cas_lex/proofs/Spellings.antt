@@ -1,5 +1,5 @@
 -- The rows of the table of words.
-use Rattle.std.proofs.Common.{◌≡◌, ◌≢◌, ◌↔◌, MatchOption, ℕ, zero, suc, ◌<◌, ◌≤◌, ◌+◌, List, [], ◌∷◌, ◌++◌, map, Bool, true, false, cond, ◌||◌, Option, None, Some, find, bytes_eq, nat_le, ◌&&◌, slice_get, length, refl, sym, ap, arith}
+use Rattle.std.proofs.Common.{◌≡◌, ◌↔◌, MatchOption, ℕ, zero, suc, ◌≤◌, List, [], ◌∷◌, ◌++◌, map, Bool, true, false, cond, ◌||◌, Option, None, Some, find, bytes_eq, nat_le, ◌&&◌, slice_get, length, refl, sym, ap, arith}
 use Rattle.std.specs.List.{list_any, list_all}
 use Rattle.std.proofs.lemmas.Bool.Decides.{nat_tests}
 use Rattle.std.specs.Bool.{Decides}
@@ -12,7 +12,7 @@ use Rattle.cas_lex.specs.declared.token.Word.{Word}
 use Rattle.cas_lex.specs.declared.token.Word.TheVariants as w
 use Rattle.cas_lex.specs.declared.front.Front.TheVariants.{Token, Fault}
 use Rattle.cas_lex.specs.Front.{name_at, word_or_name}
-use Rattle.cas_lex.specs.Spellings.{word_spelling, words, word_of, left_out_words, is_left_out, reserved}
+use Rattle.cas_lex.specs.Spellings.{word_spelling, words, left_out_words, reserved}
 
 -- the rows are distinct
 pub reserved-table : IsTable 40 reserved

@@ -1,16 +1,15 @@
 -- Each text has tokens, or a first lexical fault.
-use Rattle.std.proofs.Common.{◌≡◌, ◌≢◌, ◌⊎◌, inl, inr, ℕ, zero, suc, ◌<◌, ◌≤◌, List, [], ◌∷◌, length, take, drop, Bool, true, false, IsUtf8, refl, arith, length-drop}
+use Rattle.std.proofs.Common.{◌≡◌, inl, inr, ℕ, zero, suc, ◌<◌, ◌≤◌, List, [], ◌∷◌, length, take, drop, Bool, true, false, IsUtf8, refl, arith, length-drop}
 use Rattle.std.proofs.lemmas.Str.{IsUtf8-from_is_utf8, is_utf8-from_IsUtf8}
 use Rattle.std.specs.Str.{is_utf8}
 use Rattle.std.specs.Str.Lossy.{utf8_valid_len}
 use Rattle.cas_base.specs.declared.place.Place.{Place}
-use Rattle.cas_lex.specs.declared.code.ReadCode.{ReadCode}
 use Rattle.cas_lex.specs.declared.code.ReadCode.TheVariants.{R1}
 use Rattle.cas_lex.specs.declared.token.Token.{Token}
 use Rattle.cas_lex.specs.declared.front.Front.{Front}
 use Rattle.cas_lex.specs.declared.front.Front.TheVariants as f
 use Rattle.cas_lex.specs.Front.{front}
-use Rattle.cas_lex.specs.Lexed.{Stop, at_end, at_fault, Lexed, ends, skips, takes, fails, HasTokens, HasFault, broken, met, IsLexed}
+use Rattle.cas_lex.specs.Lexed.{Stop, at_end, at_fault, Lexed, ends, skips, takes, fails, broken, met, IsLexed}
 use Rattle.cas_lex.specs.Places.{start, behind}
 use Rattle.cas_lex.proofs.Within.{IsWithin, front-within}
 

@@ -1,14 +1,12 @@
 -- What stands at the front of a text is within it, and isn't empty.
-use Rattle.std.proofs.Common.{◌≡◌, ℕ, ◌+◌, ◌<◌, ◌≤◌, List, [], ◌∷◌, Bool, true, false, cond, not, ◌&&◌, nat_eq, if◌then◌else◌, ◌==◌, length, drop, take, take_while, find, codes, Option, None, Some, ◌≢◌, nat_lt, IfSome, ap, refl, arith, lit<, length-drop}
+use Rattle.std.proofs.Common.{◌≡◌, ℕ, ◌+◌, ◌<◌, ◌≤◌, List, [], ◌∷◌, Bool, true, false, cond, not, nat_eq, if◌then◌else◌, ◌==◌, length, drop, take, take_while, find, codes, Option, None, Some, ◌≢◌, nat_lt, IfSome, ap, refl, arith, lit<, length-drop}
 use Rattle.std.specs.List.{starts_with, prefix_len}
 use Rattle.std.specs.Option.{option_map}
 use Rattle.std.proofs.lemmas.Slice.Eq.{bytes_eq-Decides}
 use Rattle.std.specs.Char.{is_ascii_digit, is_ascii_hexdigit}
-use Rattle.std.specs.Str.Parse.{digits_value}
 use Rattle.std.proofs.lemmas.Grind.{common_steps}
 use Rattle.std.proofs.lemmas.Bool.Decides.{nat_tests}
 use Rattle.std.proofs.lemmas.List.Sums.{take_while-cons, prefix_len-le-length}
-use Rattle.std.proofs.lemmas.List.Folds.{length-prefix_len}
 use Rattle.cas_base.specs.Name.{is_first_byte, is_name_byte}
 use Rattle.cas_lex.specs.declared.code.ReadCode.TheVariants.{R4, R7}
 use Rattle.cas_lex.specs.declared.token.TokenKind.TheVariants as kind

@@ -1,13 +1,11 @@
 -- What stands at the front of a text: the longest token that begins it, what separates tokens, or a fault.
-use Rattle.std.specs.Prelude.{ℕ, ◌&&◌, not, nat_eq, nat_lt, if◌then◌else◌, List, [], ◌∷◌, length, take_while, codes, Option, Some, None}
+use Rattle.std.specs.Prelude.{ℕ, not, nat_eq, nat_lt, if◌then◌else◌, List, [], ◌∷◌, length, take_while, codes, Option, Some, None}
 use Rattle.std.specs.Char.{is_ascii_digit}
 use Rattle.std.specs.List.{starts_with}
 use Rattle.cas_base.specs.Name.{is_first_byte, is_name_byte}
-use Rattle.cas_lex.specs.declared.code.ReadCode.{ReadCode}
 use Rattle.cas_lex.specs.declared.code.ReadCode.TheVariants.{R1, R2, R4, R7}
 use Rattle.cas_lex.specs.declared.token.Word.{Word}
 use Rattle.cas_lex.specs.declared.token.Sign.{Sign}
-use Rattle.cas_lex.specs.declared.token.TokenKind.{TokenKind}
 use Rattle.cas_lex.specs.declared.token.TokenKind.TheVariants as kind
 use Rattle.cas_lex.specs.declared.front.Front.{Front}
 use Rattle.cas_lex.specs.declared.front.Front.TheVariants.{Blank, Token, Fault}

@@ -5,9 +5,7 @@ use Rattle.std.specs.Str.Parse.{digits_value}
 use Rattle.cas_base.specs.Name.{is_first_byte}
 use Rattle.cas_base.specs.declared.kind.Kind.{Kind}
 use Rattle.cas_base.specs.declared.kind.Kind.TheVariants.{I32, U32}
-use Rattle.cas_lex.specs.declared.code.ReadCode.{ReadCode}
 use Rattle.cas_lex.specs.declared.code.ReadCode.TheVariants.{R3, R7}
-use Rattle.cas_lex.specs.declared.token.TokenKind.{TokenKind}
 use Rattle.cas_lex.specs.declared.token.TokenKind.TheVariants.{Literal}
 use Rattle.cas_lex.specs.declared.front.Front.{Front}
 use Rattle.cas_lex.specs.declared.front.Front.TheVariants.{Token, Fault}

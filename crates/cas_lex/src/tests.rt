@@ -10,6 +10,10 @@ use std::test::Fail;
 // The tokens of a text, each with its place, or the fault.
 fn shown(alloc: Global, text: &[u8]) -> Result<String, AllocError> {
     let mut shown = String::new(alloc);
+    if text.len() > 1000 {
+        shown.push_str("too long a row")?;
+        return Ok(shown);
+    }
     match lex(alloc, text) {
         Ok(tokens) => {
             for token in &tokens {

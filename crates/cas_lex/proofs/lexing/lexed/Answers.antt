@@ -1,4 +1,3 @@
-use Rattle.std.proofs.Common.{◌≡◌, ◌∙◌, sym}
 use Rattle.cas_lex.specs.Lexed.{broken}
 use Rattle.cas_lex.proofs.lexing.lexed.Goals as goal
 

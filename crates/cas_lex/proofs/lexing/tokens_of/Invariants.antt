@@ -1,4 +1,4 @@
-use Rattle.std.proofs.Common.{◌≡◌, ◌≤◌, ◌+◌, ◌++◌, List, length, IsUtf8}
+use Rattle.std.proofs.Common.{◌≤◌, ◌+◌, ◌++◌, List, length}
 use Rattle.cas_lex.specs.declared.token.Token.{Token}
 use Rattle.cas_lex.specs.Lexed.{Lexed, Stop}
 use Rattle.cas_lex.specs.Places.{start}

@@ -1,6 +1,4 @@
-use Rattle.std.proofs.Common.{ℕ, ◌<◌, ◌≤◌, length, List, arith}
-use Rattle.cas_base.specs.Names.{IsRow}
-use Rattle.cas_lex.specs.Spellings.{reserved}
+use Rattle.std.proofs.Common.{arith}
 use Rattle.cas_lex.proofs.Spellings.{found_row, length-row}
 use Rattle.cas_lex.proofs.word.WordTable.find.Goals as goal
 use Rattle.cas_lex.proofs.word.WordTable.find.Goals.{then-text-lt-SHORTEST-via-then-text-lt-SHORTEST, then-text-lt-SHORTEST-via-else-text-lt-SHORTEST+then-text-gt-LONGEST}
