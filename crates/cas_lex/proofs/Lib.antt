@@ -1,6 +1,7 @@
 pub mod Answers
 pub mod Comments
 pub mod Literals
+pub mod Longest
 pub mod Names
 pub mod Once
 mod Rows

@@ -172,12 +172,15 @@ sign_spelling-some s.CloseBracket = lit< tt
 sign_spelling-some s.OpenBrace = lit< tt
 sign_spelling-some s.CloseBrace = lit< tt
 
+pub sign_at-begins : (text : List ℕ) (s : Sign) → sign_at text ≡ Some s → starts_with nat_eq text (sign_spelling s) ≡ true
+sign_at-begins text s h = find-passes (λ s. starts_with nat_eq text (sign_spelling s)) signs s h
+
 sign-within : (text : List ℕ) → IsWithin (sign_front (sign_at text)) (length text)
 sign-within text = step (sign_at text) refl
   where
     step : (found : Option Sign) → sign_at text ≡ found → IsWithin (sign_front found) (length text)
     step None h = tt
-    step (Some s) h = (sign_spelling-some s, length-starts_with (sign_spelling s) text (find-passes (λ s. starts_with nat_eq text (sign_spelling s)) signs s h))
+    step (Some s) h = (sign_spelling-some s, length-starts_with (sign_spelling s) text (sign_at-begins text s h))
 
 mark-within : (b : ℕ) (bs : List ℕ) → IsWithin (mark_at b (b ∷ bs)) (length (b ∷ bs))
 unfolding mark_at

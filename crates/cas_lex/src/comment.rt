@@ -8,10 +8,8 @@ pub fn block_comment_len(text: &[u8]) -> Option<usize>
     requires { 2 ≤ length text.now }
     ensures { result ≡ spec.block_comment_len text.now }
 {
-    match closing_len(&text[2..]) {
-        Some(len) => Some(len + 2),
-        None => None,
-    }
+    let len = closing_len(&text[2..])?;
+    Some(len + 2)
 }
 
 /// The length of the comment with `//` that begins a text: up to the end of the line.

@@ -9,8 +9,13 @@ use std::alloc::{AllocError, AllocFailed};
 pub enum LexFault {
     /// Want of memory.
     Memory,
-    /// The first lexical fault of the text: R1, R2, R3, R4 or R7.
-    At { code: ReadCode, place: Place },
+    /// The first lexical fault of the text.
+    At {
+        /// R1, R2, R3, R4 or R7.
+        code: ReadCode,
+        /// Where it stands.
+        place: Place,
+    },
 }
 
 impl From<AllocError> for LexFault {

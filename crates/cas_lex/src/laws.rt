@@ -1,6 +1,7 @@
 //! Laws of the definitions, each the contract of a function without effect.
 
-ghost use Rattle.std.specs.Prelude.{◌≡◌, List, ℕ, Some};
+ghost use Rattle.std.specs.Prelude.{◌≡◌, ◌≤◌, List, ℕ, Some, None, IsTrue, length, nat_eq};
+ghost use Rattle.std.specs.List.{starts_with};
 ghost use Rattle.cas_base.specs.declared.place.Place.{Place};
 ghost use Rattle.cas_lex.specs.declared.code.ReadCode.{ReadCode};
 ghost use Rattle.cas_lex.specs.declared.token.Token.{Token};
@@ -23,4 +24,16 @@ pub fn texts_are_lexed_once()
 pub fn spellings_are_read()
     ensures words { (word : Word) → word_of (word_spelling word) ≡ Some word }
     ensures signs { (sign : Sign) → sign_at (sign_spelling sign) ≡ Some sign }
+{}
+
+/// The sign that is read at the front of a text begins it, and no longer sign does; and where none is read,
+/// no sign begins the text.
+pub fn signs_are_longest()
+    ensures begins { (text : List ℕ) (s : Sign) → sign_at text ≡ Some s
+        → IsTrue (starts_with nat_eq text (sign_spelling s)) }
+    ensures longest { (text : List ℕ) (s t : Sign) → sign_at text ≡ Some s
+        → IsTrue (starts_with nat_eq text (sign_spelling t))
+        → length (sign_spelling t) ≤ length (sign_spelling s) }
+    ensures none { (text : List ℕ) (t : Sign) → sign_at text ≡ None
+        → ¬ (IsTrue (starts_with nat_eq text (sign_spelling t))) }
 {}

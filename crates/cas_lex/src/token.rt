@@ -5,10 +5,12 @@ ghost use Rattle.cas_lex.specs.Spellings.{sign_spelling, word_spelling};
 
 use cas_base::{Kind, Name, Place};
 
-/// A token, at the place of its first byte.
+/// A token of a module text. (C's tokens, without strings and character constants.)
 #[derive(Debug, Drop)]
 pub struct Token {
+    /// What it is.
     pub kind: TokenKind,
+    /// Where its first byte stands.
     pub place: Place,
 }
 
@@ -19,33 +21,56 @@ pub enum TokenKind {
     Name(Name),
     /// A literal: its value, and its kind, which is I32 or U32.
     Literal(u32, Kind),
+    /// A word.
     Word(Word),
+    /// A sign.
     Sign(Sign),
 }
 
 /// A word of the language, which is no name.
 #[derive(Clone, Copy, Debug, PartialEq, Eq)]
 pub enum Word {
+    /// `void`
     Void,
+    /// `char`
     Char,
+    /// `short`
     Short,
+    /// `int`
     Int,
+    /// `unsigned`
     Unsigned,
+    /// `signed`
     Signed,
+    /// `const`
     Const,
+    /// `extern`
     Extern,
+    /// `if`
     If,
+    /// `else`
     Else,
+    /// `while`
     While,
+    /// `do`
     Do,
+    /// `for`
     For,
+    /// `break`
     Break,
+    /// `continue`
     Continue,
+    /// `return`
     Return,
+    /// `lock`
     Lock,
+    /// `unlock`
     Unlock,
+    /// `shared`
     Shared,
+    /// `holds`
     Holds,
+    /// `print`
     Print,
 }
 
