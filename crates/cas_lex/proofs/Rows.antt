@@ -1,5 +1,7 @@
 -- The definitions, computed on texts.
-use Rattle.std.proofs.Common.{◌≡◌, [], ◌∷◌, codes, refl}
+use Rattle.std.proofs.Common.{ℕ, List, ◌≡◌, [], ◌∷◌, codes, refl, zero, suc, ◌++◌, Bool, true, false, filter, drop, nat_lt, not, ◌&&◌, ◌||◌, ◌==◌}
+use Rattle.std.specs.List.{list_all}
+use Rattle.cas_lex.specs.declared.front.Front.{Front}
 use Rattle.cas_base.specs.declared.kind.Kind.TheVariants.{I32, U32}
 use Rattle.cas_lex.specs.declared.code.ReadCode.TheVariants.{R1, R2, R3, R7}
 use Rattle.cas_lex.specs.declared.token.TokenKind.TheVariants as kind
@@ -75,3 +77,30 @@ quote = refl
 dollar : front (codes "$") ≡ Fault R1
 unfolding front_at mark_at
 dollar = refl
+
+-- the numbers below n
+abbrev below : ℕ → List ℕ
+below zero = []
+below (suc n) = below n ++ n ∷ []
+
+abbrev is_R1 : Front → Bool
+is_R1 (Fault R1) = true
+is_R1 found = false
+
+abbrev is_R7 : Front → Bool
+is_R7 (Fault R7) = true
+is_R7 found = false
+
+-- the bytes that stand in no module outside comments: controls, `$`, `@`, `\`, a backquote, and all that aren't ASCII
+refused_bytes : filter (λ b. is_R1 (front (b ∷ []))) (drop 10 (below 127)) ≡ filter (λ b. nat_lt b 32 && not (b == 10 || b == 13)) (drop 10 (below 32)) ++ (36 ∷ 64 ∷ 92 ∷ 96 ∷ [])
+unfolding front_at mark_at
+refused_bytes = refl
+
+refused_outside : list_all (λ b. is_R1 (front (b ∷ []))) (below 9 ++ drop 127 (below 256)) ≡ true
+unfolding front_at mark_at
+refused_outside = refl
+
+-- the bytes that begin only what is left out: `"`, `#`, `'` and `.`
+left_out_bytes : filter (λ b. is_R7 (front (b ∷ []))) (below 256) ≡ 34 ∷ 35 ∷ 39 ∷ 46 ∷ []
+unfolding front_at mark_at
+left_out_bytes = refl
