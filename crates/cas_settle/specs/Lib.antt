@@ -1,3 +1,4 @@
+pub mod Count
 pub mod Located
 pub mod Refusal
 pub mod Roster

@@ -43,7 +43,7 @@ pub record IsSettled (units : List (List Decl)) (entries : List (List ℕ)) : Ty
   pub words : words_of (definitions (all_decls units)) ≤ WORD_LIMIT
   pub locks : locks_of (definitions (all_decls units)) ≤ LOCK_LIMIT
 
--- the first name of a list that stands before its place there, or among the names `before`
+-- the first name of a list that is a repetition: of a name before it, there or among the names `before`
 abbrev pub first_repeated : (before names : List (List ℕ)) → Option (List ℕ)
 first_repeated before [] = None
 first_repeated before (name ∷ names) =
@@ -54,13 +54,13 @@ abbrev pub first_fault : {X : Type 0} → (X → Option LinkFault) → List X �
 first_fault fault_of [] = None
 first_fault fault_of (x ∷ xs) = option_or (fault_of x) (first_fault fault_of xs)
 
--- a declaration that isn't a definition, beside the definition of its name: it has none, or it differs
+-- the fault of a declaration that isn't a definition, where this is the definition of its name, if there is one
 abbrev pub reference_fault : Decl → Option Decl → Option LinkFault
 reference_fault decl None = Some (NotDefined decl.name)
 reference_fault decl (Some defined) =
     if agrees defined.form decl.form then None else Some (Differ decl.name defined decl)
 
--- an entry, beside the definition of its name: it has none, or it is no function that a thread may enter
+-- the fault of an entry, where this is the definition of its name, if there is one
 abbrev pub entry_fault : List ℕ → Option Decl → Option LinkFault
 entry_fault name None = Some (NotDefined name)
 entry_fault name (Some defined) = if is_entry defined.form then None else Some (Entry name defined)
@@ -69,16 +69,30 @@ entry_fault name (Some defined) = if is_entry defined.form then None else Some (
 abbrev pub limit_fault : (what : Count) (limit counted : ℕ) → Option LinkFault
 limit_fault what limit counted = if nat_lt limit counted then Some (Limit what (min counted (2 ^ 64 - 1))) else None
 
--- the first refusal: a name that is defined twice; then a declaration without its definition, or that differs
--- from it; then an entry; then too many words; then too many locks
+-- the first name that is defined twice
+abbrev pub twice_fault : (defined : List Decl) → Option LinkFault
+twice_fault defined = option_map Twice (first_repeated [] (names_of defined))
+
+-- the first of these declarations that has no definition, or differs from it
+abbrev pub references_fault : (defined references : List Decl) → Option LinkFault
+references_fault defined decls = first_fault (λ decl. reference_fault decl (definition_of defined decl.name)) decls
+
+-- the first entry that has no definition, or that no thread may enter
+abbrev pub entries_fault : (defined : List Decl) → (entries : List (List ℕ)) → Option LinkFault
+entries_fault defined entries = first_fault (λ name. entry_fault name (definition_of defined name)) entries
+
+-- too many words, and then too many locks
+abbrev pub limits_fault : (defined : List Decl) → Option LinkFault
+limits_fault defined = option_or (limit_fault Words WORD_LIMIT (words_of defined)) (limit_fault Locks LOCK_LIMIT (locks_of defined))
+
+-- the first refusal: of the definitions, then of the other declarations, then of the entries, then by the limits
 abbrev pub first_refusal : (units : List (List Decl)) (entries : List (List ℕ)) → Option LinkFault
 first_refusal units entries =
     let defined = definitions (all_decls units) in
-    option_or (option_map Twice (first_repeated [] (names_of defined)))
-    (option_or (first_fault (λ decl. reference_fault decl (definition_of defined decl.name)) (references (all_decls units)))
-    (option_or (first_fault (λ name. entry_fault name (definition_of defined name)) entries)
-    (option_or (limit_fault Words WORD_LIMIT (words_of defined))
-    (limit_fault Locks LOCK_LIMIT (locks_of defined)))))
+    option_or (twice_fault defined)
+    (option_or (references_fault defined (references (all_decls units)))
+    (option_or (entries_fault defined entries)
+    (limits_fault defined)))
 
 -- the word of the lock of this name, where the first of these definitions begins at the word `first`
 abbrev pub lock_word : (first : ℕ) → List Decl → List ℕ → Option ℕ

@@ -13,6 +13,7 @@ use crate::definitions::Definitions;
 use crate::roster::Roster;
 use cas_base::{Decl, Name, NoMemory, Seq};
 use std::alloc::{AllocFailed, Global};
+use std::fmt;
 
 /// The most words of globals and locks that a program has.
 pub const WORD_LIMIT: u64 = 65_536;
@@ -51,9 +52,25 @@ pub struct Settled {
 pub enum Count {
     /// The words of globals and locks.
     Words,
+    /// The locks.
     Locks,
     /// The instructions.
     Code,
+}
+
+impl fmt::Display for Count {
+    ghost use Rattle.std.specs.Prelude.{Some};
+    ghost use Rattle.cas_settle.specs.Count.{count_text};
+
+    ghost output = { λ count. Some (count_text count) };
+
+    fn fmt<W: fmt::Write>(&self, f: &mut fmt::Formatter<W>) -> fmt::Result {
+        f.write_str(match *self {
+            Count::Words => "words",
+            Count::Locks => "locks",
+            Count::Code => "code",
+        })
+    }
 }
 
 /// Why units don't fit together.
@@ -61,22 +78,22 @@ pub enum Count {
 pub enum LinkFault {
     /// Want of memory.
     Memory,
-    /// No unit defines this name.
+    /// L1: no unit defines this name.
     NotDefined(Name),
-    /// This name is defined twice.
+    /// L2: this name is defined twice.
     Twice(Name),
-    /// This name is declared otherwise than it is defined.
+    /// L3: this name is declared otherwise than it is defined.
     Differ {
         name: Name,
         defined: Decl,
         declared: Decl,
     },
-    /// This entry isn't a function `void f(int)` that holds no lock.
+    /// L4: this entry isn't a function `void f(int)` that holds no lock.
     Entry {
         name: Name,
         found: Decl,
     },
-    /// There are more of these than a program may have.
+    /// L5: there are more of these than a program may have.
     Limit {
         what: Count,
         counted: u64,

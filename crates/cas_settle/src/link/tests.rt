@@ -188,7 +188,7 @@ fn refusal(alloc: Global, fault: &LinkFault) -> Result<String, Fail> {
             let name = name.as_str();
             format!(in alloc; "L4 {name}: {found}")?
         }
-        LinkFault::Limit { what, counted } => format!(in alloc; "L5 {what:?} {counted}")?,
+        LinkFault::Limit { what, counted } => format!(in alloc; "L5 {what} {counted}")?,
     })
 }
 
@@ -414,11 +414,11 @@ fn word_limit(rt: HostRuntime) -> Result<(), Fail> {
             "",
             "const t 0 65535; lock L 65535 1; ",
         ),
-        ("const t int[65536] / lock L", "", "L5 Words 65537"),
+        ("const t int[65536] / lock L", "", "L5 words 65537"),
         (
             "const t int[4294967295]; const u int[4294967295]",
             "",
-            "L5 Words 8589934590",
+            "L5 words 8589934590",
         ),
     ];
     check_rows(&rt, rt.alloc(), &rows)
@@ -444,11 +444,11 @@ fn lock_limit(rt: HostRuntime) -> Result<(), Fail> {
             .ends_with("const t 256 1; ")
     );
     let more = locks(alloc, 257, "int")?;
-    assert_eq!(rt; answer(alloc, more.as_str(), "")?.as_str(), "L5 Locks 257");
+    assert_eq!(rt; answer(alloc, more.as_str(), "")?.as_str(), "L5 locks 257");
     let words = locks(alloc, 257, "int[65536]")?;
     assert_eq!(rt;
         answer(alloc, words.as_str(), "")?.as_str(),
-        "L5 Words 65793"
+        "L5 words 65793"
     );
     Ok(())
 }
