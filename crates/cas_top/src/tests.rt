@@ -1,9 +1,11 @@
 //! Calls of the top call, with texts and streams in memory. The wanted bytes are those that `docs/COMMANDS.md`
 //! gives.
 
+ghost use Rattle.std.specs.Prelude.{None, []};
+
 use crate::cascc;
 use cas_base::Text;
-use cas_outside::{MemoryShelf, MemorySink, OpenGate};
+use cas_outside::{MemoryShelf, MemorySink, OpenGate, Shelf, ShelfFault};
 use std::alloc::{AllocError, Global};
 use std::process::Abort;
 use std::test::Fail;
@@ -318,5 +320,40 @@ fn puts_that_fail_are_told(rt: HostRuntime) -> Result<(), Fail> {
     )?;
     assert_faults(&rt, alloc, [&[], &[2], &[1]], wanted(4, "0 41\n", ""))?;
     assert_faults(&rt, alloc, [&[], &[3], &[1]], wanted(0, PRINTED, ""))?;
+    Ok(())
+}
+
+// A shelf that has no memory for any text.
+#[derive(Drop)]
+struct FullShelf;
+
+impl Shelf for FullShelf {
+    ghost texts = { λ _. None };
+
+    ghost failed = { λ _. [] };
+
+    fn read(&mut self, _alloc: Global, _name: &str, _limit: u64) -> Result<Vec<u8>, ShelfFault> {
+        Err(ShelfFault::Memory)
+    }
+}
+
+#[test]
+fn want_of_memory_is_told(rt: HostRuntime) -> Result<(), Fail> {
+    let alloc = rt.alloc();
+    let words = words_of(alloc, &RUN)?;
+    let mut out = sink_of(alloc, &[])?;
+    let mut err = sink_of(alloc, &[])?;
+    let status = cascc(
+        &rt,
+        alloc,
+        words.as_slice(),
+        &mut FullShelf,
+        &mut out,
+        &mut err,
+        &OpenGate,
+    );
+    assert_eq!(rt; status, 9);
+    assert_eq!(rt; out.bytes(), b"".as_slice());
+    assert_eq!(rt; err.bytes(), b"cascc: memory\n".as_slice());
     Ok(())
 }
