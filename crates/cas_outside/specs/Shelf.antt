@@ -55,8 +55,8 @@ shelf_after shelf name answer =
     record shelf { calls = calls_after shelf.calls; failed = failed_after shelf.failed name answer }
 
 -- names, as bytes
-abbrev pub names_of : List (String Global) → List (List ℕ)
-names_of names = map (λ name. string_bytes name) names
+abbrev pub names_as_bytes : List (String Global) → List (List ℕ)
+names_as_bytes names = map (λ name. string_bytes name) names
 
 -- pairs of a name and its text, as bytes
 abbrev pub texts_of : List (String Global × Vec ℕ Global) → Texts

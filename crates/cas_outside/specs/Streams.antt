@@ -1,5 +1,5 @@
-use Rattle.std.specs.Prelude.{ℕ, ◌≡◌, ◌<◌, List, ◌++◌, length, Option, IfSome}
-use Rattle.std.specs.Io.KnownBytes.{Appends}
+use Rattle.std.specs.Prelude.{ℕ, ◌≡◌, ◌<◌, ◌≤◌, List, ◌++◌, length, Option, IfSome}
+use Rattle.std.specs.Io.KnownBytes.{Appends, Consumes}
 use Rattle.std.specs.declared.io.ErrorKind.{ErrorKind}
 use Rattle.std.specs.declared.io.ErrorKind.TheVariants.{OutOfMemory}
 use Rattle.cas_outside.specs.declared.shelf.ShelfFault.{ShelfFault}
@@ -17,6 +17,10 @@ GivesAll left text = IfSome left (λ bytes. text ≡ bytes)
 -- the reader had more left than the limit, where that is known
 abbrev pub GivesMore : Option (List ℕ) → ℕ → Type 0
 GivesMore left limit = IfSome left (λ bytes. limit < length bytes)
+
+-- the reader gave up to so many bytes, where what it has left is known
+abbrev pub TakesAtMost : Option (List ℕ) → Option (List ℕ) → ℕ → Type 0
+TakesAtMost old new most = (bytes : List ℕ) × Consumes old new bytes × (length bytes ≤ most)
 
 -- known bytes grew by a first part of these
 abbrev pub AppendsPrefix : Option (List ℕ) → Option (List ℕ) → List ℕ → Type 0

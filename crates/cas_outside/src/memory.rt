@@ -3,7 +3,7 @@
 ghost use Rattle.std.specs.Prelude.{◌≡◌, ◌≢◌, ◌≤◌, ◌⊎◌, ◌↔◌, [], length, IfOk, OnOk, IsSome};
 ghost use Rattle.std.specs.Option.{option_map};
 ghost use Rattle.cas_outside.specs.Calls.{FailsNext};
-ghost use Rattle.cas_outside.specs.Shelf.{HoldsLonger, IsFailure, text_of, texts_of, names_of, failed_after, shelf_after};
+ghost use Rattle.cas_outside.specs.Shelf.{HoldsLonger, IsFailure, text_of, texts_of, names_as_bytes, failed_after, shelf_after};
 ghost use Rattle.cas_outside.specs.Sink.{TakesAll, TakesPrefix, CountsFault, sink_after};
 
 use crate::plan::Plan;
@@ -23,7 +23,7 @@ pub struct MemoryShelf {
 }
 
 impl Model for MemoryShelf {
-    ghost use Rattle.cas_outside.specs.Shelf.{ShelfState, texts_of, names_of};
+    ghost use Rattle.cas_outside.specs.Shelf.{ShelfState, texts_of, names_as_bytes};
 
     ghost Value = { ShelfState };
 
@@ -31,7 +31,7 @@ impl Model for MemoryShelf {
       texts = texts_of s.texts.items;
       failing = s.plan.failing.items;
       calls = s.plan.calls;
-      failed = names_of s.failed.items;
+      failed = names_as_bytes s.failed.items;
     } };
 }
 
@@ -112,7 +112,7 @@ fn first_text<'a>(texts: &'a [(String, Vec<u8>)], name: &str) -> Option<&'a [u8]
 
 /// Keeps the name of a read that failed, where there is memory for it.
 fn note(alloc: Global, failed: &mut Vec<String>, name: &str) -> ShelfFault
-    ensures names { names_of failed.new.items ≡ failed_after (names_of failed.old.items) name.now (Err result) }
+    ensures names { names_as_bytes failed.new.items ≡ failed_after (names_as_bytes failed.old.items) name.now (Err result) }
     ensures failure { IsFailure (Err result) }
 {
     match String::from_str(alloc, name) {

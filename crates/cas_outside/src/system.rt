@@ -6,9 +6,9 @@
 
 ghost use Rattle.std.specs.Prelude.{◌≡◌, ◌≢◌, ◌<◌, ◌≤◌, ◌+◌, ◌∷◌, ◌++◌, [], length, vec_len, vec_capacity, string_bytes, IfOk, OnOk};
 ghost use Rattle.std.specs.Io.KnownBytes.{Appends, Keeps};
-ghost use Rattle.cas_outside.specs.Shelf.{names_of};
+ghost use Rattle.cas_outside.specs.Shelf.{names_as_bytes};
 ghost use Rattle.cas_outside.specs.Sink.{CountsFault};
-ghost use Rattle.cas_outside.specs.Streams.{GivesAll, GivesMore, AppendsPrefix, shelf_fault_of};
+ghost use Rattle.cas_outside.specs.Streams.{GivesAll, GivesMore, TakesAtMost, AppendsPrefix, shelf_fault_of};
 
 use crate::shelf::{Shelf, ShelfFault};
 use crate::sink::{Sink, SinkFault};
@@ -27,11 +27,11 @@ pub struct FileShelf<'a, R: Files> {
 
 impl<'a, R: Files> Model for FileShelf<'a, R> {
     ghost use Rattle.std.specs.Prelude.{List, ℕ};
-    ghost use Rattle.cas_outside.specs.Shelf.{names_of};
+    ghost use Rattle.cas_outside.specs.Shelf.{names_as_bytes};
 
     ghost Value = { List (List ℕ) };
 
-    ghost view = { λ s. names_of s.failed.items };
+    ghost view = { λ s. names_as_bytes s.failed.items };
 }
 
 impl<'a, R: Files> FileShelf<'a, R> {
@@ -83,16 +83,19 @@ fn shelf_fault(kind: ErrorKind) -> ShelfFault
     }
 }
 
-/// All the bytes that a reader has left, or that they are more than `limit`.
+/// All the bytes that a reader has left, or that they are more than `limit`. No more are read
+/// than show this.
 fn read_all<F: Read>(alloc: Global, file: &mut F, limit: u64) -> Result<Vec<u8>, ShelfFault>
     ensures whole { IfOk result (λ text. GivesAll (F.remaining file.old) text.items) }
     ensures within_limit { IfOk result (λ text. length text.items ≤ limit) }
     ensures too_long { result ≡ Err ShelfFault.TooLong → GivesMore (F.remaining file.old) limit }
+    ensures no_further { TakesAtMost (F.remaining file.old) (F.remaining file.new) (limit + 1) }
 {
     let mut text = Vec::new(alloc);
     let mut buffer = [0u8; 4096];
     for _ in 0..u64::MAX {
-        match file.read(&mut buffer) {
+        let room = (limit - text.len() as u64).min(4095) as usize + 1;
+        match file.read(&mut buffer[..room]) {
             Ok(0) => return Ok(text),
             Ok(count) => {
                 if text.len() as u64 + count as u64 > limit {
@@ -114,7 +117,7 @@ fn read_all<F: Read>(alloc: Global, file: &mut F, limit: u64) -> Result<Vec<u8>,
 /// Keeps the name of a failed reading, in the room that was taken for it.
 fn keep(failed: &mut Vec<String>, name: String)
     requires { vec_len failed.old < vec_capacity failed.old }
-    ensures { names_of failed.new.items ≡ names_of failed.old.items ++ string_bytes name ∷ [] }
+    ensures { names_as_bytes failed.new.items ≡ names_as_bytes failed.old.items ++ string_bytes name ∷ [] }
 {
     match failed.push(name) {
         Ok(()) => {}
@@ -168,6 +171,9 @@ impl<W: Write + Drop> Sink for StdSink<W> {
     fn put(&mut self, bytes: &[u8]) -> Result<(), SinkFault>
         ensures counted { CountsFault self.old.faults self.new.faults result }
         ensures never_falls { self.old.faults ≤ self.new.faults }
+
+        // A failed put is one more.
+        ensures one_more { result ≡ Err SinkFault.Failed → self.new.faults ≡ self.old.faults + 1 }
 
         // What the writer holds, where it is known.
         ensures whole { OnOk result (Appends self.old.written self.new.written bytes.now) }
