@@ -1,5 +1,6 @@
 -- The step of a thread. (Clight's small steps.)
 use Rattle.std.specs.Prelude.{ℕ, nat_eq, if◌then◌else◌, List, [], ◌∷◌, ◌++◌, map, replicate, Option, Some, None}
+use Rattle.std.specs.Option.{option_map}
 use Rattle.cas_base.specs.Word.{word_add, narrowed}
 use Rattle.cas_base.specs.declared.act.Act.{Act}
 use Rattle.cas_base.specs.declared.act.Act.TheVariants as act
@@ -43,12 +44,16 @@ pub record Config : Type 0 where
   pub memory : List Block
   pub fresh : ℕ
 
--- what a thread's program says of its functions: the statements of the body, where the body ends, and how many
--- cells each local has, the parameters first
+-- what a thread's program says of a function: its statements, where its body ends, and how many cells each local
+-- has, the parameters first
+pub record Body : Type 0 where
+  pub statements : List StmtTree
+  pub closing : Place
+  pub rooms : List ℕ
+
+-- a thread's program: its functions, each where it stands
 pub record Env : Type 0 where
-  pub body : FunctionAt → List StmtTree
-  pub closing : FunctionAt → Place
-  pub rooms : FunctionAt → List ℕ
+  pub function : FunctionAt → Option Body
 
 -- what an expression may look at: all locals, the serial number of its own activation, the shared words
 pub record Sight : Type 0 where
@@ -148,16 +153,16 @@ return_step h at = step_to h at [] (return_act h.older) (record {
   fresh = h.fresh;
 })
 
--- the step by the first item that the newest activation has to do
-abbrev pub step_by : Env → Here → List Todo → Step
-step_by e h [] = return_step h (e.closing h.newest.function)
-step_by e h (begin (print at x) ∷ todo) = print_step h at todo (value_of (sight_of h) x)
+-- the step by the first item that the newest activation has to do, where this is its function
+abbrev pub step_by : Here → List Todo → Body → Step
+step_by h [] body = return_step h body.closing
+step_by h (begin (print at x) ∷ todo) body = print_step h at todo (value_of (sight_of h) x)
 
--- the next step of a thread over these shared words; None where it has ended
+-- the next step of a thread over these shared words; None where it has ended, or its program has no such function
 abbrev pub step_of : Env → List ℕ → Config → (activations : List Activation) → Option Step
 step_of e ws c [] = None
 step_of e ws c (a ∷ older) =
-    Some (step_by e (record { newest = a; older = older; memory = c.memory; fresh = c.fresh; words = ws }) a.todo)
+    option_map (step_by (record { newest = a; older = older; memory = c.memory; fresh = c.fresh; words = ws }) a.todo) (e.function a.function)
 
 abbrev pub step : Env → List ℕ → Config → Option Step
 step e ws c = step_of e ws c c.activations
@@ -168,10 +173,14 @@ locals_of [] vs = []
 locals_of (n ∷ ns) [] = replicate n (word 0) ∷ locals_of ns []
 locals_of (n ∷ ns) (v ∷ vs) = (v ∷ []) ∷ locals_of ns vs
 
--- a thread at the start of a function with these arguments
-abbrev pub start : Env → FunctionAt → List Value → Config
-start e f vs = record {
-  activations = record { serial = 0; function = f; target = None; todo = map begin (e.body f) } ∷ [];
-  memory = record { serial = 0; locals = locals_of (e.rooms f) vs } ∷ [];
+-- a thread at the start of this body of a function, with these arguments
+abbrev pub started : FunctionAt → List Value → Body → Config
+started f vs body = record {
+  activations = record { serial = 0; function = f; target = None; todo = map begin body.statements } ∷ [];
+  memory = record { serial = 0; locals = locals_of body.rooms vs } ∷ [];
   fresh = 1;
 }
+
+-- a thread at the start of a function with these arguments, where its program has the function
+abbrev pub start : Env → FunctionAt → List Value → Option Config
+start e f vs = option_map (started f vs) (e.function f)

@@ -51,19 +51,18 @@ pub data Interleaves (e : Env) (first : World) : List ℕ → World → Type 0 w
   and_step : {threads : List ℕ} {w : World} → Interleaves e first threads w →
       (i : ℕ) (s : Step) → MayStep e w i s → Interleaves e first (threads ++ i ∷ []) (world_after w i s)
 
--- a thread for each of these functions, with its own number, from this one on, as its argument
-abbrev pub threads_from : Env → (first : ℕ) → (entries : List FunctionAt) → List Config
-threads_from e i [] = []
-threads_from e i (f ∷ fs) = start e f (word i ∷ []) ∷ threads_from e (i + 1) fs
+-- these threads stand at the start of these functions, each with its own number, from this one on, as its argument
+abbrev pub AreStarted : Env → (first : ℕ) → (entries : List FunctionAt) → List Config → Type 0
+AreStarted e i [] [] = Unit {0}
+AreStarted e i (f ∷ fs) (c ∷ cs) = (start e f (word i ∷ []) ≡ Some c) × AreStarted e (i + 1) fs cs
+AreStarted e i _ _ = ⊥
 
--- the first world: all threads at their entries, no lock held, no output
-abbrev pub first_world : Env → (entries : List FunctionAt) → (words : List ℕ) → World
-first_world e entries ws = record {
-  threads = threads_from e 0 entries;
-  words = ws;
-  holders = replicate (length ws) None;
-  out = [];
-}
+-- a first world: all threads at their entries, these shared words, no lock held, no output
+pub record IsFirstWorld (e : Env) (entries : List FunctionAt) (initial : List ℕ) (w : World) : Type 0 where
+  pub threads : AreStarted e 0 entries w.threads
+  pub words : w.words ≡ initial
+  pub holders : w.holders ≡ replicate (length initial) None
+  pub out : w.out ≡ []
 
 -- the thread has ended
 abbrev pub HasEnded : World → (thread : ℕ) → Type 0

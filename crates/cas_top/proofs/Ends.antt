@@ -3,17 +3,18 @@ use Rattle.std.proofs.Common.{◌≡◌, ◌<◌, ◌⊎◌, ℕ, List, [], ◌�
 use Rattle.cas_clight.specs.Tree.{ModuleTree}
 use Rattle.cas_top.specs.declared.refusal.Refusal.{Refusal}
 use Rattle.cas_top.specs.declared.refusal.Refusal.TheVariants as refusal
-use Rattle.cas_top.specs.Answer.{Told, Taken, IsRead, IsText, IsRefusal, joined, IsCut, IsPartly, IsUntold, usage, cannot_read, too_long, refused}
+use Rattle.std.specs.List.{concat}
+use Rattle.cas_top.specs.Answer.{Told, Taken, IsRead, IsText, IsRefusal, IsCut, IsPartly, IsUntold, usage, cannot_read, too_long, refused}
 use Rattle.cas_top.specs.First_form.{IsFirstForm}
 use Rattle.cas_top.specs.Plan.{PrintsLines}
 use Rattle.cas_top.specs.Printed.{line_of}
 use Rattle.cas_outside.specs.Sink.{TakesPrefix}
 use Rattle.cas_top.specs.View.{IsEnd, IsPutLines, IsTold, IsSaid, IsCause, Counts}
-use Rattle.cas_top.specs.Words.{Run, Command, run}
+use Rattle.cas_top.specs.Words.{Run, Command, Wanted, run, source_text}
 
 -- the lines of a module that was read are the text of the command
 pub text_of_lines : (told : Told) (r : Run) (source lock : List ℕ) (lines : List (List ℕ)) →
-    IsRead told r.source source → IsRead told r.lock lock → PrintsLines source r.thread lines → IsText told (run r) 0 (joined lines)
+    IsRead told (source_text r.source) source → IsRead told (source_text r.lock) lock → PrintsLines source r.thread lines → IsText told (run r) 0 (concat lines)
 text_of_lines told r source lock lines first second prints = record {
   texts = source ∷ lock ∷ [];
   read = (first, (second, tt));
@@ -24,14 +25,14 @@ text_of_lines told r source lock lines first second prints = record {
 
 -- putting those lines ends the work
 pub end_of_put : (told : Told) (r : Run) (source lock : List ℕ) (lines : List (List ℕ)) (before after : List (List ℕ)) (old new : Taken) (answer : Result (Unit {0}) Refusal) →
-    IsRead told r.source source → IsRead told r.lock lock → PrintsLines source r.thread lines →
-    IsPutLines old (joined lines) new answer → after ≡ before → IsEnd told (run r) before after old new answer
+    IsRead told (source_text r.source) source → IsRead told (source_text r.lock) lock → PrintsLines source r.thread lines →
+    IsPutLines old (concat lines) new answer → after ≡ before → IsEnd told (run r) before after old new answer
 end_of_put told r source lock lines before after old new (Ok done) first second prints put same =
-    ((joined lines, text_of_lines told r source lock lines first second prints, put), same)
+    ((concat lines, text_of_lines told r source lock lines first second prints, put), same)
 end_of_put told r source lock lines before after old new (Err refusal.Unwritten) first second prints put same =
-    ((0, joined lines, text_of_lines told r source lock lines first second prints, put), same)
+    ((0, concat lines, text_of_lines told r source lock lines first second prints, put), same)
 end_of_put told r source lock lines before after old new (Err refusal.Memory) first second prints put same =
-    (inr (0, joined lines, text_of_lines told r source lock lines first second prints, put), same)
+    (inr (0, concat lines, text_of_lines told r source lock lines first second prints, put), same)
 end_of_put told r source lock lines before after old new (Err refusal.Usage) first second prints put same = absurd put
 end_of_put told r source lock lines before after old new (Err (refusal.Unread n)) first second prints put same = absurd put
 end_of_put told r source lock lines before after old new (Err (refusal.TooLong n)) first second prints put same = absurd put
@@ -39,7 +40,7 @@ end_of_put told r source lock lines before after old new (Err (refusal.NotFirstF
 
 -- a module that isn't of the first form is refused
 pub refusal_of_form : (told : Told) (r : Run) (source lock : List ℕ) →
-    IsRead told r.source source → IsRead told r.lock lock → ((tree : ModuleTree) → IsFirstForm source r.thread tree → ⊥) →
+    IsRead told (source_text r.source) source → IsRead told (source_text r.lock) lock → ((tree : ModuleTree) → IsFirstForm source r.thread tree → ⊥) →
     IsRefusal told (run r) 1 (line_of (r.source ++ codes ":1:1: R0"))
 refusal_of_form told r source lock first second not_form = record {
   texts = source ∷ lock ∷ [];
@@ -54,26 +55,30 @@ told_of_name status line before now old new answer h =
     let P : List ℕ → Type 0 = λ l. IsTold status (line_of l) before now old new answer in subst P (append-nil line) h
 
 -- both texts were read, the shelf telling the same all along, and the lines were put
-pub run_end : (told told' : Told) (r : Run) (source text lock : List ℕ) (lines shown : List (List ℕ)) (before mid after : List (List ℕ)) (old new : Taken) (answer : Result (Unit {0}) Refusal) →
-    IsRead told r.source source × mid ≡ before → told' ≡ told → IsRead told' r.lock lock × after ≡ mid →
-    text ≡ source → PrintsLines text r.thread lines → shown ≡ lines → IsPutLines old (joined shown) new answer →
+pub run_end : (told told' : Told) (r : Run) (w v : Wanted) (source text lock : List ℕ) (lines shown : List (List ℕ)) (before mid after : List (List ℕ)) (old new : Taken) (answer : Result (Unit {0}) Refusal) →
+    w ≡ source_text r.source → v ≡ source_text r.lock → IsRead told w source × mid ≡ before → told' ≡ told → IsRead told' v lock × after ≡ mid →
+    text ≡ source → PrintsLines text r.thread lines → shown ≡ lines → IsPutLines old (concat shown) new answer →
     IsEnd told (run r) before after old new answer
-run_end told told' r source text lock lines shown before mid after old new answer first same second texts prints whole put =
-    let P : Told → Type 0 = λ t. IsRead t r.lock lock in
+run_end told told' r w v source text lock lines shown before mid after old new answer at_first at_second first same second texts prints whole put =
+    let P : Told → Type 0 = λ t. IsRead t v lock in
+    let S : Wanted → Type 0 = λ u. IsRead told u source in
+    let L : Wanted → Type 0 = λ u. IsRead told u lock in
     let Q : List ℕ → Type 0 = λ t. PrintsLines t r.thread lines in
-    let R : List (List ℕ) → Type 0 = λ l. IsPutLines old (joined l) new answer in
-    end_of_put told r source lock lines before after old new answer first.0 (subst P same second.0)
+    let R : List (List ℕ) → Type 0 = λ l. IsPutLines old (concat l) new answer in
+    end_of_put told r source lock lines before after old new answer (subst S at_first first.0) (subst L at_second (subst P same second.0))
     (subst Q texts prints) (subst R whole put) (second.1 ∙ first.1)
 
 -- both texts were read, and the first isn't of the first form
-pub run_refused : (told told' : Told) (r : Run) (source text lock : List ℕ) (before mid after : List (List ℕ)) (now : Taken) →
-    IsRead told r.source source × mid ≡ before → told' ≡ told → IsRead told' r.lock lock × after ≡ mid →
+pub run_refused : (told told' : Told) (r : Run) (w v : Wanted) (source text lock : List ℕ) (before mid after : List (List ℕ)) (now : Taken) →
+    w ≡ source_text r.source → v ≡ source_text r.lock → IsRead told w source × mid ≡ before → told' ≡ told → IsRead told' v lock × after ≡ mid →
     text ≡ source → ((tree : ModuleTree) → IsFirstForm text r.thread tree → ⊥) →
     IsRefusal told (run r) 1 (line_of (r.source ++ codes ":1:1: R0")) × (after ≡ before) × (now ≡ now)
-run_refused told told' r source text lock before mid after now first same second texts not_form =
-    let P : Told → Type 0 = λ t. IsRead t r.lock lock in
+run_refused told told' r w v source text lock before mid after now at_first at_second first same second texts not_form =
+    let P : Told → Type 0 = λ t. IsRead t v lock in
+    let S : Wanted → Type 0 = λ u. IsRead told u source in
+    let L : Wanted → Type 0 = λ u. IsRead told u lock in
     let Q : List ℕ → Type 0 = λ t. (tree : ModuleTree) → IsFirstForm t r.thread tree → ⊥ in
-    (refusal_of_form told r source lock first.0 (subst P same second.0) (subst Q texts not_form), second.1 ∙ first.1, refl)
+    (refusal_of_form told r source lock (subst S at_first first.0) (subst L at_second (subst P same second.0)) (subst Q texts not_form), second.1 ∙ first.1, refl)
 
 pub other_status : (status answer : ℕ) → status < 4 ⊎ 9 < status → answer ≡ status → answer ≡ 4 → ⊥
 other_status status answer (inl h) e f = omega arith

@@ -15,7 +15,7 @@ use Rattle.std.proofs.lemmas.Str.Parse.{IsNumeralModel, numerals_by_value, tells
 use Rattle.cas_base.specs.Name.{is_name_byte}
 use Rattle.cas_base.specs.declared.place.Place.{Place}
 use Rattle.cas_clight.specs.Tree.{ModuleTree}
-use Rattle.cas_top.specs.First_form.{Lexeme, Token, word, sign, tokens, place_behind, is_blank, begins_in_word, in_word, in_front, added_lexemes, module_of, origin, IsFormOf, IsFirstForm}
+use Rattle.cas_top.specs.First_form.{Lexeme, Token, alphanumeric, sign, tokens, place_behind, is_blank, begins_in_word, in_word, in_front, added_lexemes, module_of, origin, IsFormOf, IsFirstForm}
 use Rattle.cas_top.specs.First_form_reader.{is_numeral, IsLiteral, BeginsAdded, AreAdded, AreOfForm, IsSum, sum_lexemes, are_in_range, around, head_lexemes, tail_lexemes}
 
 -- a byte of a name is no blank
@@ -40,7 +40,7 @@ on at n = record { line = at.line; col = at.col + n }
 
 -- the run of name bytes that a text begins with is one word in front of the tokens behind it
 abbrev FrontWord : Place → List ℕ → ℕ → Type 0
-FrontWord at bs n = tokens at bs ≡ record { lexeme = word (take n bs); place = at } ∷ tokens (on at n) (drop n bs)
+FrontWord at bs n = tokens at bs ≡ record { lexeme = alphanumeric (take n bs); place = at } ∷ tokens (on at n) (drop n bs)
 
 last_byte : (at : Place) (b : ℕ) (bs : List ℕ) → is_name_byte b ≡ true → begins_in_word bs ≡ false → FrontWord at (b ∷ bs) 1
 last_byte at b bs h ends = front_byte at b bs (tokens (place_behind at b) bs) h ∙ rw (ends, behind_byte at b h) refl
@@ -51,7 +51,7 @@ further_byte at b c cs n h begins front =
     let place : record { line = (place_behind at b).line; col = (place_behind at b).col + n } ≡ on at (suc n) = rw (behind_byte at b h) (let e : at.col + 1 + n ≡ at.col + suc n = omega arith in rw e refl) in
     let behind : List Token = tokens (record { line = (place_behind at b).line; col = (place_behind at b).col + n }) (drop n bytes) in
     let rest : List Token = tokens (place_behind at b) bytes in
-    let first : Token = record { lexeme = word (take n bytes); place = place_behind at b } in
+    let first : Token = record { lexeme = alphanumeric (take n bytes); place = place_behind at b } in
     let touches : in_word at b (is_name_byte c) rest ≡ in_word at b true rest = ap (λ (t : Bool). in_word at b t rest) begins in
     let fronts : in_word at b true rest ≡ in_word at b true (first ∷ behind) = ap (λ (ts : List Token). in_word at b true ts) front in
     let places : in_word at b true (first ∷ behind) ≡ in_word at b true (first ∷ tokens (on at (suc n)) (drop n bytes)) = ap (λ (p : Place). in_word at b true (first ∷ tokens p (drop n bytes))) place in
@@ -75,7 +75,7 @@ front_word at b (c ∷ cs) h =
     ]
 
 -- a number behind others is added behind them
-added_more : (vs : List ℕ) (v : ℕ) → added_lexemes (vs ++ v ∷ []) ≡ added_lexemes vs ++ sign 43 ∷ word (decimal v) ∷ []
+added_more : (vs : List ℕ) (v : ℕ) → added_lexemes (vs ++ v ∷ []) ≡ added_lexemes vs ++ sign 43 ∷ alphanumeric (decimal v) ∷ []
 added_more [] v = refl
 added_more (u ∷ us) v = rw (added_more us v) refl
 
@@ -201,7 +201,7 @@ same_ends : {A : Type 0} (a b c d : List A) → length b ≡ length d → a ++ b
 same_ends a b c d l e = same_fronts a b c d (omega (arith, length-append a b, length-append c d, ap length e)) e
 
 -- what is no numeral is no literal
-pub not_literal : (w : List ℕ) → is_numeral w ≡ false → (v : ℕ) → IsLiteral (word w) v → ⊥
+pub not_literal : (w : List ℕ) → is_numeral w ≡ false → (v : ℕ) → IsLiteral (alphanumeric w) v → ⊥
 not_literal w h v l =
     let same : decimal v ≡ w = cc in
     let numeral : is_numeral w ≡ true = decimal_numeral w v l.1 same in
@@ -212,7 +212,7 @@ pub numeral_utf8 : (w : List ℕ) → is_numeral w ≡ true → IsUtf8 w
 numeral_utf8 w h = IsUtf8-from_ascii w (IsAscii-from_digits w (own.to w (numeral_digits w h).0))
 
 -- a numeral that is read as too great a number is no literal
-pub great_no_literal : {E : Type 0} (w : List ℕ) (r : Result ℕ E) (u : ℕ) → is_numeral w ≡ true → ParsesUnsigned 32 10 w r → r ≡ Ok u → 2 ^ 31 ≤ u → (v : ℕ) → IsLiteral (word w) v → ⊥
+pub great_no_literal : {E : Type 0} (w : List ℕ) (r : Result ℕ E) (u : ℕ) → is_numeral w ≡ true → ParsesUnsigned 32 10 w r → r ≡ Ok u → 2 ^ 31 ≤ u → (v : ℕ) → IsLiteral (alphanumeric w) v → ⊥
 great_no_literal w r u h parsed is great v l =
     let same : w ≡ decimal v = cc in
     let reads : r ≡ Ok v = parse-decimal 32 v w r (omega arith) (omega arith) same parsed in
@@ -220,7 +220,7 @@ great_no_literal w r u h parsed is great v l =
     omega arith
 
 -- nor is one that is not read
-pub unread_no_literal : {E : Type 0} (w : List ℕ) (r : Result ℕ E) (e : E) → ParsesUnsigned 32 10 w r → r ≡ Err e → (v : ℕ) → IsLiteral (word w) v → ⊥
+pub unread_no_literal : {E : Type 0} (w : List ℕ) (r : Result ℕ E) (e : E) → ParsesUnsigned 32 10 w r → r ≡ Err e → (v : ℕ) → IsLiteral (alphanumeric w) v → ⊥
 unread_no_literal w r e parsed is v l =
     let same : w ≡ decimal v = cc in
     let reads : r ≡ Ok v = parse-decimal 32 v w r (omega arith) (omega arith) same parsed in
@@ -279,7 +279,7 @@ in_range_push vs v h l =
     and_push are_in_range (λ (n : ℕ). nat_lt n (2 ^ 31)) refl (λ _ _. refl) vs v ∙ rw (h, small) refl
 
 -- the word that a text begins with, where its first byte is one of names
-pub begun_word : (at : Place) (bytes w behind : List ℕ) (n : ℕ) → 0 < length bytes → is_name_byte (get_or bytes 0 0) ≡ true → n ≡ prefix_len is_name_byte bytes → w ≡ take n bytes → behind ≡ drop n bytes → length w ≡ n → tokens at bytes ≡ record { lexeme = word w; place = at } ∷ tokens (record { line = at.line; col = at.col + length w }) behind
+pub begun_word : (at : Place) (bytes w behind : List ℕ) (n : ℕ) → 0 < length bytes → is_name_byte (get_or bytes 0 0) ≡ true → n ≡ prefix_len is_name_byte bytes → w ≡ take n bytes → behind ≡ drop n bytes → length w ≡ n → tokens at bytes ≡ record { lexeme = alphanumeric w; place = at } ∷ tokens (record { line = at.line; col = at.col + length w }) behind
 begun_word at [] w behind n some begins run front back long = absurd (omega arith)
 begun_word at (b ∷ bs) w behind n some begins run front back long = rw (long, front, back, run) (front_word at b bs begins)
 

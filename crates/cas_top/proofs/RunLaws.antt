@@ -1,7 +1,7 @@
 -- Runs of the machine go on step by step, and those of one code from one state to an end are the same.
-use Rattle.std.proofs.Common.{◌≡◌, ◌⊎◌, ◌+◌, ◌-◌, ◌<◌, List, length, Option, Some, None, slice_get, refl, sym, ap, subst, ◌∙◌, inl, inr, arith}
+use Rattle.std.proofs.Common.{◌≡◌, ◌⊎◌, ◌+◌, ◌-◌, ◌<◌, ℕ, List, [], ◌∷◌, length, Option, Some, None, slice_get, refl, sym, ap, subst, ◌∙◌, inl, inr, arith}
 use Rattle.std.proofs.lemmas.Option.{slice_get_within}
-use Rattle.cas_top.specs.Machine.{State, executed, Runs, stays, steps}
+use Rattle.cas_top.specs.Machine.{State, Report, executed, Runs, stays, steps}
 use Rattle.cas_top.specs.declared.machine.Instr.{Instr}
 use Rattle.cas_top.specs.declared.machine.Instr.TheVariants.{MovEax, AddEax, OutEax, Ret}
 use Rattle.cas_top.specs.declared.machine.End.{End}
@@ -9,6 +9,13 @@ use Rattle.cas_top.specs.declared.machine.End.{End}
 -- a run from a state to the same
 pub stays_at : (code : List Instr) (s t : State) → t ≡ s → Runs code s t
 stays_at code s t same = let P : State → Type 0 = λ u. Runs code s u in subst P (sym same) (stays s)
+
+-- a report of one thread, from its output and its end
+pub report_of_one : (out : List (ℕ × ℕ)) (ends : List End) (put_out : List (ℕ × ℕ)) (e : End) → out ≡ put_out → ends ≡ e ∷ [] →
+    let report : List (ℕ × ℕ) → List End → Report = λ o es. record { out = o; ends = es } in report out ends ≡ report put_out (e ∷ [])
+report_of_one out ends put_out e h k =
+    let report : List (ℕ × ℕ) → List End → Report = λ o es. record { out = o; ends = es } in
+    ap (λ o. report o ends) h ∙ ap (report put_out) k
 
 -- a run goes on by a step
 run_and_step : {code : List Instr} {s t : State} → Runs code s t → t.end ≡ None → Runs code s (executed (slice_get code t.place) t)

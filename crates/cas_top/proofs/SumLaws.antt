@@ -20,7 +20,7 @@ slice_get-append_seam (y ∷ xs) x ys = slice_get-append_seam xs x ys
 
 -- behind the first instructions of the code, with this word in the register and no output
 abbrev pub behind : List Instr → ℕ → State
-behind code n = record { place = length code; eax = n; out = []; end = None }
+behind code n = record { thread = 0; place = length code; eax = n; end = None; out = [] }
 
 -- the code leaves this word in the register, whatever comes behind it
 abbrev pub Leaves : List Instr → ℕ → Type 0

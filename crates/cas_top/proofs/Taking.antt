@@ -2,7 +2,8 @@
 use Rattle.std.proofs.Common.{◌≡◌, ℕ, ◌+◌, zero, suc, List, [], ◌∷◌, ◌++◌, length, take, Some, None, refl, ap, sym, ◌∙◌, subst, append_assoc, append-nil}
 use Rattle.std.proofs.Math.Seq.{take-append-add, take-length}
 use Rattle.cas_outside.specs.Sink.{TakesAll, TakesPrefix}
-use Rattle.cas_top.specs.Answer.{Taken, joined}
+use Rattle.std.specs.List.{concat}
+use Rattle.cas_top.specs.Answer.{Taken}
 
 -- a first part of a text is a first part of a longer one
 pub prefix_of_longer : (k : ℕ) (xs ys : List ℕ) → (j : ℕ) × (take j (xs ++ ys) ≡ take k xs)
@@ -51,15 +52,15 @@ pub goes_on_start : (old : Taken) (whole : List ℕ) → GoesOn old whole old wh
 goes_on_start old whole = record { all = λ new h. h; part = λ new h. h }
 
 -- one line was put
-pub goes_on_line : (old now next : Taken) (whole line : List ℕ) (rest : List (List ℕ)) → GoesOn old whole now (joined (line ∷ rest)) → TakesAll now line next → GoesOn old whole next (joined rest)
+pub goes_on_line : (old now next : Taken) (whole line : List ℕ) (rest : List (List ℕ)) → GoesOn old whole now (concat (line ∷ rest)) → TakesAll now line next → GoesOn old whole next (concat rest)
 goes_on_line old now next whole line rest h put = record {
-  all = λ new k. h.all new (takes_all_after now next new line (joined rest) put k);
-  part = λ new k. h.part new (takes_prefix_after now next new line (joined rest) put k);
+  all = λ new k. h.all new (takes_all_after now next new line (concat rest) put k);
+  part = λ new k. h.part new (takes_prefix_after now next new line (concat rest) put k);
 }
 
 -- putting a line failed
-pub goes_on_cut : (old now next : Taken) (whole line : List ℕ) (rest : List (List ℕ)) → GoesOn old whole now (joined (line ∷ rest)) → TakesPrefix now line next → TakesPrefix old whole next
-goes_on_cut old now next whole line rest h put = h.part next (takes_prefix_of_longer now next line (joined rest) put)
+pub goes_on_cut : (old now next : Taken) (whole line : List ℕ) (rest : List (List ℕ)) → GoesOn old whole now (concat (line ∷ rest)) → TakesPrefix now line next → TakesPrefix old whole next
+goes_on_cut old now next whole line rest h put = h.part next (takes_prefix_of_longer now next line (concat rest) put)
 
 -- there was no memory for putting a line
 pub goes_on_kept : (old now next : Taken) (whole rest : List ℕ) → GoesOn old whole now rest → next ≡ now → TakesPrefix old whole next
@@ -70,15 +71,15 @@ pub goes_on_end : (old now : Taken) (whole : List ℕ) → GoesOn old whole now 
 goes_on_end old now whole h = h.all now (takes_none now)
 
 -- the first of the lines that are left was put
-pub next_line : (old now next : Taken) (whole bytes line : List ℕ) (rest after : List (List ℕ)) → GoesOn old whole now (joined rest) → rest ≡ line ∷ after → bytes ≡ line → TakesAll now bytes next → GoesOn old whole next (joined after)
+pub next_line : (old now next : Taken) (whole bytes line : List ℕ) (rest after : List (List ℕ)) → GoesOn old whole now (concat rest) → rest ≡ line ∷ after → bytes ≡ line → TakesAll now bytes next → GoesOn old whole next (concat after)
 next_line old now next whole bytes line rest after h cons same put =
-    let P : List (List ℕ) → Type 0 = λ ls. GoesOn old whole now (joined ls) in
+    let P : List (List ℕ) → Type 0 = λ ls. GoesOn old whole now (concat ls) in
     let Q : List ℕ → Type 0 = λ t. TakesAll now t next in
     goes_on_line old now next whole line after (subst P cons h) (subst Q same put)
 
 -- putting it failed
-pub cut_line : (old now next : Taken) (whole bytes line : List ℕ) (rest after : List (List ℕ)) → GoesOn old whole now (joined rest) → rest ≡ line ∷ after → bytes ≡ line → TakesPrefix now bytes next → TakesPrefix old whole next
+pub cut_line : (old now next : Taken) (whole bytes line : List ℕ) (rest after : List (List ℕ)) → GoesOn old whole now (concat rest) → rest ≡ line ∷ after → bytes ≡ line → TakesPrefix now bytes next → TakesPrefix old whole next
 cut_line old now next whole bytes line rest after h cons same put =
-    let P : List (List ℕ) → Type 0 = λ ls. GoesOn old whole now (joined ls) in
+    let P : List (List ℕ) → Type 0 = λ ls. GoesOn old whole now (concat ls) in
     let Q : List ℕ → Type 0 = λ t. TakesPrefix now t next in
     goes_on_cut old now next whole line after (subst P cons h) (subst Q same put)

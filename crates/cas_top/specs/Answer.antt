@@ -1,10 +1,11 @@
 -- How the top call answers: its status, what `out` and `err` took, and the cause of each.
 use Rattle.std.specs.Prelude.{◌≡◌, ◌<◌, ◌≤◌, ◌⊎◌, ℕ, List, [], ◌∷◌, ◌++◌, length, Option, Some, None, codes}
+use Rattle.std.specs.List.{concat}
 use Rattle.cas_outside.specs.Shelf.{Texts, Tells, TellsLonger}
 use Rattle.cas_outside.specs.Sink.{TakesAll, TakesPrefix}
 use Rattle.cas_top.specs.Plan.{prints, refuses, Plans}
 use Rattle.cas_top.specs.Printed.{line_of}
-use Rattle.cas_top.specs.Words.{Command, names_of}
+use Rattle.cas_top.specs.Words.{Command, Wanted, wanted_texts}
 
 -- the texts that a shelf has, where it tells them
 abbrev pub Told : Type 0
@@ -14,45 +15,36 @@ Told = Option Texts
 abbrev pub Taken : Type 0
 Taken = Option (List ℕ)
 
--- the bytes that a module's or a lock's text has at most
-abbrev pub text_limit : ℕ
-text_limit = 1048576
+-- this is the wanted text as far as the shelf tells, and within its limit
+pub record IsRead (told : Told) (wanted : Wanted) (text : List ℕ) : Type 0 where
+  pub tells : Tells told wanted.name text
+  pub within : length text ≤ wanted.limit
 
--- this is the name's text as far as the shelf tells, and within the limit
-pub record IsRead (told : Told) (name text : List ℕ) : Type 0 where
-  pub tells : Tells told name text
-  pub within : length text ≤ text_limit
-
--- these are the texts of these names
-abbrev pub AreRead : Told → (names texts : List (List ℕ)) → Type 0
+-- these are the wanted texts
+abbrev pub AreRead : Told → List Wanted → (texts : List (List ℕ)) → Type 0
 AreRead told [] [] = Unit {0}
-AreRead told (n ∷ ns) (t ∷ ts) = IsRead told n t × AreRead told ns ts
+AreRead told (w ∷ ws) (t ∷ ts) = IsRead told w t × AreRead told ws ts
 AreRead told _ _ = ⊥
 
--- of these names, in their order, this is the first whose text is longer than the limit
-abbrev pub IsFirstLong : Told → (names : List (List ℕ)) → (long : List ℕ) → Type 0
+-- of the wanted texts, in their order, the first that is longer than its limit has this name
+abbrev pub IsFirstLong : Told → List Wanted → (long : List ℕ) → Type 0
 IsFirstLong told [] long = ⊥
-IsFirstLong told (n ∷ ns) long =
-    ((long ≡ n) × TellsLonger told n text_limit)
-    ⊎ ((text : List ℕ) × IsRead told n text × IsFirstLong told ns long)
-
--- lines, one after another
-abbrev pub joined : List (List ℕ) → List ℕ
-joined [] = []
-joined (line ∷ lines) = line ++ joined lines
+IsFirstLong told (w ∷ ws) long =
+    ((long ≡ w.name) × TellsLonger told w.name w.limit)
+    ⊎ ((text : List ℕ) × IsRead told w text × IsFirstLong told ws long)
 
 -- the command comes to printing lines with this status, and this is their text
 pub record IsText (told : Told) (c : Command) (status : ℕ) (text : List ℕ) : Type 0 where
   pub texts : List (List ℕ)
-  pub read : AreRead told (names_of c) texts
+  pub read : AreRead told (wanted_texts c) texts
   pub lines : List (List ℕ)
   pub plan : Plans c texts (prints status lines)
-  pub whole : text ≡ joined lines
+  pub whole : text ≡ concat lines
 
 -- the command comes to a refusal with this status, and this is its line
 pub record IsRefusal (told : Told) (c : Command) (status : ℕ) (line : List ℕ) : Type 0 where
   pub texts : List (List ℕ)
-  pub read : AreRead told (names_of c) texts
+  pub read : AreRead told (wanted_texts c) texts
   pub plan : Plans c texts (refuses status line)
 
 -- `out` took all that the command comes to printing with this status
@@ -83,16 +75,17 @@ IsMisused (Some c) old new = ⊥
 abbrev pub IsTooLong : Told → Option Command → (old new : Taken) → Type 0
 IsTooLong told None old new = ⊥
 IsTooLong told (Some c) old new =
-    (name : List ℕ) × IsFirstLong told (names_of c) name × TakesAll old (line_of (codes "cascc: too long " ++ name)) new
+    (name : List ℕ) × IsFirstLong told (wanted_texts c) name × TakesAll old (line_of (codes "cascc: too long " ++ name)) new
 
--- this is one of these names, and those before it have texts within the limit
-abbrev pub IsFirstUnread : Told → (names : List (List ℕ)) → (unread : List ℕ) → Type 0
+-- a wanted text has this name, and those before it are read
+abbrev pub IsFirstUnread : Told → List Wanted → (unread : List ℕ) → Type 0
 IsFirstUnread told [] unread = ⊥
-IsFirstUnread told (n ∷ ns) unread = (unread ≡ n) ⊎ ((text : List ℕ) × IsRead told n text × IsFirstUnread told ns unread)
+IsFirstUnread told (w ∷ ws) unread =
+    (unread ≡ w.name) ⊎ ((text : List ℕ) × IsRead told w text × IsFirstUnread told ws unread)
 
 -- this name of the command's, before which the others were read, is new on the shelf's list of failed names
 pub record IsFailed (told : Told) (c : Command) (before after : List (List ℕ)) (name : List ℕ) : Type 0 where
-  pub first : IsFirstUnread told (names_of c) name
+  pub first : IsFirstUnread told (wanted_texts c) name
   pub noted : after ≡ before ++ name ∷ []
 
 -- the reading of a name failed, and `err` took the line that says so
@@ -113,7 +106,7 @@ pub data IsLine (told : Told) (before after : List (List ℕ)) : Option Command 
   usage : IsLine told before after None (line_of (codes "cascc: usage"))
   cannot_read : (c : Command) (name : List ℕ) → IsFailed told c before after name →
       IsLine told before after (Some c) (line_of (codes "cascc: cannot read " ++ name))
-  too_long : (c : Command) (name : List ℕ) → IsFirstLong told (names_of c) name →
+  too_long : (c : Command) (name : List ℕ) → IsFirstLong told (wanted_texts c) name →
       IsLine told before after (Some c) (line_of (codes "cascc: too long " ++ name))
   refused : (c : Command) (status : ℕ) (line : List ℕ) → IsRefusal told c status line → IsLine told before after (Some c) line
 

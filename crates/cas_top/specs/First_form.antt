@@ -14,7 +14,7 @@ use Rattle.cas_clight.specs.Tree.{ExprTree, literal, binary, print, define, Modu
 
 -- what a text is made of: runs of the bytes that names have, and other bytes
 pub data Lexeme : Type 0 where
-  word : List ℕ → Lexeme
+  alphanumeric : List ℕ → Lexeme
   sign : ℕ → Lexeme
 
 -- a lexeme with the place of its first byte
@@ -41,13 +41,13 @@ begins_in_word (b ∷ bs) = is_name_byte b
 
 -- the bytes of a word
 abbrev pub word_of : Lexeme → List ℕ
-word_of (word w) = w
+word_of (alphanumeric w) = w
 word_of (sign b) = []
 
 -- a byte of a word in front of these tokens: of the first one's word, where they touch
 abbrev pub in_word : Place → ℕ → (touches : Bool) → List Token → List Token
-in_word at b true (t ∷ ts) = record { lexeme = word (b ∷ word_of t.lexeme); place = at } ∷ ts
-in_word at b _ ts = record { lexeme = word (b ∷ []); place = at } ∷ ts
+in_word at b true (t ∷ ts) = record { lexeme = alphanumeric (b ∷ word_of t.lexeme); place = at } ∷ ts
+in_word at b _ ts = record { lexeme = alphanumeric (b ∷ []); place = at } ∷ ts
 
 -- a byte in front of a text that has these tokens
 abbrev pub in_front : Place → ℕ → (rest : List ℕ) → List Token → List Token
@@ -81,13 +81,13 @@ is_free_name name = is_name name && not (list_any (λ w. bytes_eq name w) reserv
 -- `+ LIT` for each of these numbers
 abbrev pub added_lexemes : List ℕ → List Lexeme
 added_lexemes [] = []
-added_lexemes (v ∷ vs) = sign 43 ∷ word (decimal v) ∷ added_lexemes vs
+added_lexemes (v ∷ vs) = sign 43 ∷ alphanumeric (decimal v) ∷ added_lexemes vs
 
 -- `void NAME ( int me ) { print ( LIT { + LIT } ) ; }`
 abbrev pub form_lexemes : (name : List ℕ) → (first : ℕ) → (others : List ℕ) → List Lexeme
 form_lexemes name first others =
-    word (codes "void") ∷ word name ∷ sign 40 ∷ word (codes "int") ∷ word (codes "me") ∷ sign 41 ∷ sign 123
-    ∷ word (codes "print") ∷ sign 40 ∷ word (decimal first) ∷ (added_lexemes others ++ sign 41 ∷ sign 59 ∷ sign 125 ∷ [])
+    alphanumeric (codes "void") ∷ alphanumeric name ∷ sign 40 ∷ alphanumeric (codes "int") ∷ alphanumeric (codes "me") ∷ sign 41 ∷ sign 123
+    ∷ alphanumeric (codes "print") ∷ sign 40 ∷ alphanumeric (decimal first) ∷ (added_lexemes others ++ sign 41 ∷ sign 59 ∷ sign 125 ∷ [])
 
 -- an expression, and these literals added to it from left to right
 abbrev pub sum_tree : ExprTree → List ℕ → ExprTree

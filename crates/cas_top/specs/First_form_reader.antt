@@ -13,7 +13,7 @@ use Rattle.cas_top.specs.declared.first_form.tree.Parts.{Parts}
 
 -- the lexeme that this one holds
 abbrev pub lexeme_of : Lexeme → form.Lexeme
-lexeme_of (Word w) = form.word w.now
+lexeme_of (Word w) = form.alphanumeric w.now
 lexeme_of (Sign b) = form.sign b
 
 -- the token that this one holds
@@ -26,7 +26,7 @@ lexemes_of ts = map (λ t. lexeme_of t.lexeme) ts
 
 -- the lexeme is this literal: a number up to 2147483647, as it is written in decimal
 abbrev pub IsLiteral : form.Lexeme → ℕ → Type 0
-IsLiteral l v = (l ≡ form.word (decimal v)) × (v < 2 ^ 31)
+IsLiteral l v = (l ≡ form.alphanumeric (decimal v)) × (v < 2 ^ 31)
 
 -- digits alone, with no 0 in front but that of `0` itself
 abbrev pub is_numeral : List ℕ → Bool
@@ -39,7 +39,7 @@ are_in_range vs = list_all (λ v. nat_lt v (2 ^ 31)) vs
 
 -- the lexemes begin with `+ LIT` for this number, and then these follow
 abbrev pub BeginsAdded : List form.Lexeme → ℕ → List form.Lexeme → Type 0
-BeginsAdded ls v rest = (ls ≡ form.sign 43 ∷ form.word (decimal v) ∷ rest) × (v < 2 ^ 31)
+BeginsAdded ls v rest = (ls ≡ form.sign 43 ∷ form.alphanumeric (decimal v) ∷ rest) × (v < 2 ^ 31)
 
 -- the lexemes are `+ LIT` for each of these numbers
 abbrev pub AreAdded : List form.Lexeme → List ℕ → Type 0
@@ -47,7 +47,7 @@ AreAdded ls vs = (ls ≡ form.added_lexemes vs) × IsTrue (are_in_range vs)
 
 -- `LIT { + LIT }` for these numbers
 abbrev pub sum_lexemes : (first : ℕ) → (others : List ℕ) → List form.Lexeme
-sum_lexemes first others = form.word (decimal first) ∷ form.added_lexemes others
+sum_lexemes first others = form.alphanumeric (decimal first) ∷ form.added_lexemes others
 
 -- the lexemes are `LIT { + LIT }` for these numbers
 abbrev pub IsSum : List form.Lexeme → (first : ℕ) → (others : List ℕ) → Type 0
@@ -56,8 +56,8 @@ IsSum ls first others = (ls ≡ sum_lexemes first others) × IsTrue (are_in_rang
 -- `void NAME ( int me ) { print (`
 abbrev pub head_lexemes : (name : List ℕ) → List form.Lexeme
 head_lexemes name =
-    form.word (codes "void") ∷ form.word name ∷ form.sign 40 ∷ form.word (codes "int") ∷ form.word (codes "me") ∷ form.sign 41
-    ∷ form.sign 123 ∷ form.word (codes "print") ∷ form.sign 40 ∷ []
+    form.alphanumeric (codes "void") ∷ form.alphanumeric name ∷ form.sign 40 ∷ form.alphanumeric (codes "int") ∷ form.alphanumeric (codes "me") ∷ form.sign 41
+    ∷ form.sign 123 ∷ form.alphanumeric (codes "print") ∷ form.sign 40 ∷ []
 
 -- `) ; }`
 abbrev pub tail_lexemes : List form.Lexeme

@@ -10,20 +10,22 @@ use Rattle.cas_top.specs.declared.machine.Instr.TheVariants.{MovEax, AddEax, Out
 use Rattle.cas_top.specs.declared.machine.End.{End}
 use Rattle.cas_top.specs.declared.machine.End.TheVariants as end
 
--- the thread: the place of its next instruction, its register, what it has put out, and how it ended
+-- the thread: its number, the place of its next instruction, its register, how it ended, and the output, words
+-- with their thread
 pub record State : Type 0 where
+  pub thread : ℕ
   pub place : ℕ
   pub eax : ℕ
-  pub out : List ℕ
   pub end : Option End
+  pub out : List (ℕ × ℕ)
 
 -- the state after the instruction at the thread's place, or where the code has no such place
 abbrev pub executed : Option Instr → State → State
-executed (Some (MovEax i)) s = record { place = s.place + 1; eax = i; out = s.out; end = None }
-executed (Some (AddEax i)) s = record { place = s.place + 1; eax = word_add s.eax i; out = s.out; end = None }
-executed (Some OutEax) s = record { place = s.place + 1; eax = s.eax; out = s.out ++ s.eax ∷ []; end = None }
-executed (Some Ret) s = record { place = s.place; eax = s.eax; out = s.out; end = Some end.Done }
-executed None s = record { place = s.place; eax = s.eax; out = s.out; end = Some end.Bad }
+executed (Some (MovEax i)) s = record s { place = s.place + 1; eax = i }
+executed (Some (AddEax i)) s = record s { place = s.place + 1; eax = word_add s.eax i }
+executed (Some OutEax) s = record s { place = s.place + 1; out = s.out ++ (s.thread, s.eax) ∷ [] }
+executed (Some Ret) s = record s { end = Some end.Done }
+executed None s = record s { end = Some end.Bad }
 
 -- a run of the code from a state to another: a step as long as the thread has no end
 pub data Runs (code : List Instr) : State → State → Type 0 where
@@ -32,11 +34,17 @@ pub data Runs (code : List Instr) : State → State → Type 0 where
 
 -- the start of a thread: its number is in the register
 abbrev pub start : (thread : ℕ) → State
-start thread = record { place = 0; eax = thread; out = []; end = None }
+start thread = record { thread = thread; place = 0; eax = thread; end = None; out = [] }
 
--- a run of thread 0 ends by its return, and has put these words out
-abbrev pub RunsTo : List Instr → List ℕ → Type 0
-RunsTo code out = (s : State) × Runs code (start 0) s × (s.end ≡ Some end.Done) × (s.out ≡ out)
+-- what a run that has ended leaves: its outputs in order, words with their thread, and how each thread ended
+pub record Report : Type 0 where
+  pub out : List (ℕ × ℕ)
+  pub ends : List End
+
+-- a run of thread 0 alone ends, and this is its report
+abbrev pub RunsTo : List Instr → Report → Type 0
+RunsTo code report =
+    (s : State) × Runs code (start 0) s × (e : End) × (s.end ≡ Some e) × (report ≡ record { out = s.out; ends = e ∷ [] })
 
 -- this code leaves the value of the expression, a sum of literals, in the register
 pub data IsExprCode : ExprTree → List Instr → Type 0 where

@@ -9,7 +9,8 @@ use Rattle.cas_top.specs.declared.refusal.Refusal.TheVariants as refusal
 use Rattle.cas_top.specs.declared.words.Command.{Command}
 use Rattle.cas_top.specs.declared.words.Command.TheVariants as code
 use Rattle.cas_top.specs.declared.words.Run.{Run}
-use Rattle.cas_top.specs.Answer.{Told, Taken, IsRefusal, IsFirstLong, IsCut, IsPartly, IsPrinted, IsRead, IsFailed, IsTried, text_limit}
+use Rattle.cas_top.specs.declared.words.Wanted.{Wanted}
+use Rattle.cas_top.specs.Answer.{Told, Taken, IsRefusal, IsFirstLong, IsCut, IsPartly, IsPrinted, IsRead, IsFailed, IsTried}
 use Rattle.cas_top.specs.Printed.{line_of}
 use Rattle.cas_top.specs.Words as words
 
@@ -19,13 +20,16 @@ run_view r = record { source = r.source.now; lock = r.lock.now; thread = r.threa
 abbrev pub command_view : Command → words.Command
 command_view (code.Run r) = words.run (run_view r)
 
--- the text of a name was read, or this is why not; the shelf's failed names before and after
-abbrev pub IsFetched : Told → (name : List ℕ) → (before after : List (List ℕ)) → Result (Vec ℕ Global) Refusal → Type 0
-IsFetched told name before after (Ok text) = IsRead told name text.items × (after ≡ before)
-IsFetched told name before after (Err (refusal.Unread n)) = (n.now ≡ name) × (after ≡ before ++ name ∷ [])
-IsFetched told name before after (Err (refusal.TooLong n)) = (n.now ≡ name) × TellsLonger told name text_limit × (after ≡ before)
-IsFetched told name before after (Err refusal.Memory) = after ≡ before
-IsFetched told name before after (Err r) = ⊥
+abbrev pub wanted_view : Wanted → words.Wanted
+wanted_view w = record { name = w.name.now; limit = w.limit }
+
+-- the wanted text was read, or this is why not; the shelf's failed names before and after
+abbrev pub IsFetched : Told → words.Wanted → (before after : List (List ℕ)) → Result (Vec ℕ Global) Refusal → Type 0
+IsFetched told w before after (Ok text) = IsRead told w text.items × (after ≡ before)
+IsFetched told w before after (Err (refusal.Unread n)) = (n.now ≡ w.name) × (after ≡ before ++ w.name ∷ [])
+IsFetched told w before after (Err (refusal.TooLong n)) = (n.now ≡ w.name) × TellsLonger told w.name w.limit × (after ≡ before)
+IsFetched told w before after (Err refusal.Memory) = after ≡ before
+IsFetched told w before after (Err r) = ⊥
 
 -- all of the text was put, or a first part of it
 abbrev pub IsPutLines : (old : Taken) → (text : List ℕ) → (new : Taken) → Result (Unit {0}) Refusal → Type 0
@@ -39,7 +43,7 @@ abbrev pub IsCause : Told → words.Command → (before after : List (List ℕ))
 IsCause told c before after old new refusal.Usage = ⊥
 IsCause told c before after old new (refusal.Unread name) = IsFailed told c before after name.now × (new ≡ old)
 IsCause told c before after old new (refusal.TooLong name) =
-    IsFirstLong told (words.names_of c) name.now × (after ≡ before) × (new ≡ old)
+    IsFirstLong told (words.wanted_texts c) name.now × (after ≡ before) × (new ≡ old)
 IsCause told c before after old new (refusal.NotFirstForm name) =
     IsRefusal told c 1 (line_of (name.now ++ codes ":1:1: R0")) × (after ≡ before) × (new ≡ old)
 IsCause told c before after old new refusal.Unwritten = IsPartly told (Some c) old new × (after ≡ before)

@@ -28,6 +28,19 @@ command_of (command ∷ source ∷ first ∷ lock ∷ second ∷ thread ∷ []) 
     else None
 command_of _ = None
 
--- the names of the texts that a command reads, in the order in which it reads them
-abbrev pub names_of : Command → List (List ℕ)
-names_of (run r) = r.source ∷ r.lock ∷ []
+-- the bytes that a module's or a lock's text has at most
+abbrev pub source_limit : ℕ
+source_limit = 1048576
+
+-- a text that a command reads: its name, and how many bytes it has at most
+pub record Wanted : Type 0 where
+  pub name : List ℕ
+  pub limit : ℕ
+
+-- the text of a module or a lock
+abbrev pub source_text : (name : List ℕ) → Wanted
+source_text name = record { name = name; limit = source_limit }
+
+-- the texts that a command reads, in that order
+abbrev pub wanted_texts : Command → List Wanted
+wanted_texts (run r) = source_text r.source ∷ source_text r.lock ∷ []

@@ -2,23 +2,20 @@
 //! program prints are put.
 
 ghost use Rattle.std.specs.Prelude.{◌≡◌, ◌≤◌, length, IfOk, IfSome, IfNone};
+ghost use Rattle.std.specs.List.{concat};
 ghost use Rattle.cas_clight.specs.Tree.{ModuleTree};
-ghost use Rattle.cas_top.specs.Answer.{joined, text_limit};
 ghost use Rattle.cas_top.specs.First_form.{IsFirstForm};
 ghost use Rattle.cas_top.specs.Plan.{PrintsLines};
-ghost use Rattle.cas_top.specs.Words.{run};
-ghost use Rattle.cas_top.specs.View.{command_view, run_view, IsEnd, Counts, IsFetched, IsPutLines};
+ghost use Rattle.cas_top.specs.Words.{run, source_limit};
+ghost use Rattle.cas_top.specs.View.{command_view, run_view, wanted_view, IsEnd, Counts, IsFetched, IsPutLines};
 
 use crate::first_form::read_first_form;
 use crate::outcome::lines_of;
 use crate::refusal::Refusal;
-use crate::words::{Command, Run};
+use crate::words::{Command, Run, Wanted, source_text};
 use cas_base::{NoMemory, Text};
 use cas_outside::{Shelf, ShelfFault, Sink, SinkFault};
 use std::alloc::Global;
-
-/// The most bytes that a module's or a lock's text has.
-const TEXT_LIMIT: u64 = 1_048_576;
 
 /// Does the work of a command.
 pub(crate) fn perform<'a, S: Shelf, O: Sink>(
@@ -48,11 +45,11 @@ fn perform_run<'a, S: Shelf, O: Sink>(
     ensures counted { Counts (O.faults out.old) (O.faults out.new) result }
     ensures same_texts { S.texts shelf.new ≡ S.texts shelf.old }
 {
-    let source = match fetch(alloc, shelf, given.source) {
+    let source = match fetch(alloc, shelf, source_text(given.source)) {
         Ok(text) => text,
         Err(refusal) => return Err(refusal),
     };
-    let _lock = match fetch(alloc, shelf, given.lock) {
+    let _lock = match fetch(alloc, shelf, source_text(given.lock)) {
         Ok(text) => text,
         Err(refusal) => return Err(refusal),
     };
@@ -63,22 +60,26 @@ fn perform_run<'a, S: Shelf, O: Sink>(
     }
 }
 
-// The text of a name.
-fn fetch<'a, S: Shelf>(alloc: Global, shelf: &mut S, name: &'a str) -> Result<Vec<u8>, Refusal<'a>>
+// A text that a command reads.
+fn fetch<'a, S: Shelf>(
+    alloc: Global,
+    shelf: &mut S,
+    wanted: Wanted<'a>,
+) -> Result<Vec<u8>, Refusal<'a>>
     ensures same { S.texts shelf.new ≡ S.texts shelf.old }
-    ensures fetched { IsFetched (S.texts shelf.old) name.entry.now (S.failed shelf.old) (S.failed shelf.new) result }
+    ensures fetched { IsFetched (S.texts shelf.old) (wanted_view wanted.entry) (S.failed shelf.old) (S.failed shelf.new) result }
 {
-    match shelf.read(alloc, name, TEXT_LIMIT) {
+    match shelf.read(alloc, wanted.name, wanted.limit) {
         Ok(text) => Ok(text),
-        Err(ShelfFault::Failed) => Err(Refusal::Unread(name)),
-        Err(ShelfFault::TooLong) => Err(Refusal::TooLong(name)),
+        Err(ShelfFault::Failed) => Err(Refusal::Unread(wanted.name)),
+        Err(ShelfFault::TooLong) => Err(Refusal::TooLong(wanted.name)),
         Err(ShelfFault::Memory) => Err(Refusal::Memory),
     }
 }
 
 // The lines that a module text of the first form prints on one thread, whose function has this name.
 fn lines_of_text(alloc: Global, text: &[u8], thread: &str) -> Result<Option<Vec<Text>>, NoMemory>
-    requires { length text.now ≤ text_limit }
+    requires { length text.now ≤ source_limit }
     ensures printed { IfOk result (λ o. IfSome o (λ lines. PrintsLines text.now thread.now lines.items)) }
     ensures others { IfOk result (λ o. IfNone o ((tree : ModuleTree) → IsFirstForm text.now thread.now tree → ⊥)) }
 {
@@ -90,7 +91,7 @@ fn lines_of_text(alloc: Global, text: &[u8], thread: &str) -> Result<Option<Vec<
 
 // Puts the lines, each by itself.
 fn put_lines<'a, O: Sink>(out: &mut O, lines: &[Text]) -> Result<(), Refusal<'a>>
-    ensures put { IsPutLines (O.taken out.old) (joined lines.now) (O.taken out.new) result }
+    ensures put { IsPutLines (O.taken out.old) (concat lines.now) (O.taken out.new) result }
     ensures counted { Counts (O.faults out.old) (O.faults out.new) result }
 {
     let mut rest = lines;

@@ -1,6 +1,6 @@
 //! The machine that runs the generated code: one thread, on the register eax alone.
 ghost use Rattle.std.specs.Prelude.{◌≡◌, ◌<◌, IfOk, Some, None, slice_get, length};
-ghost use Rattle.cas_top.specs.Machine.{State, start, executed, Runs};
+ghost use Rattle.cas_top.specs.Machine.{start, executed, RunsTo};
 
 use cas_base::{NoMemory, add};
 use std::alloc::Global;
@@ -28,21 +28,31 @@ pub enum End {
     Bad,
 }
 
-/// What a run that has ended leaves: the words that it has put out, in order, and its end.
+/// What a run that has ended leaves: its outputs in order, words with their thread, and how each thread ended.
+/// Contracts see it as a `Report` of lists.
 #[derive(Debug, Drop)]
 pub(crate) struct Report {
-    pub(crate) out: Vec<u32>,
-    pub(crate) end: End,
+    pub(crate) out: Vec<(u32, u32)>,
+    pub(crate) ends: Vec<End>,
 }
 
-// The thread: the number of its next instruction, its register, its output, and its end, where it has one.
-// Contracts see it as a `State`.
+impl Model for Report {
+    ghost use Rattle.cas_top.specs.Machine.{Report};
+
+    ghost Value = { Report };
+
+    ghost view = { λ r. record { out = r.out.items; ends = r.ends.items } };
+}
+
+// The thread: its number, the number of its next instruction, its register, its end, where it has one, and the
+// output. Contracts see it as a `State`.
 #[derive(Drop)]
 struct Machine {
+    thread: u32,
     place: usize,
     eax: u32,
-    out: Vec<u32>,
     end: Option<End>,
+    out: Vec<(u32, u32)>,
 }
 
 impl Model for Machine {
@@ -50,7 +60,7 @@ impl Model for Machine {
 
     ghost Value = { State };
 
-    ghost view = { λ m. record { place = m.place; eax = m.eax; out = m.out.items; end = m.end } };
+    ghost view = { λ m. record { thread = m.thread; place = m.place; eax = m.eax; end = m.end; out = m.out.items } };
 }
 
 impl Machine {
@@ -59,10 +69,11 @@ impl Machine {
         ensures { result ≡ start 0 }
     {
         Machine {
+            thread: 0,
             place: 0,
             eax: 0,
-            out: Vec::new(alloc),
             end: None,
+            out: Vec::new(alloc),
         }
     }
 
@@ -78,7 +89,7 @@ impl Machine {
         match instr {
             Instr::MovEax(number) => self.eax = *number,
             Instr::AddEax(number) => self.eax = add(self.eax, *number),
-            Instr::OutEax => self.out.push(self.eax)?,
+            Instr::OutEax => self.out.push((self.thread, self.eax))?,
             Instr::Ret => {
                 self.end = Some(End::Done);
                 return Ok(());
@@ -92,7 +103,7 @@ impl Machine {
 /// Runs thread 0 from its start to its end, which it reaches, since each instruction but `ret` goes one
 /// place on.
 pub(crate) fn run(alloc: Global, code: &[Instr]) -> Result<Report, NoMemory>
-    ensures { IfOk result (λ r. (s : State) × Runs code.now (start 0) s × (s.end ≡ Some r.end) × (s.out ≡ r.out.items)) }
+    ensures { IfOk result (λ report. RunsTo code.now report) }
 {
     let mut machine = Machine::new(alloc);
     loop {
@@ -100,7 +111,7 @@ pub(crate) fn run(alloc: Global, code: &[Instr]) -> Result<Report, NoMemory>
         if let Some(end) = machine.end {
             return Ok(Report {
                 out: machine.out,
-                end,
+                ends: vec![in alloc; end]?,
             });
         }
     }
@@ -120,16 +131,16 @@ mod tests {
             Instr::Ret,
         ];
         let report = run(rt.alloc(), &code)?;
-        assert_eq!(rt; report.end, End::Done);
-        assert_eq!(rt; report.out.as_slice(), [2147483648].as_slice());
+        assert_eq!(rt; report.ends.as_slice(), [End::Done].as_slice());
+        assert_eq!(rt; report.out.as_slice(), [(0, 2147483648)].as_slice());
         Ok(())
     }
 
     #[test]
     fn code_without_a_return_ends_bad(rt: HostRuntime) -> Result<(), Fail> {
         let report = run(rt.alloc(), &[Instr::MovEax(7), Instr::OutEax])?;
-        assert_eq!(rt; report.end, End::Bad);
-        assert_eq!(rt; report.out.as_slice(), [7].as_slice());
+        assert_eq!(rt; report.ends.as_slice(), [End::Bad].as_slice());
+        assert_eq!(rt; report.out.as_slice(), [(0, 7)].as_slice());
         Ok(())
     }
 }

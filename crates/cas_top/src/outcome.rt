@@ -1,28 +1,28 @@
 //! What a run of a module comes to: its code is generated and run, and its output printed.
-ghost use Rattle.std.specs.Prelude.{◌≡◌, ℕ, List, map, IfOk, IfSome, IfNone};
+ghost use Rattle.std.specs.Prelude.{◌≡◌, ℕ, List, IfOk, IfSome, IfNone};
 ghost use Rattle.cas_clight.specs.Tree.{module_tree};
 ghost use Rattle.cas_top.specs.First_form.{IsFirstForm};
-ghost use Rattle.cas_top.specs.Plan.{IsOutput};
-ghost use Rattle.cas_top.specs.Printed.{finished_lines};
+ghost use Rattle.cas_top.specs.Machine.{Report};
+ghost use Rattle.cas_top.specs.Plan.{IsFinished};
+ghost use Rattle.cas_top.specs.Printed.{report_lines};
 
 use crate::generate::generate;
-use crate::machine::{End, run};
-use crate::printed::finished;
+use crate::machine::run;
+use crate::printed::report_lines;
 use cas_base::{NoMemory, Text};
 use cas_clight::Module;
 use std::alloc::Global;
 
 /// The lines that a finished run of the module prints. A module of the first form has them.
 pub(crate) fn lines_of(alloc: Global, tree: &Module) -> Result<Option<Vec<Text>>, NoMemory>
-    ensures printed { IfOk result (λ o. IfSome o (λ lines. (out : List ℕ) × IsOutput (module_tree tree.now) out × (lines.items ≡ finished_lines (map (λ v. (0, v)) out)))) }
+    ensures printed { IfOk result (λ o. IfSome o (λ lines. (report : Report) × IsFinished (module_tree tree.now) report × (lines.items ≡ report_lines report))) }
     ensures others { IfOk result (λ o. IfNone o ((text name : List ℕ) → IsFirstForm text name (module_tree tree.now) → ⊥)) }
 {
     let Some(code) = generate(alloc, tree)? else {
         return Ok(None);
     };
     let report = run(alloc, &code)?;
-    prove!(report.end == End::Done);
-    Ok(Some(finished(alloc, &report.out)?))
+    Ok(Some(report_lines(alloc, &report)?))
 }
 
 #[cfg(test)]
@@ -93,8 +93,8 @@ mod tests {
         ];
         assert_eq!(rt; code.as_slice(), expected.as_slice());
         let report = run(alloc, &code)?;
-        assert_eq!(rt; report.out.as_slice(), [2147483648].as_slice());
-        assert_eq!(rt; finished(alloc, &report.out)?.len(), 2);
+        assert_eq!(rt; report.out.as_slice(), [(0, 2147483648)].as_slice());
+        assert_eq!(rt; report_lines(alloc, &report)?.len(), 2);
         let Some(lines) = lines_of(alloc, &module)? else {
             return Ok(assert!(rt; false, "the module has lines"));
         };

@@ -1,10 +1,30 @@
 ghost use Rattle.std.specs.Prelude.{◌≡◌, Option, Some, None, not, ◌&&◌, ◌==◌};
 ghost use Rattle.std.specs.Option.{option_map};
 ghost use Rattle.cas_base.specs.Name.{is_name};
-ghost use Rattle.cas_top.specs.Words.{command_of, is_text_name};
-ghost use Rattle.cas_top.specs.View.{command_view};
+ghost use Rattle.cas_top.specs.Words.{command_of, is_text_name, source_text};
+ghost use Rattle.cas_top.specs.View.{command_view, wanted_view};
 
 use cas_base::{Name, Text};
+
+/// The most bytes that a module's or a lock's text has.
+const SOURCE_LIMIT: u64 = 1_048_576;
+
+/// A text that a command reads: its name, and how many bytes it has at most.
+#[derive(Clone, Copy)]
+pub(crate) struct Wanted<'a> {
+    pub(crate) name: &'a str,
+    pub(crate) limit: u64,
+}
+
+/// The text of a module or a lock.
+pub(crate) fn source_text(name: &str) -> Wanted<'_>
+    ensures { wanted_view result ≡ source_text name.now }
+{
+    Wanted {
+        name,
+        limit: SOURCE_LIMIT,
+    }
+}
 
 /// What `run` is given: the names of the module's text and of the lock's text, and the thread's function.
 #[derive(Clone, Copy)]

@@ -10,7 +10,7 @@ const GREATEST: u32 = 2147483647;
 
 /// The number that a word is in decimal, with no leading zero, where it is at most 2147483647.
 pub(crate) fn literal_value(text: &[u8]) -> Option<u32>
-    ensures { MatchOption result ((v : ℕ) → IsLiteral (form.word text.now) v → ⊥) (λ v. IsLiteral (form.word text.now) v) }
+    ensures { MatchOption result ((v : ℕ) → IsLiteral (form.alphanumeric text.now) v → ⊥) (λ v. IsLiteral (form.alphanumeric text.now) v) }
 {
     if !is_numeral(text) {
         return None;

@@ -1,6 +1,6 @@
 use Rattle.std.proofs.Common.{sym, ap, ◌∙◌}
 use Rattle.cas_top.specs.Machine.{State}
-use Rattle.cas_top.proofs.RunLaws.{stays_at, run_on, fewer_left}
+use Rattle.cas_top.proofs.RunLaws.{report_of_one, stays_at, run_on, fewer_left}
 use Rattle.cas_top.proofs.machine.run.Goals as goal
 
 pub loop-machine-init : goal.loop-machine-init
@@ -13,8 +13,9 @@ pub returns-in-Some : goal.returns-in-Some
 returns-in-Some c = (
   c.step.new.self,
   run_on c.loop-machine.invariant.reached c.loop-machine.invariant.going c.in_ok-step.ensures,
+  _,
   ap (λ (s : State). s.end) (sym c.machine.view_is) ∙ c.in-Some.is,
-  ap (λ (s : State). s.out) (sym c.machine.view_is),
+  report_of_one _ _ _ _ (ap (λ (s : State). s.out) c.machine.view_is) c.in_ok-vec.ensures.items,
 )
 
 pub loop-machine-smaller : goal.loop-machine-smaller

@@ -14,7 +14,7 @@ returns-then-value-le-GREATEST c =
     let same : c.in-Ok.digits.now ≡ c.args.text.now = c.in-Ok.ensures.cases.0 in
     let parsed = rw same at c.parse.ensures.value.0 in
     let read = numeral_read c.args.text.now c.parse.result c.in-Ok-parse.value (sym c.if-not-is_numeral.ensures) parsed c.in-Ok-parse.is in
-    (ap form.word (sym read), omega arith)
+    (ap form.alphanumeric (sym read), omega arith)
 
 pub returns-else-value-le-GREATEST : goal.returns-else-value-le-GREATEST
 returns-else-value-le-GREATEST c =

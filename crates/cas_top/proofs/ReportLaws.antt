@@ -1,16 +1,16 @@
--- A module with code has one output: of the machine on that code, and of an interleaving that ends.
-use Rattle.std.proofs.Common.{◌≡◌, ℕ, ◌+◌, suc, List, [], ◌∷◌, ◌++◌, length, Some, None, slice_get, refl, sym, ap, subst, ◌∙◌, arith}
+-- A module with code has one report: that of the machine on that code, and of an interleaving that ends.
+use Rattle.std.proofs.Common.{◌≡◌, ◌↔◌, ℕ, ◌+◌, zero, suc, List, [], ◌∷◌, ◌++◌, length, map, Some, None, slice_get, refl, sym, ap, subst, ◌∙◌, arith}
 use Rattle.cas_base.specs.declared.decl.Decl.{Decl}
 use Rattle.cas_base.specs.declared.kind.Kind.TheVariants.{I32}
 use Rattle.cas_base.specs.declared.place.Place.{Place}
 use Rattle.cas_clight.specs.declared.tree.Ident.{Ident}
 use Rattle.cas_clight.specs.Tree.{ExprTree, literal, StmtTree, print, ItemTree, define, ModuleTree}
 use Rattle.cas_clight.specs.Program.{env_of}
-use Rattle.cas_clight.specs.Step.{Config, Here, Sight, Env, begin, word, gives, value_of, sight_of, thread_with, print_step, return_step, start as start_of}
-use Rattle.cas_clight.specs.World.{World, MayStep, world_after, Interleaves, at_first, and_step, first_world, HasEnded}
+use Rattle.cas_clight.specs.Step.{Config, Here, Sight, Env, begin, word, gives, value_of, sight_of, thread_with, print_step, return_step, started}
+use Rattle.cas_clight.specs.World.{World, MayStep, world_after, Interleaves, at_first, and_step, IsFirstWorld, HasEnded}
 use Rattle.cas_top.specs.First_form.{IsFirstForm}
-use Rattle.cas_top.specs.Machine.{State, executed, Runs, stays, steps, start, loads, IsBodyCode, IsItemsCode}
-use Rattle.cas_top.specs.Plan.{entry, IsOutput}
+use Rattle.cas_top.specs.Machine.{State, Report, RunsTo, executed, Runs, stays, steps, start, loads, IsBodyCode, IsItemsCode}
+use Rattle.cas_top.specs.Plan.{entry, IsDone, IsFinished}
 use Rattle.cas_top.specs.declared.machine.End.{End}
 use Rattle.cas_top.specs.declared.machine.End.TheVariants.{Done}
 use Rattle.cas_top.specs.declared.machine.Instr.{Instr}
@@ -35,30 +35,41 @@ printing d ps at e place closing = record {
 abbrev body_of : List Instr → List Instr
 body_of sum = sum ++ OutEax ∷ Ret ∷ []
 
--- a thread that has put this word out and ended
+-- thread 0 has put this word out and ended
 abbrev finished : List Instr → ℕ → State
-finished sum n = record { place = length sum + 1; eax = n; out = n ∷ []; end = Some Done }
+finished sum n = record { thread = 0; place = length sum + 1; eax = n; end = Some Done; out = (0, n) ∷ [] }
 
 -- the machine goes from the word in the register to the end
 ends_behind : (sum : List Instr) (n : ℕ) → Runs (body_of sum) (behind sum n) (finished sum n)
 ends_behind sum n =
     let code : List Instr = body_of sum in
-    let put_out : State = record { place = length sum + 1; eax = n; out = n ∷ []; end = None } in
+    let put_out : State = record { thread = 0; place = length sum + 1; eax = n; end = None; out = (0, n) ∷ [] } in
     let at_out : executed (slice_get code (length sum)) (behind sum n) ≡ put_out = rw (slice_get-append_seam sum OutEax (Ret ∷ [])) refl in
     let at_return : executed (slice_get code (length sum + 1)) put_out ≡ finished sum n = rw (slice_get-append_second sum OutEax Ret []) refl in
     let P : State → Type 0 = λ s. Runs code s (finished sum n) in
     steps (behind sum n) _ refl (subst P (sym at_out) (steps put_out _ refl (subst P (sym at_return) (stays (finished sum n)))))
 
+-- in a world of one thread that has ended, exactly that thread is done
+abbrev OneHasEnded : World → Type 0
+OneHasEnded world = (i : ℕ) → HasEnded world i ↔ IsDone (Done ∷ []) i
+
+one_has_ended : (c : Config) (world : World) → world.threads ≡ c ∷ [] → c.activations ≡ [] → OneHasEnded world
+one_has_ended c world one over zero = (λ ended. refl, λ done. (c, ap (λ threads. slice_get threads 0) one, over))
+one_has_ended c world one over (suc i) =
+    (λ ended. absurd (cc (sym (ap (λ threads. slice_get threads (suc i)) one) ∙ ended.1)), λ done. absurd (cc done))
+
 -- the source's thread 0 prints the value of the sum, and ends
 interleaved : (d : Decl) (ps : List Ident) (at : Place) (e : ExprTree) (place closing : Place) (n : ℕ) →
     ((s : Sight) → value_of s e ≡ gives [] (word n)) →
     let env : Env = env_of (printing d ps at e place closing ∷ []) in
-    (threads : List ℕ) × (world : World) × Interleaves env (first_world env (entry ∷ []) []) threads world
-    × HasEnded world 0 × (world.out ≡ (0, n) ∷ [])
+    (first : World) × IsFirstWorld env (entry ∷ []) [] first
+    × (threads : List ℕ) × (world : World) × Interleaves env first threads world
+    × OneHasEnded world × (world.out ≡ (0, n) ∷ [])
 interleaved d ps at e place closing n value =
     let env : Env = env_of (printing d ps at e place closing ∷ []) in
-    let first : World = first_world env (entry ∷ []) [] in
-    let begun : Config = start_of env entry (word 0 ∷ []) in
+    let begun : Config = started entry (word 0 ∷ []) (record { statements = print at e ∷ []; closing = closing; rooms = map (λ p. 1) ps }) in
+    let first : World = record { threads = begun ∷ []; words = []; holders = []; out = [] } in
+    let begins : IsFirstWorld env (entry ∷ []) [] first = record { threads = (refl, tt); words = refl; holders = refl; out = refl } in
     let here : Here = record {
       newest = record { serial = 0; function = entry; target = None; todo = begin (print at e) ∷ [] };
       older = [];
@@ -72,27 +83,35 @@ interleaved d ps at e place closing n value =
     let left : Here = record { newest = record { serial = 0; function = entry; target = None; todo = [] }; older = []; memory = begun.memory; fresh = 1; words = [] } in
     let second : World = world_after first 0 (print_step here at [] (gives [] (word n))) in
     let may_return : MayStep env second 0 (return_step left closing) = record { config = printed; stands = refl; steps = refl; enabled = tt } in
-    (_, _, and_step (and_step at_first 0 _ may_print) 0 _ may_return, ((return_step left closing).next, refl, refl), refl)
+    let last : World = world_after second 0 (return_step left closing) in
+    (first, begins, _, last, and_step (and_step at_first 0 _ may_print) 0 _ may_return, one_has_ended (return_step left closing).next last refl refl, refl)
 
--- the body's code ends with an output of the module
-abbrev HasOutput : ModuleTree → List Instr → Type 0
-HasOutput tree code = (s : State) × Runs code (start 0) s × (s.end ≡ Some Done) × IsOutput tree s.out
+-- the report of a run of one thread that ended in this state
+abbrev report_of : State → End → Report
+report_of s e = record { out = s.out; ends = e ∷ [] }
 
-body_has_output : (d : Decl) (ps : List Ident) (body : List StmtTree) (place closing : Place) (code : List Instr) → IsBodyCode body code →
-    HasOutput (record { items = define (record { decl = d; params = ps; body = body; place = place; closing = closing }) ∷ [] }) code
-body_has_output d ps (print at e ∷ []) place closing code (sum, is_code, whole) =
+-- a run of the code ends, and its report is that of a finished run of the module
+abbrev HasReport : ModuleTree → List Instr → Type 0
+HasReport tree code = (s : State) × Runs code (start 0) s × (s.end ≡ Some Done) × IsFinished tree (report_of s Done)
+
+body_has_report : (d : Decl) (ps : List Ident) (body : List StmtTree) (place closing : Place) (code : List Instr) → IsBodyCode body code →
+    HasReport (record { items = define (record { decl = d; params = ps; body = body; place = place; closing = closing }) ∷ [] }) code
+body_has_report d ps (print at e ∷ []) place closing code (sum, is_code, whole) =
     let (n, value, leaves) = evaluated is_code in
     let run : Runs (body_of sum) (start 0) (finished sum n) = leaves (OutEax ∷ Ret ∷ []) (finished sum n) (ends_behind sum n) in
     let P : List Instr → Type 0 = λ c. Runs c (start 0) (finished sum n) in
     let ran : P code = subst P (sym whole) run in
-    let (threads, world, interleaving, ended, source) = interleaved d ps at e place closing n value in (
+    let (first, begins, threads, world, interleaving, ended, source) = interleaved d ps at e place closing n value in (
       finished sum n,
       ran,
       refl,
       record {
         code = code;
         generated = (sum, is_code, whole);
-        machine = (finished sum n, ran, refl, refl);
+        machine = (finished sum n, ran, Done, refl, refl);
+        done = (refl, tt);
+        first = first;
+        begins = begins;
         threads = threads;
         world = world;
         interleaving = interleaving;
@@ -100,25 +119,22 @@ body_has_output d ps (print at e ∷ []) place closing code (sum, is_code, whole
         source = source;
       },
     )
-body_has_output d ps body place closing code is_code = absurd is_code
+body_has_report d ps body place closing code is_code = absurd is_code
 
-has_output : (items : List ItemTree) (code : List Instr) → IsItemsCode items code → HasOutput (record { items = items }) code
-has_output (define f ∷ []) code is_code = body_has_output f.decl f.params f.body f.place f.closing code is_code
-has_output items code is_code = absurd is_code
+has_report : (items : List ItemTree) (code : List Instr) → IsItemsCode items code → HasReport (record { items = items }) code
+has_report (define f ∷ []) code is_code = body_has_report f.decl f.params f.body f.place f.closing code is_code
+has_report items code is_code = absurd is_code
 
--- a run of thread 0 comes to this end, with this output
-abbrev pub EndsWith : List Instr → End → List ℕ → Type 0
-EndsWith code e out = (s : State) × Runs code (start 0) s × (s.end ≡ Some e) × (s.out ≡ out)
-
--- a run of a module's code to an end is done, and its output is the module's
-pub ends_with_output : (tree : ModuleTree) {code ran : List Instr} {e : End} {out : List ℕ} →
-    IsItemsCode tree.items code → ran ≡ code → EndsWith ran e out → (e ≡ Done) × IsOutput tree out
-ends_with_output tree {code} is_code same_code (s, run, ends, put_out) =
-    let (t, t_run, done, output) = has_output tree.items code is_code in
+-- a run of a module's code to an end leaves the report of a finished run of the module
+pub runs_to_finished : (tree : ModuleTree) {code ran : List Instr} {report : Report} →
+    IsItemsCode tree.items code → ran ≡ code → RunsTo ran report → IsFinished tree report
+runs_to_finished tree {code} is_code same_code (s, run, e, ends, is) =
+    let (t, t_run, done, finished) = has_report tree.items code is_code in
     let P : List Instr → Type 0 = λ c. Runs c (start 0) s in
     let same : t ≡ s = one_end t_run (subst P same_code run) done ends in
-    let Q : List ℕ → Type 0 = λ o. IsOutput tree o in
-    (cc (ap (λ (u : State). u.end) same), subst Q (ap (λ (u : State). u.out) same ∙ put_out) output)
+    let is_done : Done ≡ e = cc (ap (λ (u : State). u.end) same) in
+    let Q : Report → Type 0 = λ r. IsFinished tree r in
+    subst Q (ap (λ (u : State). report_of u Done) same ∙ ap (report_of s) is_done ∙ sym is) finished
 
 -- a module of the first form has code
 pub has_code : {text name : List ℕ} {tree : ModuleTree} → IsFirstForm text name tree → (code : List Instr) × IsItemsCode tree.items code
