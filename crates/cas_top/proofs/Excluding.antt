@@ -1,9 +1,9 @@
 -- A shelf that tells its texts tells one of each name, so a command comes to one thing.
-use Rattle.std.proofs.Common.{◌≡◌, ◌<◌, ◌≤◌, ◌⊎◌, ℕ, List, [], ◌∷◌, length, Option, Some, None, refl, sym, ◌∙◌, ap, subst, inl, inr, arith}
+use Rattle.std.proofs.Common.{◌≡◌, ◌<◌, ◌≤◌, ℕ, List, [], ◌∷◌, length, Option, Some, refl, sym, ◌∙◌, ap, subst, inl, inr, arith}
 use Rattle.cas_outside.specs.Shelf.{Texts, text_of}
-use Rattle.cas_top.specs.Answer.{IsRead, AreRead, IsText, IsRefusal, IsFirstLong}
-use Rattle.cas_top.specs.Exclusion.{Exclude, CausesExclude}
-use Rattle.cas_top.specs.Plan.{Plan, prints, refuses, Plans}
+use Rattle.cas_top.specs.Answer.{IsRead, AreRead, IsFirstLong}
+use Rattle.cas_top.specs.Exclusion.{CausesExclude}
+use Rattle.cas_top.specs.Plan.{prints, refuses, Plans}
 use Rattle.cas_top.specs.Words.{Command, Wanted, run, wanted_texts}
 
 some_injective : (x y : List ℕ) → Some x ≡ Some y → x ≡ y
