@@ -5,7 +5,6 @@ use Rattle.cas_base.specs.declared.decl.Form.{Form}
 use Rattle.cas_base.specs.declared.kind.Kind.{Kind}
 use Rattle.cas_base.specs.declared.kind.Ty.{Ty}
 use Rattle.cas_base.specs.declared.place.Place.{Place}
-use Rattle.cas_lex.specs.declared.token.Word.{Word}
 use Rattle.cas_lex.specs.declared.token.Sign.{Sign}
 use Rattle.cas_syntax.specs.declared.tree.Ident.{Ident}
 use Rattle.cas_syntax.specs.declared.tree.UnaryOperator.{UnaryOperator}
