@@ -72,7 +72,7 @@ pub data Frame : Type 0 where
   ReturnValue : Place → Frame
   PrintValue : Place → Frame
   -- for the words of a kind
-  CastKind : (begun level : ℕ) → Frame
+  CastKind : (level : ℕ) → Frame
   LocalsKind : (around : ℕ) → StmtList → Frame
   FirstKind : (around : ℕ) → Place → Frame
   ReturnKind : (defined : Bool) → List ItemTree → Frame
@@ -94,28 +94,28 @@ pub data Frame : Type 0 where
   NextStmt : (around : ℕ) → StmtList → Frame
   -- for the end of statements
   BlockOf : Place → Frame
-  BodyOf : Ident → Form → List Ident → List ItemTree → Frame
+  BodyOf : Ident → Form → List Ident → (held : List Place) → List ItemTree → Frame
 
 -- what comes next
 pub data Control : Type 0 where
-  -- in an expression that began where so many tokens were left
-  WantExpr : (begun level : ℕ) → Control
-  HaveExpr : (begun level : ℕ) → ExprTree → Control
-  Given : (begun : ℕ) → ExprTree → Control
-  Named : (begun level : ℕ) → (taken : Bool) → Ident → Control
-  Taking : (begun level : ℕ) → Control
-  Opened : (begun level : ℕ) → Control
+  -- in an outermost expression that had so many tokens before
+  WantExpr : (used level : ℕ) → Control
+  HaveExpr : (used level : ℕ) → ExprTree → Control
+  Given : (used : ℕ) → ExprTree → Control
+  Named : (used level : ℕ) → (taken : Bool) → Ident → Control
+  Taking : (used level : ℕ) → Control
+  Opened : (used level : ℕ) → Control
   -- an outermost expression, or one that may be a call; the function's name of a call, or a name
   WantOutermost : Control
   WantValue : Receiver → Control
-  MaybeCall : (begun : ℕ) → Receiver → Ident → Control
+  MaybeCall : (used : ℕ) → Receiver → Ident → Control
   WantArguments : Caller → Control
-  -- words of a kind, in an expression that began there or in none
-  WantKind : (begun : Option ℕ) → Control
-  Signed : (begun : Option ℕ) → Control
-  Unsigned : (begun : Option ℕ) → Control
-  MayEndInt : (begun : Option ℕ) → Kind → Control
-  HaveKind : (begun : Option ℕ) → Kind → Control
+  -- words of a kind, in an outermost expression that had so many tokens before, or in none
+  WantKind : (used : Option ℕ) → Control
+  Signed : (used : Option ℕ) → Control
+  Unsigned : (used : Option ℕ) → Control
+  MayEndInt : (used : Option ℕ) → Kind → Control
+  HaveKind : (used : Option ℕ) → Kind → Control
   -- a sign, a word or a name that has to stand here, inside a function's body or outside
   Expect : (inside : Bool) → Sign → Control → Control
   -- assignments and calls
@@ -168,6 +168,6 @@ pub data Control : Type 0 where
   ParameterName : Opening → List Ty → List (Option Ident) → Ty → Ident → List ItemTree → Control
   HaveParameter : Opening → List Ty → List (Option Ident) → List ItemTree → Control
   AfterParameters : Opening → List Ty → List (Option Ident) → List ItemTree → Control
-  WantHeld : Opening → List Ty → List (Option Ident) → List (List ℕ) → List ItemTree → Control
-  HaveHeld : Opening → List Ty → List (Option Ident) → List (List ℕ) → List ItemTree → Control
-  AfterHead : Ident → Form → (defined : Bool) → List (Option Ident) → List ItemTree → Control
+  WantHeld : Opening → List Ty → List (Option Ident) → (held : List Ident) → List ItemTree → Control
+  HaveHeld : Opening → List Ty → List (Option Ident) → (held : List Ident) → List ItemTree → Control
+  AfterHead : Ident → Form → (defined : Bool) → List (Option Ident) → (held : List Place) → List ItemTree → Control

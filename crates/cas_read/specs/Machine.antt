@@ -20,7 +20,7 @@ use Rattle.cas_syntax.specs.declared.tree.Ident.{Ident}
 use Rattle.cas_syntax.specs.declared.tree.UnaryOperator.TheVariants as u
 use Rattle.cas_syntax.specs.declared.tree.BinaryOperator.{BinaryOperator}
 use Rattle.cas_syntax.specs.declared.tree.BinaryOperator.TheVariants.{Add, Sub, Mul, Div, Mod, Shl, Shr, BitAnd, BitOr, BitXor, Eq, Ne, Lt, Le, Gt, Ge}
-use Rattle.cas_syntax.specs.Items.{declared}
+use Rattle.cas_syntax.specs.Items.{declared, names_alone, places_alone}
 use Rattle.cas_syntax.specs.Limits.{Limits}
 use Rattle.cas_syntax.specs.Operators.{Infix, always_both, logical_and, logical_or, joined, level}
 use Rattle.cas_syntax.specs.Tree.{ExprTree, literal, name, index, deref, address, address_index, unary, cast, conditional, TargetTree, to_name, to_index, to_deref, nothing, value, called, StmtTree, skip, declare, assign, call, block, if_, while_, do_, for_, break_, continue_, return_, lock, unlock, print, StmtOption, absent, present, StmtList, no_more, one_more, ItemTree, global, prototype, define}
@@ -188,8 +188,8 @@ sort_of Constant ty = form.Table ty
 abbrev pub cells : Data → Ident → Ty → List ℕ → ItemTree
 cells d x ty vs = global (declared x.name (sort_of d.sort ty) d.defined) vs x.place
 
-abbrev pub closing_of_function : Ident → Form → List Ident → StmtList → Place → ItemTree
-closing_of_function x f xs body closing = define (record { decl = declared x.name f true; params = xs; body = body; place = x.place; closing = closing })
+abbrev pub closing_of_function : Ident → Form → List Ident → (held : List Place) → StmtList → Place → ItemTree
+closing_of_function x f xs held body closing = define (record { decl = declared x.name f true; params = xs; held = held; body = body; place = x.place; closing = closing })
 
 -- the names of parameters, where all have one
 abbrev pub all_named : List (Option Ident) → Option (List Ident)
@@ -207,19 +207,24 @@ limited true o = o
 limited false (Ok next) = Err R8
 limited false (Err code) = Err code
 
+-- the number of tokens before the next one, where they are counted
+abbrev pub next : Option ℕ → Option ℕ
+next None = None
+next (Some n) = Some (n + 1)
+
 abbrev pub is_at : Option ℕ → ℕ → Bool
 is_at None n = false
 is_at (Some m) n = nat_eq m n
 
--- the limits, and how many tokens stand behind this one
-module _ (limits : Limits) (behind : ℕ) where
+-- the limits, whether they aren't asked of this token, and whether a form may stand here that is left out
+module _ (limits : Limits) (near leaves : Bool) where
   -- a statement that begins here, with so many around it
   abbrev pub nested : ℕ → Outcome → Outcome
-  nested n o = limited (nat_lt n limits.depth || nat_lt behind limits.cut) o
+  nested n o = limited (nat_lt n limits.depth || near) o
 
-  -- a token of an expression that began where so many tokens were left
+  -- a token of an outermost expression that has so many before it
   abbrev pub counted : ℕ → Outcome → Outcome
-  counted b o = limited (nat_le b (limits.tokens + behind) || nat_lt behind limits.cut) o
+  counted b o = limited (nat_lt b limits.tokens || near) o
 
   abbrev pub counted_in : Option ℕ → Outcome → Outcome
   counted_in None o = o
@@ -227,29 +232,29 @@ module _ (limits : Limits) (behind : ℕ) where
 
   -- a form that is left out
   abbrev pub leave : Control → List Frame → Outcome
-  leave c st = if is_at limits.left_out behind then Ok (c, st) else Err R7
+  leave c st = if leaves then Ok (c, st) else Err R7
 
   -- expressions
 
   abbrev pub operand : ℕ → ℕ → List Frame → Place → TokenKind → Outcome
-  operand b l st p (k.Name n) = Ok (Named b l false (at n p), st)
-  operand b l st p (k.Literal n kd) = Ok (HaveExpr b l (literal n kd), st)
-  operand b l st p (k.Sign sg.OpenParen) = Ok (Opened b l, st)
-  operand b l st p (k.Sign sg.Minus) = Ok (WantExpr b 12, Before l (Operates u.Neg) ∷ st)
-  operand b l st p (k.Sign sg.Plus) = Ok (WantExpr b 12, Before l (Operates u.Plus) ∷ st)
-  operand b l st p (k.Sign sg.Tilde) = Ok (WantExpr b 12, Before l (Operates u.BitNot) ∷ st)
-  operand b l st p (k.Sign sg.Not) = Ok (WantExpr b 12, Before l (Operates u.Not) ∷ st)
-  operand b l st p (k.Sign sg.Star) = Ok (WantExpr b 12, Before l Points ∷ st)
-  operand b l st p (k.Sign sg.And) = Ok (Taking b l, st)
+  operand b l st p (k.Name n) = Ok (Named (b + 1) l false (at n p), st)
+  operand b l st p (k.Literal n kd) = Ok (HaveExpr (b + 1) l (literal n kd), st)
+  operand b l st p (k.Sign sg.OpenParen) = Ok (Opened (b + 1) l, st)
+  operand b l st p (k.Sign sg.Minus) = Ok (WantExpr (b + 1) 12, Before l (Operates u.Neg) ∷ st)
+  operand b l st p (k.Sign sg.Plus) = Ok (WantExpr (b + 1) 12, Before l (Operates u.Plus) ∷ st)
+  operand b l st p (k.Sign sg.Tilde) = Ok (WantExpr (b + 1) 12, Before l (Operates u.BitNot) ∷ st)
+  operand b l st p (k.Sign sg.Not) = Ok (WantExpr (b + 1) 12, Before l (Operates u.Not) ∷ st)
+  operand b l st p (k.Sign sg.Star) = Ok (WantExpr (b + 1) 12, Before l Points ∷ st)
+  operand b l st p (k.Sign sg.And) = Ok (Taking (b + 1) l, st)
   operand b l st p kind = Err (wrong kind)
 
   -- the first token of an outermost expression
   abbrev pub outermost : List Frame → Place → TokenKind → Outcome
-  outermost st p kind = counted (behind + 1) (operand (behind + 1) 1 st p kind)
+  outermost st p kind = counted 0 (operand 0 1 st p kind)
 
   abbrev pub risen : ℕ → ℕ → ExprTree → List Frame → Option Infix → Outcome
-  risen b l x st (Some op) = Ok (WantExpr b (level op + 1), Right l op x ∷ st)
-  risen b l x st None = Ok (WantExpr b 1, Then l x ∷ st)
+  risen b l x st (Some op) = Ok (WantExpr (b + 1) (level op + 1), Right l op x ∷ st)
+  risen b l x st None = Ok (WantExpr (b + 1) 1, Then l x ∷ st)
 
   -- a further operator takes the expression, or else what waits for it does
   abbrev pub operated : ℕ → ℕ → ExprTree → List Frame → TokenKind → Outcome → Outcome
@@ -260,9 +265,9 @@ module _ (limits : Limits) (behind : ℕ) where
   down b kind x (Before l f ∷ st) = operated b l (prefixed f x) st kind (down b kind (prefixed f x) st)
   down b kind x (Right l op y ∷ st) = operated b l (joined op y x) st kind (down b kind (joined op y x) st)
   down b kind x (Otherwise l c y ∷ st) = operated b l (conditional c y x) st kind (down b kind (conditional c y x) st)
-  down b kind x (InParens l ∷ st) = require sg.CloseParen kind (counted b (Ok (HaveExpr b l x, st)))
-  down b kind x (InBrackets l taken i ∷ st) = require sg.CloseBracket kind (counted b (Ok (HaveExpr b l (bracketed taken i x), st)))
-  down b kind x (Then l c ∷ st) = require sg.Colon kind (counted b (Ok (WantExpr b 1, Otherwise l c x ∷ st)))
+  down b kind x (InParens l ∷ st) = require sg.CloseParen kind (counted b (Ok (HaveExpr (b + 1) l x, st)))
+  down b kind x (InBrackets l taken i ∷ st) = require sg.CloseBracket kind (counted b (Ok (HaveExpr (b + 1) l (bracketed taken i x), st)))
+  down b kind x (Then l c ∷ st) = require sg.Colon kind (counted b (Ok (WantExpr (b + 1) 1, Otherwise l c x ∷ st)))
   down b kind x (TargetIndex usage i ∷ st) = require sg.CloseBracket kind (Ok (reached usage (to_index i x) st))
   down b kind x (TargetBehind usage ∷ st) = require sg.CloseParen kind (Ok (reached usage (to_deref x) st))
   down b kind x (ValueOf r ∷ st) = received r x st kind
@@ -281,12 +286,12 @@ module _ (limits : Limits) (behind : ℕ) where
 
   -- a token behind a name, or behind `&` and a name
   abbrev pub after_operand_name : ℕ → ℕ → Bool → Ident → List Frame → TokenKind → Outcome
-  after_operand_name b l taken x st (k.Sign sg.OpenBracket) = counted b (Ok (WantExpr b 1, InBrackets l taken x ∷ st))
-  after_operand_name b l taken x st (k.Sign sg.OpenParen) = leave (HaveExpr b l (named taken x)) st
+  after_operand_name b l taken x st (k.Sign sg.OpenBracket) = counted b (Ok (WantExpr (b + 1) 1, InBrackets l taken x ∷ st))
+  after_operand_name b l taken x st (k.Sign sg.OpenParen) = leave (HaveExpr (b + 1) l (named taken x)) st
   after_operand_name b l taken x st kind = have b l (named taken x) st kind
 
   abbrev pub taking : ℕ → ℕ → List Frame → Place → TokenKind → Outcome
-  taking b l st p (k.Name n) = counted b (Ok (Named b l true (at n p), st))
+  taking b l st p (k.Name n) = counted b (Ok (Named (b + 1) l true (at n p), st))
   taking b l st p kind = Err (wrong kind)
 
   -- kinds
@@ -317,48 +322,53 @@ module _ (limits : Limits) (behind : ℕ) where
   cells_kind d items st p (k.Name n) = Ok (CellName d (at n p) items, st)
   cells_kind d items st p kind = Err R5
 
+  -- the `)` of a cast
+  abbrev pub cast_kind : Option ℕ → ℕ → Kind → List Frame → Outcome
+  cast_kind (Some b) l kd st = counted b (Ok (WantExpr (b + 1) 12, Before l (Casts kd) ∷ st))
+  cast_kind None l kd st = Err R5
+
   -- a token behind the words of a kind
-  abbrev pub down_kind : Kind → List Frame → Place → TokenKind → Outcome
-  down_kind kd (CastKind b l ∷ st) p kind = require sg.CloseParen kind (counted b (Ok (WantExpr b 12, Before l (Casts kd) ∷ st)))
-  down_kind kd (LocalsKind n bs ∷ st) p kind = local_started kd (Locals n kd bs ∷ st) p kind
-  down_kind kd (FirstKind n q ∷ st) p kind = local_started kd (FirstLocal n q ∷ st) p kind
-  down_kind kd (ReturnKind d items ∷ st) p kind = return_kind d kd items st p kind
-  down_kind kd (ParameterKind o tys xs items ∷ st) p kind = parameter_kind o tys xs kd items st p kind
-  down_kind kd (CellsKind s d items ∷ st) p kind = cells_kind (record { sort = s; defined = d; kind = kd }) items st p kind
-  down_kind kd st p kind = Err R5
+  abbrev pub down_kind : Option ℕ → Kind → List Frame → Place → TokenKind → Outcome
+  down_kind b kd (CastKind l ∷ st) p kind = require sg.CloseParen kind (cast_kind b l kd st)
+  down_kind b kd (LocalsKind n bs ∷ st) p kind = local_started kd (Locals n kd bs ∷ st) p kind
+  down_kind b kd (FirstKind n q ∷ st) p kind = local_started kd (FirstLocal n q ∷ st) p kind
+  down_kind b kd (ReturnKind d items ∷ st) p kind = return_kind d kd items st p kind
+  down_kind b kd (ParameterKind o tys xs items ∷ st) p kind = parameter_kind o tys xs kd items st p kind
+  down_kind b kd (CellsKind s d items ∷ st) p kind = cells_kind (record { sort = s; defined = d; kind = kd }) items st p kind
+  down_kind b kd st p kind = Err R5
 
   abbrev pub want_kind : Option ℕ → List Frame → TokenKind → Outcome
-  want_kind b st (k.Word w.Char) = counted_in b (Ok (HaveKind b I8, st))
-  want_kind b st (k.Word w.Short) = counted_in b (Ok (MayEndInt b I16, st))
-  want_kind b st (k.Word w.Int) = counted_in b (Ok (HaveKind b I32, st))
-  want_kind b st (k.Word w.Unsigned) = counted_in b (Ok (Unsigned b, st))
-  want_kind b st (k.Word w.Signed) = counted_in b (Ok (Signed b, st))
+  want_kind b st (k.Word w.Char) = counted_in b (Ok (HaveKind (next b) I8, st))
+  want_kind b st (k.Word w.Short) = counted_in b (Ok (MayEndInt (next b) I16, st))
+  want_kind b st (k.Word w.Int) = counted_in b (Ok (HaveKind (next b) I32, st))
+  want_kind b st (k.Word w.Unsigned) = counted_in b (Ok (Unsigned (next b), st))
+  want_kind b st (k.Word w.Signed) = counted_in b (Ok (Signed (next b), st))
   want_kind b st kind = Err R5
 
   abbrev pub after_signed : Option ℕ → List Frame → Place → TokenKind → Outcome
-  after_signed b st p (k.Word w.Char) = counted_in b (Ok (HaveKind b I8, st))
-  after_signed b st p (k.Word w.Short) = counted_in b (Ok (MayEndInt b I16, st))
-  after_signed b st p (k.Word w.Int) = counted_in b (Ok (HaveKind b I32, st))
-  after_signed b st p kind = down_kind I32 st p kind
+  after_signed b st p (k.Word w.Char) = counted_in b (Ok (HaveKind (next b) I8, st))
+  after_signed b st p (k.Word w.Short) = counted_in b (Ok (MayEndInt (next b) I16, st))
+  after_signed b st p (k.Word w.Int) = counted_in b (Ok (HaveKind (next b) I32, st))
+  after_signed b st p kind = down_kind b I32 st p kind
 
   abbrev pub after_unsigned : Option ℕ → List Frame → Place → TokenKind → Outcome
-  after_unsigned b st p (k.Word w.Char) = counted_in b (Ok (HaveKind b U8, st))
-  after_unsigned b st p (k.Word w.Short) = counted_in b (Ok (MayEndInt b U16, st))
-  after_unsigned b st p (k.Word w.Int) = counted_in b (Ok (HaveKind b U32, st))
-  after_unsigned b st p kind = down_kind U32 st p kind
+  after_unsigned b st p (k.Word w.Char) = counted_in b (Ok (HaveKind (next b) U8, st))
+  after_unsigned b st p (k.Word w.Short) = counted_in b (Ok (MayEndInt (next b) U16, st))
+  after_unsigned b st p (k.Word w.Int) = counted_in b (Ok (HaveKind (next b) U32, st))
+  after_unsigned b st p kind = down_kind b U32 st p kind
 
   abbrev pub may_end_int : Option ℕ → Kind → List Frame → Place → TokenKind → Outcome
-  may_end_int b kd st p (k.Word w.Int) = counted_in b (Ok (HaveKind b kd, st))
-  may_end_int b kd st p kind = down_kind kd st p kind
+  may_end_int b kd st p (k.Word w.Int) = counted_in b (Ok (HaveKind (next b) kd, st))
+  may_end_int b kd st p kind = down_kind b kd st p kind
 
   -- a token behind `(` in an expression
   abbrev pub opened : ℕ → ℕ → List Frame → Place → TokenKind → Outcome
-  opened b l st p kind = if begins_kind kind then want_kind (Some b) (CastKind b l ∷ st) kind else counted b (operand b 1 (InParens l ∷ st) p kind)
+  opened b l st p kind = if begins_kind kind then want_kind (Some b) (CastKind l ∷ st) kind else counted b (operand b 1 (InParens l ∷ st) p kind)
 
   -- assignments and calls
 
   abbrev pub value_started : Receiver → List Frame → Place → TokenKind → Outcome
-  value_started r st p (k.Name n) = counted (behind + 1) (Ok (MaybeCall (behind + 1) r (at n p), st))
+  value_started r st p (k.Name n) = counted 0 (Ok (MaybeCall 1 r (at n p), st))
   value_started r st p kind = outermost (ValueOf r ∷ st) p kind
 
   abbrev pub maybe_call : ℕ → Receiver → Ident → List Frame → TokenKind → Outcome
@@ -451,7 +461,7 @@ module _ (limits : Limits) (behind : ℕ) where
 
   abbrev pub list_closed : StmtList → List Frame → Place → Outcome
   list_closed bs (BlockOf q ∷ st) p = Ok (HaveStmt (block q bs), st)
-  list_closed bs (BodyOf x f xs items ∷ st) p = Ok (InItems (items ++ closing_of_function x f xs bs p ∷ []), st)
+  list_closed bs (BodyOf x f xs held items ∷ st) p = Ok (InItems (items ++ closing_of_function x f xs held bs p ∷ []), st)
   list_closed bs st p = Err R5
 
   abbrev pub list_continued : (around : ℕ) → StmtList → List Frame → Place → TokenKind → Bool → Outcome
@@ -598,26 +608,26 @@ module _ (limits : Limits) (behind : ℕ) where
   parameter_star o tys xs kd items st p kind = parameter_typed o tys xs (Ptr kd) items st p kind
 
   -- a token behind a function's parameters and locks
-  abbrev pub body_started : Ident → Form → List ItemTree → List Frame → Bool → Option (List Ident) → Outcome
-  body_started x f items st true (Some xs) = Ok (InList 0 no_more, BodyOf x f xs items ∷ st)
-  body_started x f items st d names = Err R5
+  abbrev pub body_started : Ident → Form → List Place → List ItemTree → List Frame → Bool → Option (List Ident) → Outcome
+  body_started x f held items st true (Some xs) = Ok (InList 0 no_more, BodyOf x f xs held items ∷ st)
+  body_started x f held items st d names = Err R5
 
-  abbrev pub after_head : Ident → Form → (defined : Bool) → List (Option Ident) → List ItemTree → List Frame → TokenKind → Outcome
-  after_head x f d xs items st (k.Sign sg.Semicolon) = Ok (InItems (items ++ prototype (declared x.name f false) x.place ∷ []), st)
-  after_head x f d xs items st (k.Sign sg.OpenBrace) = body_started x f items st d (all_named xs)
-  after_head x f d xs items st kind = Err R5
+  abbrev pub after_head : Ident → Form → (defined : Bool) → List (Option Ident) → List Place → List ItemTree → List Frame → TokenKind → Outcome
+  after_head x f d xs held items st (k.Sign sg.Semicolon) = Ok (InItems (items ++ prototype (declared x.name f false) held x.place ∷ []), st)
+  after_head x f d xs held items st (k.Sign sg.OpenBrace) = body_started x f held items st d (all_named xs)
+  after_head x f d xs held items st kind = Err R5
 
   abbrev pub after_parameters : Opening → List Ty → List (Option Ident) → List ItemTree → List Frame → TokenKind → Outcome
   after_parameters o tys xs items st (k.Word w.Holds) = Ok (Expect false sg.OpenParen (WantHeld o tys xs [] items), st)
-  after_parameters o tys xs items st kind = after_head o.name (form.Function o.ret tys []) o.defined xs items st kind
+  after_parameters o tys xs items st kind = after_head o.name (form.Function o.ret tys []) o.defined xs [] items st kind
 
-  abbrev pub want_held : Opening → List Ty → List (Option Ident) → List (List ℕ) → List ItemTree → List Frame → TokenKind → Outcome
-  want_held o tys xs held items st (k.Name n) = Ok (HaveHeld o tys xs (held ++ n ∷ []) items, st)
-  want_held o tys xs held items st kind = Err R5
+  abbrev pub want_held : Opening → List Ty → List (Option Ident) → List Ident → List ItemTree → List Frame → Place → TokenKind → Outcome
+  want_held o tys xs held items st p (k.Name n) = Ok (HaveHeld o tys xs (held ++ at n p ∷ []) items, st)
+  want_held o tys xs held items st p kind = Err R5
 
-  abbrev pub have_held : Opening → List Ty → List (Option Ident) → List (List ℕ) → List ItemTree → List Frame → TokenKind → Outcome
+  abbrev pub have_held : Opening → List Ty → List (Option Ident) → List Ident → List ItemTree → List Frame → TokenKind → Outcome
   have_held o tys xs held items st (k.Sign sg.Comma) = Ok (WantHeld o tys xs held items, st)
-  have_held o tys xs held items st (k.Sign sg.CloseParen) = Ok (AfterHead o.name (form.Function o.ret tys held) o.defined xs items, st)
+  have_held o tys xs held items st (k.Sign sg.CloseParen) = Ok (AfterHead o.name (form.Function o.ret tys (names_alone held)) o.defined xs (places_alone held) items, st)
   have_held o tys xs held items st kind = Err R5
 
   abbrev pub shift : Token → Control → List Frame → Outcome
@@ -635,7 +645,7 @@ module _ (limits : Limits) (behind : ℕ) where
   shift t (Signed b) st = after_signed b st t.place t.kind
   shift t (Unsigned b) st = after_unsigned b st t.place t.kind
   shift t (MayEndInt b kd) st = may_end_int b kd st t.place t.kind
-  shift t (HaveKind b kd) st = down_kind kd st t.place t.kind
+  shift t (HaveKind b kd) st = down_kind b kd st t.place t.kind
   shift t (Expect inside s c) st = if is s t.kind then Ok (c, st) else Err (wrong_where inside t.kind)
   shift t (WantTarget q op) st = want_target q op st t.place t.kind
   shift t (AfterName x) st = after_name x st t.kind
@@ -683,9 +693,9 @@ module _ (limits : Limits) (behind : ℕ) where
   shift t (ParameterName o tys xs ty x items) st = parameter_ended o (tys ++ ty ∷ []) (xs ++ Some x ∷ []) items st t.kind
   shift t (HaveParameter o tys xs items) st = parameter_ended o tys xs items st t.kind
   shift t (AfterParameters o tys xs items) st = after_parameters o tys xs items st t.kind
-  shift t (WantHeld o tys xs held items) st = want_held o tys xs held items st t.kind
+  shift t (WantHeld o tys xs held items) st = want_held o tys xs held items st t.place t.kind
   shift t (HaveHeld o tys xs held items) st = have_held o tys xs held items st t.kind
-  shift t (AfterHead x f d xs items) st = after_head x f d xs items st t.kind
+  shift t (AfterHead x f d xs held items) st = after_head x f d xs held items st t.kind
 
 -- what the machine comes to: the items, or a fault where so many tokens are left
 pub record Fault : Type 0 where
@@ -708,4 +718,4 @@ go on behind (Err code) = Err (record { code = code; left = behind + 1 })
 module _ (limits : Limits) where
   abbrev pub run : List Token → Control → List Frame → Verdict
   run [] c st = finish c
-  run (t ∷ ts) c st = go (run ts) (length ts) (shift limits (length ts) t c st)
+  run (t ∷ ts) c st = go (run ts) (length ts) (shift limits (nat_lt (length ts) limits.cut) (is_at limits.left_out (length ts)) t c st)
