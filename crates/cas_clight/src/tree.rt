@@ -1,11 +1,5 @@
-use cas_base::{Decl, Kind, Name, Place, Seq};
-
-/// A name where a text has it.
-#[derive(Debug, Drop)]
-pub struct Ident {
-    pub name: Name,
-    pub place: Place,
-}
+use cas_base::{Decl, Kind, Place, Seq};
+use cas_syntax::Ident;
 
 /// The operators that take two operands and always both.
 #[derive(Clone, Copy, Debug, PartialEq, Eq)]

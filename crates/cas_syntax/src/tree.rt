@@ -1,12 +1,27 @@
 //! The trees of modules. (Clight's, in a profile with locks.)
 
-use cas_base::{Decl, Kind, Name, Place, Seq, Ty};
+ghost use Rattle.std.specs.Prelude.{◌≡◌, IfOk};
+
+use cas_base::{Decl, Kind, Name, NoMemory, Place, Seq, Ty};
+use std::alloc::Global;
 
 /// A name where a text has it.
 #[derive(Debug, Drop)]
 pub struct Ident {
     pub name: Name,
     pub place: Place,
+}
+
+impl Ident {
+    /// The same name at the same place.
+    pub fn copy(&self, alloc: Global) -> Result<Ident, NoMemory>
+        ensures { IfOk result (λ copied. copied ≡ self.now) }
+    {
+        Ok(Ident {
+            name: self.name.copy(alloc)?,
+            place: self.place,
+        })
+    }
 }
 
 /// The operators that take one operand and give a number.

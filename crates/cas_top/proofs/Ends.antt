@@ -1,15 +1,15 @@
 -- How the work of a command ends, from how its parts ended.
 use Rattle.std.proofs.Common.{◌≡◌, ◌<◌, ◌⊎◌, ℕ, List, [], ◌∷◌, ◌++◌, Some, None, Result, Ok, Err, refl, ◌∙◌, inl, inr, subst, append-nil, codes, arith}
-use Rattle.cas_clight.specs.Tree.{ModuleTree}
+use Rattle.std.specs.declared.vec.Vec.{Vec}
+use Rattle.std.specs.declared.alloc.Global.{Global}
 use Rattle.cas_top.specs.declared.refusal.Refusal.{Refusal}
 use Rattle.cas_top.specs.declared.refusal.Refusal.TheVariants as refusal
 use Rattle.std.specs.List.{concat}
 use Rattle.cas_top.specs.Answer.{Told, Taken, IsRead, IsText, IsRefusal, IsCut, IsPartly, IsUntold, usage, cannot_read, too_long, refused}
-use Rattle.cas_top.specs.First_form.{IsFirstForm}
-use Rattle.cas_top.specs.Plan.{PrintsLines}
-use Rattle.cas_top.specs.Printed.{line_of}
+use Rattle.cas_top.specs.Plan.{PrintsLines, RefusesText}
+use Rattle.cas_top.specs.Printed.{line_of, fault_line}
 use Rattle.cas_outside.specs.Sink.{TakesPrefix}
-use Rattle.cas_top.specs.View.{IsEnd, IsPutLines, IsTold, IsSaid, IsCause, Counts}
+use Rattle.cas_top.specs.View.{IsEnd, IsPutLines, IsTold, IsSaid, IsCause, IsShown, Counts}
 use Rattle.cas_top.specs.Words.{Run, Command, Wanted, run, source_text}
 
 -- the lines of a module that was read are the text of the command
@@ -36,16 +36,16 @@ end_of_put told r source lock lines before after old new (Err refusal.Memory) fi
 end_of_put told r source lock lines before after old new (Err refusal.Usage) first second prints put same = absurd put
 end_of_put told r source lock lines before after old new (Err (refusal.Unread n)) first second prints put same = absurd put
 end_of_put told r source lock lines before after old new (Err (refusal.TooLong n)) first second prints put same = absurd put
+end_of_put told r source lock lines before after old new (Err (refusal.Misread n code p)) first second prints put same = absurd put
 end_of_put told r source lock lines before after old new (Err (refusal.NotFirstForm n)) first second prints put same = absurd put
 
--- a module that isn't of the first form is refused
-pub refusal_of_form : (told : Told) (r : Run) (source lock : List ℕ) →
-    IsRead told (source_text r.source) source → IsRead told (source_text r.lock) lock → ((tree : ModuleTree) → IsFirstForm source r.thread tree → ⊥) →
-    IsRefusal told (run r) 1 (line_of (r.source ++ codes ":1:1: R0"))
-refusal_of_form told r source lock first second not_form = record {
+-- a module text that is refused
+pub refusal_of_text : (told : Told) (r : Run) (source lock line : List ℕ) →
+    IsRead told (source_text r.source) source → IsRead told (source_text r.lock) lock → RefusesText r source line → IsRefusal told (run r) 1 line
+refusal_of_text told r source lock line first second refuses = record {
   texts = source ∷ lock ∷ [];
   read = (first, (second, tt));
-  plan = (refl, not_form, refl);
+  plan = (refl, refuses);
 }
 
 -- a line with nothing behind the name
@@ -68,17 +68,30 @@ run_end told told' r w v source text lock lines shown before mid after old new a
     end_of_put told r source lock lines before after old new answer (subst S at_first first.0) (subst L at_second (subst P same second.0))
     (subst Q texts prints) (subst R whole put) (second.1 ∙ first.1)
 
--- both texts were read, and the first isn't of the first form
-pub run_refused : (told told' : Told) (r : Run) (w v : Wanted) (source text lock : List ℕ) (before mid after : List (List ℕ)) (now : Taken) →
+-- why a module text prints no lines ends the work
+cause_of_shown : (told : Told) (r : Run) (source lock : List ℕ) (before after : List (List ℕ)) (now : Taken) (why : Refusal) →
+    IsRead told (source_text r.source) source → IsRead told (source_text r.lock) lock → after ≡ before → IsShown r source (Err why) →
+    IsCause told (run r) before after now now why
+cause_of_shown told r source lock before after now (refusal.Misread n code p) first second same shown =
+    (refusal_of_text told r source lock (fault_line n.now code p) first second shown, same, refl)
+cause_of_shown told r source lock before after now (refusal.NotFirstForm n) first second same shown =
+    (refusal_of_text told r source lock (line_of (n.now ++ codes ":1:1: R0")) first second shown, same, refl)
+cause_of_shown told r source lock before after now refusal.Memory first second same shown = (inl refl, same)
+cause_of_shown told r source lock before after now refusal.Usage first second same shown = absurd shown
+cause_of_shown told r source lock before after now (refusal.Unread n) first second same shown = absurd shown
+cause_of_shown told r source lock before after now (refusal.TooLong n) first second same shown = absurd shown
+cause_of_shown told r source lock before after now refusal.Unwritten first second same shown = absurd shown
+
+-- both texts were read, and the first prints no lines
+pub run_refused : (told told' : Told) (r : Run) (w v : Wanted) (source text lock : List ℕ) (before mid after : List (List ℕ)) (now : Taken) (why : Refusal) →
     w ≡ source_text r.source → v ≡ source_text r.lock → IsRead told w source × mid ≡ before → told' ≡ told → IsRead told' v lock × after ≡ mid →
-    text ≡ source → ((tree : ModuleTree) → IsFirstForm text r.thread tree → ⊥) →
-    IsRefusal told (run r) 1 (line_of (r.source ++ codes ":1:1: R0")) × (after ≡ before) × (now ≡ now)
-run_refused told told' r w v source text lock before mid after now at_first at_second first same second texts not_form =
+    text ≡ source → IsShown r text (Err why) → IsCause told (run r) before after now now why
+run_refused told told' r w v source text lock before mid after now why at_first at_second first same second texts shown =
     let P : Told → Type 0 = λ t. IsRead t v lock in
     let S : Wanted → Type 0 = λ u. IsRead told u source in
     let L : Wanted → Type 0 = λ u. IsRead told u lock in
-    let Q : List ℕ → Type 0 = λ t. (tree : ModuleTree) → IsFirstForm t r.thread tree → ⊥ in
-    (refusal_of_form told r source lock (subst S at_first first.0) (subst L at_second (subst P same second.0)) (subst Q texts not_form), second.1 ∙ first.1, refl)
+    let Q : List ℕ → Type 0 = λ t. IsShown r t (Err why) in
+    cause_of_shown told r source lock before after now why (subst S at_first first.0) (subst L at_second (subst P same second.0)) (second.1 ∙ first.1) (subst Q texts shown)
 
 pub other_status : (status answer : ℕ) → status < 4 ⊎ 9 < status → answer ≡ status → answer ≡ 4 → ⊥
 other_status status answer (inl h) e f = omega arith

@@ -1,0 +1,62 @@
+-- A module of the first form has code.
+use Rattle.std.proofs.Common.{◌≡◌, ℕ, Bool, true, false, ◌&&◌, List, [], ◌∷◌, ◌++◌, Option, Some, None, if◌then◌else◌, refl, subst}
+use Rattle.std.specs.Str.{bytes_eq}
+use Rattle.cas_base.specs.Decl.{is_entry}
+use Rattle.cas_base.specs.declared.kind.Kind.TheVariants.{I32}
+use Rattle.cas_base.specs.declared.place.Place.{Place}
+use Rattle.cas_clight.specs.Tree as clight
+use Rattle.cas_clight.specs.declared.tree.BinaryOperator.TheVariants as operator
+use Rattle.cas_syntax.specs.Tree.{ExprTree, literal, binary, StmtList, no_more, one_more, print, FunTree, ItemTree, define, ModuleTree}
+use Rattle.cas_syntax.specs.declared.tree.BinaryOperator.TheVariants.{Add}
+use Rattle.cas_top.specs.First_form.{sum_of, added, printing, body_of, module_with, first_form_of, first_form}
+use Rattle.cas_top.specs.Machine.{IsExprCode, loads, adds, IsBodyCode, IsItemsCode}
+use Rattle.cas_top.specs.declared.machine.Instr.{Instr}
+use Rattle.cas_top.specs.declared.machine.Instr.TheVariants.{MovEax, OutEax, Ret}
+
+-- where there is a sum, it has code
+abbrev HasCode : Option clight.ExprTree → Type 0
+HasCode None = Unit {0}
+HasCode (Some sum) = (code : List Instr) × IsExprCode sum code
+
+added_has_code : (o : Option clight.ExprTree) (n : ℕ) → HasCode o → HasCode (added o n)
+added_has_code None n h = tt
+added_has_code (Some sum) n (code, is_code) = (_, adds sum code n I32 is_code)
+
+sum_has_code : (a : ExprTree) → HasCode (sum_of a)
+sum_has_code (literal n I32) = (_, loads n I32)
+sum_has_code (binary Add a (literal n I32)) = added_has_code (sum_of a) n (sum_has_code a)
+sum_has_code _ = tt
+
+-- where there is a statement, the body that it is has code
+abbrev HasBodyCode : Option clight.StmtTree → Type 0
+HasBodyCode None = Unit {0}
+HasBodyCode (Some s) = (code : List Instr) × IsBodyCode (s ∷ []) code
+
+printing_has_code : (p : Place) (o : Option clight.ExprTree) → HasCode o → HasBodyCode (printing p o)
+printing_has_code p None h = tt
+printing_has_code p (Some sum) (code, is_code) = (code ++ OutEax ∷ Ret ∷ [], (code, is_code, refl))
+
+body_has_code : (body : StmtList) → HasBodyCode (body_of body)
+body_has_code (one_more (print p a) no_more) = printing_has_code p (sum_of a) (sum_has_code a)
+body_has_code _ = tt
+
+-- where there is a module, it has code
+abbrev HasItemsCode : Option clight.ModuleTree → Type 0
+HasItemsCode None = Unit {0}
+HasItemsCode (Some m) = (code : List Instr) × IsItemsCode m.items code
+
+module_has_code : (f : FunTree) (o : Option clight.StmtTree) → HasBodyCode o → HasItemsCode (module_with f o)
+module_has_code f None h = tt
+module_has_code f (Some s) h = h
+
+items_have_code : (name : List ℕ) (items : List ItemTree) → HasItemsCode (first_form_of name items)
+items_have_code name (define f ∷ []) = by_test (is_entry f.decl.form && bytes_eq f.decl.name name)
+  where
+    by_test : (b : Bool) → HasItemsCode (if b then module_with f (body_of f.body) else None)
+    by_test true = module_has_code f (body_of f.body) (body_has_code f.body)
+    by_test false = tt
+items_have_code name _ = tt
+
+-- a module of the first form has code
+pub has_code : (name : List ℕ) (m : ModuleTree) (tree : clight.ModuleTree) → first_form name m ≡ Some tree → (code : List Instr) × IsItemsCode tree.items code
+has_code name m tree form = let P : Option clight.ModuleTree → Type 0 = λ o. HasItemsCode o in subst P form (items_have_code name m.items)
