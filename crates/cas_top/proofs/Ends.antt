@@ -117,19 +117,29 @@ untold_usage told before after count now old new answer said four =
 -- status 4 after a command: a put of `out` failed, or that of the refusal's line, and then `out` is as before
 pub unwritten_command : (told : Told) (c : Command) (before after : List (List ℕ)) (out_old out_new : Taken) (puts puts_now : ℕ) (r : Refusal) (count now : ℕ) (old new : Taken) (answer : ℕ) →
     IsCause told c before after out_old out_new r → Counts puts puts_now (Err r) → IsSaid r count now old new answer → answer ≡ 4 →
-    (puts < puts_now) ⊎ ((out_new ≡ out_old) × IsUntold told (Some c) before after count now old new)
+    (puts < puts_now) ⊎ ((out_new ≡ out_old) × (puts_now ≡ puts) × IsUntold told (Some c) before after count now old new)
 unwritten_command told c before after out_old out_new puts puts_now refusal.Usage count now old new answer cause counts said four = absurd cause
 unwritten_command told c before after out_old out_new puts puts_now (refusal.Unread name) count now old new answer cause counts said four =
     let h = untold 3 _ count now old new answer (inl (omega arith)) said four in
-    inr (cause.1, (h.0, line_of (codes "cascc: cannot read " ++ name.now), cannot_read c name.now cause.0, h.1))
+    inr (cause.1, counts, (h.0, line_of (codes "cascc: cannot read " ++ name.now), cannot_read c name.now cause.0, h.1))
 unwritten_command told c before after out_old out_new puts puts_now (refusal.TooLong name) count now old new answer cause counts said four =
     let h = untold 12 _ count now old new answer (inr (omega arith)) said four in
-    inr (cause.2, (h.0, line_of (codes "cascc: too long " ++ name.now), too_long c name.now cause.0, h.1))
+    inr (cause.2, counts, (h.0, line_of (codes "cascc: too long " ++ name.now), too_long c name.now cause.0, h.1))
 unwritten_command told c before after out_old out_new puts puts_now (refusal.NotFirstForm name) count now old new answer cause counts said four =
     let h = untold 1 _ count now old new answer (inl (omega arith)) said four in
-    inr (cause.2, (h.0, line_of (name.now ++ codes ":1:1: R0"), refused c 1 (line_of (name.now ++ codes ":1:1: R0")) cause.0, h.1))
+    inr (cause.2, counts, (h.0, line_of (name.now ++ codes ":1:1: R0"), refused c 1 (line_of (name.now ++ codes ":1:1: R0")) cause.0, h.1))
 unwritten_command told c before after out_old out_new puts puts_now refusal.Unwritten count now old new answer cause counts said four = inl counts
 unwritten_command told c before after out_old out_new puts puts_now refusal.Memory count now old new answer cause counts said four = absurd (four_nine answer said.0 four)
+
+-- where the list of failed names grew, `out` and its count are as before
+pub unread_or_kept : (told : Told) (c : Command) (before after : List (List ℕ)) (old new : Taken) (puts puts_now : ℕ) (r : Refusal) →
+    IsCause told c before after old new r → Counts puts puts_now (Err r) → (after ≡ before) ⊎ ((new ≡ old) × (puts_now ≡ puts))
+unread_or_kept told c before after old new puts puts_now refusal.Usage cause counts = absurd cause
+unread_or_kept told c before after old new puts puts_now (refusal.Unread name) cause counts = inr (cause.1, counts)
+unread_or_kept told c before after old new puts puts_now (refusal.TooLong name) cause counts = inl cause.1
+unread_or_kept told c before after old new puts puts_now (refusal.NotFirstForm name) cause counts = inl cause.1
+unread_or_kept told c before after old new puts puts_now refusal.Unwritten cause counts = inl cause.1
+unread_or_kept told c before after old new puts puts_now refusal.Memory cause counts = inl cause.1
 
 pub not_risen : (puts puts_now : ℕ) → puts_now ≡ puts → puts < puts_now → ⊥
 not_risen puts puts_now e h = omega arith

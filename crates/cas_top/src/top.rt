@@ -63,7 +63,7 @@ pub fn cascc<R: Threads + Sync, S: Shelf, O: Sink, E: Sink, G: Gate>(
         × IsTried (line_of (codes "cascc: cannot write")) (E.faults err.old) (E.faults err.new) (E.taken err.old) (E.taken err.new) }
     ensures unwritten { result ≡ 4 →
         (O.faults out.old < O.faults out.new)
-        ⊎ ((O.taken out.new ≡ O.taken out.old)
+        ⊎ ((O.taken out.new ≡ O.taken out.old) × (O.faults out.new ≡ O.faults out.old)
         × IsUntold (S.texts shelf.old) (command_of words.now) (S.failed shelf.old) (S.failed shelf.new) (E.faults err.old) (E.faults err.new) (E.taken err.old) (E.taken err.new)) }
 
     // Want of memory.
@@ -77,6 +77,8 @@ pub fn cascc<R: Threads + Sync, S: Shelf, O: Sink, E: Sink, G: Gate>(
     ensures silent { IsPrinting result → E.taken err.new ≡ E.taken err.old }
     ensures out_faults { (result ≡ 4 → ⊥) → O.faults out.new ≡ O.faults out.old }
     ensures err_faults { IsPrinting result ⊎ IsRefusalStatus result → E.faults err.new ≡ E.faults err.old }
+    ensures unread_puts_nothing { (S.failed shelf.new ≡ S.failed shelf.old)
+        ⊎ ((O.taken out.new ≡ O.taken out.old) × (O.faults out.new ≡ O.faults out.old)) }
     ensures failed_names { GrowsBy (S.texts shelf.old) (command_of words.now) (S.failed shelf.old) (S.failed shelf.new) result }
     ensures same_texts { S.texts shelf.new ≡ S.texts shelf.old }
 
