@@ -125,6 +125,9 @@ unwritten_command told c before after out_old out_new puts puts_now (refusal.Unr
 unwritten_command told c before after out_old out_new puts puts_now (refusal.TooLong name) count now old new answer cause counts said four =
     let h = untold 12 _ count now old new answer (inr (omega arith)) said four in
     inr (cause.2, counts, (h.0, line_of (codes "cascc: too long " ++ name.now), too_long c name.now cause.0, h.1))
+unwritten_command told c before after out_old out_new puts puts_now (refusal.Misread name code p) count now old new answer cause counts said four =
+    let h = untold 1 _ count now old new answer (inl (omega arith)) said four in
+    inr (cause.2, counts, (h.0, fault_line name.now code p, refused c 1 (fault_line name.now code p) cause.0, h.1))
 unwritten_command told c before after out_old out_new puts puts_now (refusal.NotFirstForm name) count now old new answer cause counts said four =
     let h = untold 1 _ count now old new answer (inl (omega arith)) said four in
     inr (cause.2, counts, (h.0, line_of (name.now ++ codes ":1:1: R0"), refused c 1 (line_of (name.now ++ codes ":1:1: R0")) cause.0, h.1))
@@ -137,6 +140,7 @@ pub unread_or_kept : (told : Told) (c : Command) (before after : List (List ℕ)
 unread_or_kept told c before after old new puts puts_now refusal.Usage cause counts = absurd cause
 unread_or_kept told c before after old new puts puts_now (refusal.Unread name) cause counts = inr (cause.1, counts)
 unread_or_kept told c before after old new puts puts_now (refusal.TooLong name) cause counts = inl cause.1
+unread_or_kept told c before after old new puts puts_now (refusal.Misread name code p) cause counts = inl cause.1
 unread_or_kept told c before after old new puts puts_now (refusal.NotFirstForm name) cause counts = inl cause.1
 unread_or_kept told c before after old new puts puts_now refusal.Unwritten cause counts = inl cause.1
 unread_or_kept told c before after old new puts puts_now refusal.Memory cause counts = inl cause.1
@@ -150,6 +154,7 @@ pub cut_of_cause : (told : Told) (c : Command) (before after : List (List ℕ)) 
 cut_of_cause told c before after old new refusal.Usage cause = absurd cause
 cut_of_cause told c before after old new (refusal.Unread name) cause = inl cause.1
 cut_of_cause told c before after old new (refusal.TooLong name) cause = inl cause.2
+cut_of_cause told c before after old new (refusal.Misread name code p) cause = inl cause.2
 cut_of_cause told c before after old new (refusal.NotFirstForm name) cause = inl cause.2
 cut_of_cause told c before after old new refusal.Unwritten cause = inr cause.0
 cut_of_cause told c before after old new refusal.Memory cause = cause.0
@@ -160,6 +165,7 @@ pub partly_of_cause : (told : Told) (c : Command) (before after : List (List ℕ
 partly_of_cause told c before after old new puts puts_now refusal.Usage cause counts risen = absurd cause
 partly_of_cause told c before after old new puts puts_now (refusal.Unread name) cause counts risen = absurd (not_risen puts puts_now counts risen)
 partly_of_cause told c before after old new puts puts_now (refusal.TooLong name) cause counts risen = absurd (not_risen puts puts_now counts risen)
+partly_of_cause told c before after old new puts puts_now (refusal.Misread name code p) cause counts risen = absurd (not_risen puts puts_now counts risen)
 partly_of_cause told c before after old new puts puts_now (refusal.NotFirstForm name) cause counts risen = absurd (not_risen puts puts_now counts risen)
 partly_of_cause told c before after old new puts puts_now refusal.Unwritten cause counts risen = cause.0
 partly_of_cause told c before after old new puts puts_now refusal.Memory cause counts risen = absurd (not_risen puts puts_now counts risen)

@@ -1,14 +1,17 @@
 -- A module of the first form has code.
 use Rattle.std.proofs.Common.{◌≡◌, ℕ, Bool, true, false, ◌&&◌, List, [], ◌∷◌, ◌++◌, Option, Some, None, if◌then◌else◌, refl, subst}
-use Rattle.std.specs.Str.{bytes_eq}
-use Rattle.cas_base.specs.Decl.{is_entry}
 use Rattle.cas_base.specs.declared.kind.Kind.TheVariants.{I32}
 use Rattle.cas_base.specs.declared.place.Place.{Place}
 use Rattle.cas_clight.specs.Tree as clight
 use Rattle.cas_clight.specs.declared.tree.BinaryOperator.TheVariants as operator
-use Rattle.cas_syntax.specs.Tree.{ExprTree, literal, binary, StmtList, no_more, one_more, print, FunTree, ItemTree, define, ModuleTree}
+use Rattle.cas_syntax.specs.Tree.{ExprTree, literal, binary, StmtTree, StmtList, no_more, one_more, print, FunTree, ItemTree, define, ModuleTree, form_tree, item_tree}
+use Rattle.cas_syntax.specs.declared.tree.Fun.{Fun}
+use Rattle.cas_syntax.specs.declared.tree.Item.{Item}
+use Rattle.cas_syntax.specs.declared.tree.Item.TheVariants as item
+use Rattle.cas_syntax.specs.declared.tree.Expr.{Expr}
+use Rattle.cas_syntax.specs.declared.tree.StmtForm.{StmtForm, Print}
 use Rattle.cas_syntax.specs.declared.tree.BinaryOperator.TheVariants.{Add}
-use Rattle.cas_top.specs.First_form.{sum_of, added, printing, body_of, module_with, first_form_of, first_form}
+use Rattle.cas_top.specs.First_form.{sum_of, added, printing, body_of, module_with, is_entry_named, first_form_of, first_form}
 use Rattle.cas_top.specs.Machine.{IsExprCode, loads, adds, IsBodyCode, IsItemsCode}
 use Rattle.cas_top.specs.declared.machine.Instr.{Instr}
 use Rattle.cas_top.specs.declared.machine.Instr.TheVariants.{MovEax, OutEax, Ret}
@@ -50,7 +53,7 @@ module_has_code f None h = tt
 module_has_code f (Some s) h = h
 
 items_have_code : (name : List ℕ) (items : List ItemTree) → HasItemsCode (first_form_of name items)
-items_have_code name (define f ∷ []) = by_test (is_entry f.decl.form && bytes_eq f.decl.name name)
+items_have_code name (define f ∷ []) = by_test (is_entry_named name f)
   where
     by_test : (b : Bool) → HasItemsCode (if b then module_with f (body_of f.body) else None)
     by_test true = module_has_code f (body_of f.body) (body_has_code f.body)
@@ -60,3 +63,28 @@ items_have_code name _ = tt
 -- a module of the first form has code
 pub has_code : (name : List ℕ) (m : ModuleTree) (tree : clight.ModuleTree) → first_form name m ≡ Some tree → (code : List Instr) × IsItemsCode tree.items code
 has_code name m tree form = let P : Option clight.ModuleTree → Type 0 = λ o. HasItemsCode o in subst P form (items_have_code name m.items)
+
+-- a statement of another form prints nothing
+pub not_printing : (p : Place) (f : StmtForm) (rest : StmtList) → ((a : Expr) → f ≡ Print a → ⊥) → body_of (one_more (form_tree p f) rest) ≡ None
+not_printing p (Print a) rest h = absurd (h a refl)
+not_printing p _ rest h = refl
+
+-- two statements are no body of the first form
+pub two_statements : (a b : StmtTree) (bs : StmtList) → body_of (one_more a (one_more b bs)) ≡ None
+two_statements (print p a) b bs = refl
+two_statements _ b bs = refl
+
+-- two items are no module of the first form
+pub two_items : (name : List ℕ) (a b : ItemTree) (bs : List ItemTree) → first_form_of name (a ∷ b ∷ bs) ≡ None
+two_items name (define f) b bs = refl
+two_items name _ b bs = refl
+
+-- nor is an item that is no function with a body
+pub no_function : (name : List ℕ) (a : Item) → ((f : Fun) → a ≡ item.Define f → ⊥) → first_form_of name (item_tree a ∷ []) ≡ None
+no_function name (item.Define f) h = absurd (h f refl)
+no_function name _ h = refl
+
+-- the module of a function that a thread may enter
+pub of_function : (name : List ℕ) (items : List ItemTree) (f : FunTree) → items ≡ define f ∷ [] → is_entry_named name f ≡ true →
+    first_form_of name items ≡ module_with f (body_of f.body)
+of_function name items f e h = rw (e, h)

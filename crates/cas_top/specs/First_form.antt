@@ -1,5 +1,5 @@
 -- The first form of a module, the one that is compiled so far: `void NAME(int me) { print(LIT + .. + LIT); }`.
-use Rattle.std.specs.Prelude.{◌≡◌, ℕ, ◌&&◌, if◌then◌else◌, List, [], ◌∷◌, Option, Some, None}
+use Rattle.std.specs.Prelude.{◌≡◌, ℕ, Bool, ◌&&◌, if◌then◌else◌, List, [], ◌∷◌, Option, Some, None}
 use Rattle.std.specs.Str.{bytes_eq}
 use Rattle.cas_base.specs.Decl.{is_entry}
 use Rattle.cas_base.specs.declared.kind.Kind.TheVariants.{I32}
@@ -41,8 +41,13 @@ abbrev pub module_with : FunTree → Option clight.StmtTree → Option clight.Mo
 module_with f None = None
 module_with f (Some body) = Some (record { items = clight.define (function_with f body) ∷ [] })
 
+-- a thread may enter the function, and this is its name
+abbrev pub is_entry_named : (name : List ℕ) → FunTree → Bool
+is_entry_named name f = is_entry f.decl.form && bytes_eq f.decl.name name
+
+-- the module of these items, where they are of the first form
 abbrev pub first_form_of : (name : List ℕ) → List ItemTree → Option clight.ModuleTree
-first_form_of name (define f ∷ []) = if is_entry f.decl.form && bytes_eq f.decl.name name then module_with f (body_of f.body) else None
+first_form_of name (define f ∷ []) = if is_entry_named name f then module_with f (body_of f.body) else None
 first_form_of name _ = None
 
 -- a module of one function `void NAME(int)` that holds no lock and prints one sum
