@@ -1,0 +1,96 @@
+#!/usr/bin/env python3
+"""How long the built program takes to read a module, and how much memory: a table on standard output.
+
+Runs crates/cascc/out/cascc itself (build it by `bin/cascc`), best of five, on modules that this script makes: in the
+shape of generated ones (functions that fill and sum an array), and texts that cost the reader most. Needs python3.
+"""
+import os
+import subprocess
+import sys
+import tempfile
+import time
+
+PROGRAM = os.path.join(os.path.dirname(__file__), "..", "crates", "cascc", "out", "cascc")
+LIMIT = 1048576
+
+
+def generated(functions):
+    """`functions` functions, each of which adds an array's sum to a shared total, and one thread that calls them."""
+    lines = ["lock L;", "shared(L) int total = 0;"]
+    for i in range(functions):
+        c = (31 * 7 + 17 * i) % 1000
+        lines.append(
+            f"void f{i}(void) {{ int j; int s; int a[8]; for (j = 0; j < 8; j++) {{ a[j] = {c} + j; }} s = 0; "
+            "for (j = 0; j < 8; j++) { s += a[j] * (j + 1); } lock(L); total += s; unlock(L); }"
+        )
+    calls = "".join(f"f{i}(); " for i in range(functions))
+    lines.append(f"void w(int me) {{ {calls}lock(L); print(total); unlock(L); }}")
+    return "\n".join(lines) + "\n"
+
+
+def largest_generated():
+    functions = 1
+    while len(generated(functions * 2)) <= LIMIT:
+        functions *= 2
+    step = functions
+    while step > 0:
+        if len(generated(functions + step)) <= LIMIT:
+            functions += step
+        step //= 2
+    return functions
+
+
+def in_body(unit):
+    """A function whose body is this text again and again, up to the limit."""
+    front, behind = "void w(int me){", "}"
+    return front + unit * ((LIMIT - len(front) - len(behind)) // len(unit)) + behind
+
+
+def texts():
+    most = largest_generated()
+    for share in (8, 4, 2, 1):
+        yield f"{most // share} functions", generated(most // share)
+    yield "empty statements", in_body(";")
+    yield "assignments of one letter", in_body("a=b;")
+    yield "expressions of 1,000 tokens", in_body("a=" + "-" * 998 + "b;")
+    yield "blocks 199 deep", in_body("{" * 199 + "}" * 199)
+    yield "prototypes", "int f(int,int,int);" * (LIMIT // 19)
+    yield "spaces", " " * LIMIT
+
+
+def measure(path, lock):
+    """Seconds and peak memory in bytes of one run."""
+    begin = time.perf_counter()
+    child = subprocess.Popen(
+        [PROGRAM, "run", path, "--lock", lock, "--threads", "w"], stdout=subprocess.DEVNULL, stderr=subprocess.PIPE
+    )
+    said = child.stderr.read()
+    _, status, usage = os.wait4(child.pid, 0)
+    child.returncode = os.waitstatus_to_exitcode(status)
+    seconds = time.perf_counter() - begin
+    if child.returncode not in (0, 1):
+        sys.exit(f"{path}: status {child.returncode}: {said.decode()}")
+    return seconds, usage.ru_maxrss * 1024, said.decode().strip().rsplit(": ", 1)[-1]
+
+
+def main():
+    if not os.path.exists(PROGRAM):
+        sys.exit("build the program first: bin/cascc run examples/hello.c --lock examples/lock.s --threads w")
+    with tempfile.TemporaryDirectory() as folder:
+        lock = os.path.join(folder, "lock.s")
+        with open(lock, "w") as file:
+            file.write("")
+        print("| Text | Bytes | Seconds, best of five | Peak bytes a byte of text | Answer |")
+        print("|---|---|---|---|---|")
+        for name, text in texts():
+            path = os.path.join(folder, "m.c")
+            with open(path, "w") as file:
+                file.write(text)
+            runs = [measure(path, lock) for _ in range(5)]
+            seconds = min(run[0] for run in runs)
+            memory = max(run[1] for run in runs)
+            print(f"| {name} | {len(text):,} | {seconds:.3f} | {memory / len(text):.0f} | {runs[0][2]} |")
+
+
+if __name__ == "__main__":
+    main()
