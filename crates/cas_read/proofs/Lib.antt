@@ -1,0 +1,3 @@
+pub mod CompleteLimits
+pub mod CompleteKinds
+pub mod CompleteExprs
