@@ -1,3 +1,4 @@
 pub mod CompleteLimits
 pub mod CompleteKinds
 pub mod CompleteExprs
+pub mod CompleteSimple
