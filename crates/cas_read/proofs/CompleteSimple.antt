@@ -126,7 +126,7 @@ module _ (limits : Limits) where
   goes_alike false ts c d st other h = refl
 
   -- what doesn't begin as a call is read as an expression
-  values : (receiver : Receiver) (st : List Frame) (s : List Token) → begins_call s ≡ false
+  pub values : (receiver : Receiver) (st : List Frame) (s : List Token) → begins_call s ≡ false
     → run limits s (WantValue receiver) st ≡ run limits s WantOutermost (ValueOf receiver ∷ st)
   values receiver st [] h = refl
   values receiver st (t ∷ ts) h = by_kind t.kind h

@@ -2,3 +2,4 @@ pub mod CompleteLimits
 pub mod CompleteKinds
 pub mod CompleteExprs
 pub mod CompleteSimple
+pub mod CompleteLocals
