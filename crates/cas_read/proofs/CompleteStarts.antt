@@ -1,0 +1,312 @@
+-- How statements begin, and what may follow them.
+use Rattle.std.proofs.Common.{◌≡◌, ℕ, ◌+◌, ◌<◌, ◌||◌, Bool, true, false, nat_lt, List, [], ◌∷◌, length, Option, Some, None, arith, refl, ap, sym, ◌∙◌}
+use Rattle.cas_base.specs.declared.kind.Kind.{Kind}
+use Rattle.cas_base.specs.declared.place.Place.{Place}
+use Rattle.cas_lex.specs.declared.token.Token.{Token}
+use Rattle.cas_lex.specs.declared.token.TokenKind.{TokenKind}
+use Rattle.cas_lex.specs.declared.token.TokenKind.TheVariants as k
+use Rattle.cas_lex.specs.declared.token.Word.{Word}
+use Rattle.cas_lex.specs.declared.token.Word.TheVariants as w
+use Rattle.cas_lex.specs.declared.token.Sign.{Sign}
+use Rattle.cas_lex.specs.declared.token.Sign.TheVariants as sg
+use Rattle.cas_syntax.specs.Tree.{ExprTree, StmtTree, block, if_, while_, do_, for_, return_, StmtOption, absent, present, StmtList, no_more, one_more}
+use Rattle.cas_syntax.specs.Limits.{Limits, AllowsDepth}
+use Rattle.cas_syntax.specs.Tokens.{word, sign, ident}
+use Rattle.cas_syntax.specs.Expressions.{SpellsExpr, SpellsKind}
+use Rattle.cas_syntax.specs.Statements.{SpellsTarget, a_variable, SpellsSimple, sets, changes, increments, decrements, SpellsLocals, last_local, one_local, SpellsFirst, nothing_first, simple_first, local_first, SpellsAfter, nothing_after, simple_after, SpellsOptional, no_expr, an_expr, dangles, SpellsStmt, skips, blocks, simple, ifs, if_elses, whiles, dos, fors, breaks, continues, returns, locks, unlocks, prints, SpellsStmts, ended, a_stmt, locals}
+use Rattle.cas_read.specs.Frames.{Frame, IfCondition, WhileCondition, DoCondition, ForCondition, ReturnValue, PrintValue, SimpleStmt, FirstSimple, AfterSimple, Locals, FirstLocal, LocalsKind, FirstKind, IfThen, IfElse, WhileBody, DoBody, ForBody, NextStmt, BlockOf, WantOutermost, WantKind, HaveKind, WantLocal, WantStmt, HaveStmt, InList, ForFirst, ForSecond, ForThird, AfterReturn}
+use Rattle.cas_read.specs.Machine.{begins_kind, is_at, is_else, snoc, started, simple_started, nested, outermost as begins_outermost, for_first, for_second, for_third, after_return, in_list, run, go, shift}
+use Rattle.cas_read.proofs.CompleteLimits.{allows}
+use Rattle.cas_read.proofs.CompleteKinds.{next_of_kind, begins_with_kind, reads_kind}
+use Rattle.cas_read.proofs.CompleteExprs.{is_ending, next_ends, reads_outermost}
+use Rattle.cas_read.proofs.CompleteSimple.{expr_no_end, begun, reads_simple}
+use Rattle.cas_read.proofs.CompleteLocals.{local_no_kind, reads_local}
+
+-- what may begin an assignment or a call
+abbrev pub begins_simple : TokenKind → Bool
+begins_simple (k.Name n) = true
+begins_simple (k.Sign sg.Star) = true
+begins_simple (k.Sign sg.PlusPlus) = true
+begins_simple (k.Sign sg.MinusMinus) = true
+begins_simple kind = false
+
+abbrev pub next_simple : List Token → Bool
+next_simple [] = false
+next_simple (t ∷ ts) = begins_simple t.kind
+
+pub target_begins : {limits : Limits} {target : _} {s r : List Token} → SpellsTarget limits target s r → next_simple s ≡ true
+target_begins (a_variable x r) = refl
+target_begins _ = refl
+
+pub simple_begins : {limits : Limits} {a : StmtTree} {s r : List Token} → SpellsSimple limits a s r → next_simple s ≡ true
+simple_begins (sets target a first p s t r ht may h) = target_begins ht
+simple_begins (changes target op by a first p s t r is ht h) = target_begins ht
+simple_begins (increments target first p s r ht) = target_begins ht
+simple_begins (decrements target first p s r ht) = target_begins ht
+simple_begins _ = refl
+
+-- what stands in a list of statements, where no statement begins
+abbrev pub begins_none : TokenKind → Bool
+begins_none (k.Sign sg.CloseBrace) = true
+begins_none (k.Word w.Else) = true
+begins_none kind = begins_kind kind
+
+abbrev pub next_none : List Token → Bool
+next_none [] = true
+next_none (t ∷ ts) = begins_none t.kind
+
+by_simple : (kind : TokenKind) → begins_simple kind ≡ true → begins_none kind ≡ false
+by_simple (k.Word one) h = cc
+by_simple (k.Sign s) h = by_sign s h
+  where
+    by_sign : (s : Sign) → begins_simple (k.Sign s) ≡ true → begins_none (k.Sign s) ≡ false
+    by_sign sg.CloseBrace h = cc
+    by_sign _ h = refl
+by_simple _ h = refl
+
+simple_no_none : (s : List Token) → next_simple s ≡ true → next_none s ≡ false
+simple_no_none [] h = cc
+simple_no_none (t ∷ ts) h = by_simple t.kind h
+
+pub stmt_begins : {limits : Limits} {n : ℕ} {a : StmtTree} {s r : List Token} → SpellsStmt limits n a s r → next_none s ≡ false
+stmt_begins (simple n a p s r al h) = simple_no_none s (simple_begins h)
+stmt_begins _ = refl
+
+abbrev pub an_else : TokenKind → Bool
+an_else (k.Word w.Else) = true
+an_else kind = false
+
+abbrev pub next_else : List Token → Bool
+next_else [] = false
+next_else (t ∷ ts) = an_else t.kind
+
+pub is_else-same : (limits : Limits) (near leaves : Bool) (kind : TokenKind) → is_else limits near leaves kind ≡ an_else kind
+is_else-same limits near leaves (k.Word one) = by_word one
+  where
+    by_word : (one : Word) → is_else limits near leaves (k.Word one) ≡ an_else (k.Word one)
+    by_word w.Else = refl
+    by_word _ = refl
+is_else-same limits near leaves _ = refl
+
+by_none : (kind : TokenKind) → begins_none kind ≡ false → an_else kind ≡ false
+by_none (k.Word one) h = by_word one h
+  where
+    by_word : (one : Word) → begins_none (k.Word one) ≡ false → an_else (k.Word one) ≡ false
+    by_word w.Else h = cc
+    by_word _ h = refl
+by_none _ h = refl
+
+pub none_no_else : (s : List Token) → next_none s ≡ false → next_else s ≡ false
+none_no_else [] h = refl
+none_no_else (t ∷ ts) h = by_none t.kind h
+
+by_kind_word : (kind : TokenKind) → begins_kind kind ≡ true → an_else kind ≡ false
+by_kind_word (k.Word one) h = by_word one h
+  where
+    by_word : (one : Word) → begins_kind (k.Word one) ≡ true → an_else (k.Word one) ≡ false
+    by_word w.Else h = cc
+    by_word _ h = refl
+by_kind_word _ h = refl
+
+pub kind_no_else : (s : List Token) → next_of_kind s ≡ true → next_else s ≡ false
+kind_no_else [] h = refl
+kind_no_else (t ∷ ts) h = by_kind_word t.kind h
+
+-- where an `else` doesn't follow statements, none follows a statement before them
+pub stmts_no_else : {limits : Limits} {n : ℕ} {bs : StmtList} {s r : List Token} → SpellsStmts limits n bs s r → next_else r ≡ false → next_else s ≡ false
+stmts_no_else (ended n r) h = h
+stmts_no_else (a_stmt n a bs s t r ha hbs) h = none_no_else s (stmt_begins ha)
+stmts_no_else (locals n kd bs rest p s t v r al hk hl hrest) h = kind_no_else s (begins_with_kind hk)
+
+-- the second statements behind the first, one after another
+abbrev pub adds : StmtList → StmtList → StmtList
+adds before no_more = before
+adds before (one_more a bs) = adds (snoc before a) bs
+
+abbrev join : StmtList → StmtList → StmtList
+join no_more bs = bs
+join (one_more a as_) bs = one_more a (join as_ bs)
+
+join_no_more : (bs : StmtList) → join bs no_more ≡ bs
+join_no_more no_more = refl
+join_no_more (one_more a bs) = ap (one_more a) (join_no_more bs)
+
+join_snoc : (before : StmtList) (a : StmtTree) (bs : StmtList) → join (snoc before a) bs ≡ join before (one_more a bs)
+join_snoc no_more a bs = refl
+join_snoc (one_more b before) a bs = ap (one_more b) (join_snoc before a bs)
+
+adds_join : (bs before : StmtList) → adds before bs ≡ join before bs
+adds_join no_more before = sym (join_no_more before)
+adds_join (one_more a bs) before = adds_join bs (snoc before a) ∙ join_snoc before a bs
+
+pub adds_all : (bs : StmtList) → adds no_more bs ≡ bs
+adds_all bs = adds_join bs no_more
+
+module _ (limits : Limits) where
+  -- a statement that is allowed here begins
+  pub enters : (n : ℕ) (st : List Frame) (t : Token) (ts : List Token) → AllowsDepth limits n (t ∷ ts)
+    → run limits (t ∷ ts) (WantStmt n) st ≡ go (run limits ts) (length ts) (started limits (nat_lt (length ts) limits.cut) (is_at limits.left_out (length ts)) n st t.place t.kind)
+  enters n st t ts h = rw (allows limits n t ts h)
+
+  pub enters_simple : (n : ℕ) (st : List Frame) (s : List Token) → AllowsDepth limits n s → next_simple s ≡ true
+    → run limits s (WantStmt n) st ≡ begun limits s (SimpleStmt ∷ st)
+  enters_simple n st [] al h = refl
+  enters_simple n st (t ∷ ts) al h = enters n st t ts al ∙ ap (go (run limits ts) (length ts)) (by_kind (nat_lt (length ts) limits.cut) (is_at limits.left_out (length ts)) t.kind h)
+    where
+      by_kind : (near leaves : Bool) (kind : TokenKind) → begins_simple kind ≡ true
+        → started limits near leaves n st t.place kind ≡ simple_started limits near leaves (SimpleStmt ∷ st) t.place kind
+      by_kind near leaves (k.Word one) h = cc
+      by_kind near leaves (k.Sign s) h = by_sign s h
+        where
+          by_sign : (s : Sign) → begins_simple (k.Sign s) ≡ true
+            → started limits near leaves n st t.place (k.Sign s) ≡ simple_started limits near leaves (SimpleStmt ∷ st) t.place (k.Sign s)
+          by_sign sg.Semicolon h = cc
+          by_sign sg.OpenBrace h = cc
+          by_sign _ h = refl
+      by_kind near leaves _ h = refl
+
+  -- in a list, a statement begins, or a kind
+  pub begins_stmt : (n : ℕ) (before : StmtList) (st : List Frame) (s : List Token) → next_none s ≡ false
+    → run limits s (InList n before) st ≡ run limits s (WantStmt n) (NextStmt n before ∷ st)
+  begins_stmt n before st [] h = cc
+  begins_stmt n before st (t ∷ ts) h = ap (go (run limits ts) (length ts)) (by_kind (nat_lt (length ts) limits.cut) (is_at limits.left_out (length ts)) t.kind h)
+    where
+      by_kind : (near leaves : Bool) (kind : TokenKind) → begins_none kind ≡ false
+        → in_list limits near leaves n before st t.place kind ≡ nested limits near leaves n (started limits near leaves n (NextStmt n before ∷ st) t.place kind)
+      by_kind near leaves (k.Word one) h = by_word one h
+        where
+          by_word : (one : Word) → begins_none (k.Word one) ≡ false
+            → in_list limits near leaves n before st t.place (k.Word one) ≡ nested limits near leaves n (started limits near leaves n (NextStmt n before ∷ st) t.place (k.Word one))
+          by_word w.Char h = cc
+          by_word w.Short h = cc
+          by_word w.Int h = cc
+          by_word w.Unsigned h = cc
+          by_word w.Signed h = cc
+          by_word _ h = refl
+      by_kind near leaves (k.Sign s) h = by_sign s h
+        where
+          by_sign : (s : Sign) → begins_none (k.Sign s) ≡ false
+            → in_list limits near leaves n before st t.place (k.Sign s) ≡ nested limits near leaves n (started limits near leaves n (NextStmt n before ∷ st) t.place (k.Sign s))
+          by_sign sg.CloseBrace h = cc
+          by_sign _ h = refl
+      by_kind near leaves _ h = refl
+
+  pub begins_locals : (n : ℕ) (before : StmtList) (st : List Frame) (s : List Token) → AllowsDepth limits n s → next_of_kind s ≡ true
+    → run limits s (InList n before) st ≡ run limits s (WantKind None) (LocalsKind n before ∷ st)
+  begins_locals n before st [] al h = cc
+  begins_locals n before st (t ∷ ts) al h = by_kind t.kind h
+    where
+      fits : (nat_lt n limits.depth || nat_lt (length ts) limits.cut) ≡ true
+      fits = allows limits n t ts al
+
+      by_kind : (kind : TokenKind) → begins_kind kind ≡ true
+        → run limits (record { kind = kind; place = t.place } ∷ ts) (InList n before) st ≡ run limits (record { kind = kind; place = t.place } ∷ ts) (WantKind None) (LocalsKind n before ∷ st)
+      by_kind (k.Word one) h = by_word one h
+        where
+          by_word : (one : Word) → begins_kind (k.Word one) ≡ true
+            → run limits (record { kind = k.Word one; place = t.place } ∷ ts) (InList n before) st ≡ run limits (record { kind = k.Word one; place = t.place } ∷ ts) (WantKind None) (LocalsKind n before ∷ st)
+          by_word w.Char h = rw fits
+          by_word w.Short h = rw fits
+          by_word w.Int h = rw fits
+          by_word w.Unsigned h = rw fits
+          by_word w.Signed h = rw fits
+          by_word _ h = cc
+      by_kind _ h = cc
+
+  -- the parts of a `for`, and what stands behind `return`
+
+  pub first_simple : (n : ℕ) (p : Place) (st : List Frame) (s : List Token) → AllowsDepth limits (n + 1) s → next_simple s ≡ true
+    → run limits s (ForFirst n p) st ≡ begun limits s (FirstSimple n p ∷ st)
+  first_simple n p st [] al h = refl
+  first_simple n p st (t ∷ ts) al h = by_kind t.kind h
+    where
+      fits : (nat_lt (n + 1) limits.depth || nat_lt (length ts) limits.cut) ≡ true
+      fits = allows limits (n + 1) t ts al
+
+      by_kind : (kind : TokenKind) → begins_simple kind ≡ true
+        → run limits (record { kind = kind; place = t.place } ∷ ts) (ForFirst n p) st ≡ begun limits (record { kind = kind; place = t.place } ∷ ts) (FirstSimple n p ∷ st)
+      by_kind (k.Word one) h = cc
+      by_kind (k.Literal n kd) h = cc
+      by_kind (k.Name n) h = rw fits
+      by_kind (k.Sign s) h = by_sign s h
+        where
+          by_sign : (s : Sign) → begins_simple (k.Sign s) ≡ true
+            → run limits (record { kind = k.Sign s; place = t.place } ∷ ts) (ForFirst n p) st ≡ begun limits (record { kind = k.Sign s; place = t.place } ∷ ts) (FirstSimple n p ∷ st)
+          by_sign sg.Star h = rw fits
+          by_sign sg.PlusPlus h = rw fits
+          by_sign sg.MinusMinus h = rw fits
+          by_sign _ h = cc
+
+  pub first_kind : (n : ℕ) (p : Place) (st : List Frame) (s : List Token) → AllowsDepth limits (n + 1) s → next_of_kind s ≡ true
+    → run limits s (ForFirst n p) st ≡ run limits s (WantKind None) (FirstKind n p ∷ st)
+  first_kind n p st [] al h = refl
+  first_kind n p st (t ∷ ts) al h = by_kind t.kind h
+    where
+      fits : (nat_lt (n + 1) limits.depth || nat_lt (length ts) limits.cut) ≡ true
+      fits = allows limits (n + 1) t ts al
+
+      by_kind : (kind : TokenKind) → begins_kind kind ≡ true
+        → run limits (record { kind = kind; place = t.place } ∷ ts) (ForFirst n p) st ≡ run limits (record { kind = kind; place = t.place } ∷ ts) (WantKind None) (FirstKind n p ∷ st)
+      by_kind (k.Word one) h = by_word one h
+        where
+          by_word : (one : Word) → begins_kind (k.Word one) ≡ true
+            → run limits (record { kind = k.Word one; place = t.place } ∷ ts) (ForFirst n p) st ≡ run limits (record { kind = k.Word one; place = t.place } ∷ ts) (WantKind None) (FirstKind n p ∷ st)
+          by_word w.Char h = rw fits
+          by_word w.Short h = rw fits
+          by_word w.Int h = rw fits
+          by_word w.Unsigned h = rw fits
+          by_word w.Signed h = rw fits
+          by_word _ h = cc
+      by_kind _ h = cc
+
+  pub second_expr : (n : ℕ) (p : Place) (i : StmtOption) (st : List Frame) (s : List Token) → next_ends s ≡ false
+    → run limits s (ForSecond n p i) st ≡ run limits s WantOutermost (ForCondition n p i ∷ st)
+  second_expr n p i st [] h = refl
+  second_expr n p i st (t ∷ ts) h = ap (go (run limits ts) (length ts)) (by_kind (nat_lt (length ts) limits.cut) (is_at limits.left_out (length ts)) t.kind h)
+    where
+      by_kind : (near leaves : Bool) (kind : TokenKind) → is_ending kind ≡ false
+        → for_second limits near leaves n p i st t.place kind ≡ begins_outermost limits near leaves (ForCondition n p i ∷ st) t.place kind
+      by_kind near leaves (k.Sign s) h = by_sign s h
+        where
+          by_sign : (s : Sign) → is_ending (k.Sign s) ≡ false
+            → for_second limits near leaves n p i st t.place (k.Sign s) ≡ begins_outermost limits near leaves (ForCondition n p i ∷ st) t.place (k.Sign s)
+          by_sign sg.Semicolon h = cc
+          by_sign _ h = refl
+      by_kind near leaves _ h = refl
+
+  pub third_simple : (n : ℕ) (p : Place) (i : StmtOption) (c : Option ExprTree) (st : List Frame) (s : List Token) → AllowsDepth limits (n + 1) s → next_simple s ≡ true
+    → run limits s (ForThird n p i c) st ≡ begun limits s (AfterSimple n p i c ∷ st)
+  third_simple n p i c st [] al h = refl
+  third_simple n p i c st (t ∷ ts) al h = by_kind t.kind h
+    where
+      fits : (nat_lt (n + 1) limits.depth || nat_lt (length ts) limits.cut) ≡ true
+      fits = allows limits (n + 1) t ts al
+
+      by_kind : (kind : TokenKind) → begins_simple kind ≡ true
+        → run limits (record { kind = kind; place = t.place } ∷ ts) (ForThird n p i c) st ≡ begun limits (record { kind = kind; place = t.place } ∷ ts) (AfterSimple n p i c ∷ st)
+      by_kind (k.Word one) h = cc
+      by_kind (k.Literal n kd) h = cc
+      by_kind (k.Name n) h = rw fits
+      by_kind (k.Sign s) h = by_sign s h
+        where
+          by_sign : (s : Sign) → begins_simple (k.Sign s) ≡ true
+            → run limits (record { kind = k.Sign s; place = t.place } ∷ ts) (ForThird n p i c) st ≡ begun limits (record { kind = k.Sign s; place = t.place } ∷ ts) (AfterSimple n p i c ∷ st)
+          by_sign sg.Star h = rw fits
+          by_sign sg.PlusPlus h = rw fits
+          by_sign sg.MinusMinus h = rw fits
+          by_sign _ h = cc
+
+  pub returned_expr : (q : Place) (st : List Frame) (s : List Token) → next_ends s ≡ false
+    → run limits s (AfterReturn q) st ≡ run limits s WantOutermost (ReturnValue q ∷ st)
+  returned_expr q st [] h = refl
+  returned_expr q st (t ∷ ts) h = ap (go (run limits ts) (length ts)) (by_kind (nat_lt (length ts) limits.cut) (is_at limits.left_out (length ts)) t.kind h)
+    where
+      by_kind : (near leaves : Bool) (kind : TokenKind) → is_ending kind ≡ false
+        → after_return limits near leaves q st t.place kind ≡ begins_outermost limits near leaves (ReturnValue q ∷ st) t.place kind
+      by_kind near leaves (k.Sign s) h = by_sign s h
+        where
+          by_sign : (s : Sign) → is_ending (k.Sign s) ≡ false
+            → after_return limits near leaves q st t.place (k.Sign s) ≡ begins_outermost limits near leaves (ReturnValue q ∷ st) t.place (k.Sign s)
+          by_sign sg.Semicolon h = cc
+          by_sign _ h = refl
+      by_kind near leaves _ h = refl
