@@ -5,3 +5,6 @@ pub mod CompleteSimple
 pub mod CompleteLocals
 pub mod CompleteStarts
 pub mod CompleteStmts
+pub mod CompleteCells
+pub mod CompleteHeads
+pub mod CompleteItems
