@@ -24,100 +24,53 @@ use Rattle.cas_read.proofs.CompleteKinds.{next_of_kind, begins_with_kind, reads_
 use Rattle.cas_read.proofs.CompleteExprs.{is_ending, next_ends}
 use Rattle.cas_read.proofs.CompleteLimits.{leaves}
 
--- what an item begins with, but for `extern`
-abbrev begins_item : TokenKind → Bool
-begins_item (k.Word w.Lock) = true
-begins_item (k.Word w.Shared) = true
-begins_item (k.Word w.Const) = true
-begins_item (k.Word w.Void) = true
-begins_item kind = begins_kind kind
+use Rattle.cas_read.proofs.CompleteReturns.{begun_item, reads_return, return_item, next_item}
+use Rattle.cas_read.proofs.CompleteParameters.{reads_parameters}
 
-abbrev pub next_item : List Token → Bool
-next_item [] = false
-next_item (t ∷ ts) = begins_item t.kind
+-- whether the next token begins the locks that a function's caller holds
+abbrev a_hold : TokenKind → Bool
+a_hold (k.Word w.Holds) = true
+a_hold kind = false
 
-kind_item : (kind : TokenKind) → begins_kind kind ≡ true → begins_item kind ≡ true
-kind_item (k.Word one) h = by_word one h
-  where
-    by_word : (one : Word) → begins_kind (k.Word one) ≡ true → begins_item (k.Word one) ≡ true
-    by_word w.Lock h = refl
-    by_word w.Shared h = refl
-    by_word w.Const h = refl
-    by_word w.Void h = refl
-    by_word _ h = h
-kind_item _ h = h
-
-next_kind_item : (s : List Token) → next_of_kind s ≡ true → next_item s ≡ true
-next_kind_item [] h = h
-next_kind_item (t ∷ ts) h = kind_item t.kind h
-
-return_item : {limits : Limits} {ty : Ty} {s r : List Token} → SpellsReturn limits ty s r → next_item s ≡ true
-return_item (no_value p r) = refl
-return_item (a_value ty s r h) = next_kind_item s (of_type h)
-  where
-    of_type : {limits : Limits} {ty : Ty} {s r : List Token} → SpellsType limits ty s r → next_of_kind s ≡ true
-    of_type (integer kd s r h) = begins_with_kind h
-    of_type (pointer kd p s r h) = begins_with_kind h
-    of_type (pointer_to_pointer kd p q s r out h) = begins_with_kind h
+abbrev pub next_holds : List Token → Bool
+next_holds [] = false
+next_holds (t ∷ ts) = a_hold t.kind
 
 module _ (limits : Limits) where
-  -- what may be an item behind `extern` or none, where these tokens stand
-  abbrev pub begun_item : (defined : Bool) → List ItemTree → List Token → List Frame → Verdict
-  begun_item d items [] st = run limits [] (AfterExtern items) st
-  begun_item d items (t ∷ ts) st = go (run limits ts) (length ts) (item_started limits (nat_lt (length ts) limits.cut) (is_at limits.left_out (length ts)) d items st t.kind)
-
-  pub reads_extern : {d : Bool} {s t : List Token} → SpellsExtern d s t → (items : List ItemTree) (st : List Frame) → next_item t ≡ true
-    → run limits s (InItems items) st ≡ begun_item d items t st
-  reads_extern (elsewhere p r) items st h = by_rest r
+  no_holds : (o : Opening) (tys : List Ty) (xs : List (Option Ident)) (items : List ItemTree) (st : List Frame) (r : List Token) → next_holds r ≡ false
+    → run limits r (AfterParameters o tys xs items) st ≡ run limits r (AfterHead o.name (form.Function o.ret tys []) o.defined xs [] items) st
+  no_holds o tys xs items st [] h = refl
+  no_holds o tys xs items st (t ∷ ts) h = ap (go (run limits ts) (length ts)) (by_kind (nat_lt (length ts) limits.cut) (is_at limits.left_out (length ts)) t.kind h)
     where
-      by_rest : (r : List Token) → run limits r (AfterExtern items) st ≡ begun_item false items r st
-      by_rest [] = refl
-      by_rest (t ∷ ts) = refl
-  reads_extern (here []) items st h = cc
-  reads_extern (here (t ∷ ts)) items st h = ap (go (run limits ts) (length ts)) (by_kind (nat_lt (length ts) limits.cut) (is_at limits.left_out (length ts)) t.kind h)
-    where
-      by_kind : (near leaves : Bool) (kind : TokenKind) → begins_item kind ≡ true
-        → in_items limits near leaves items st kind ≡ item_started limits near leaves true items st kind
+      by_kind : (near leaves : Bool) (kind : TokenKind) → a_hold kind ≡ false
+        → after_parameters limits near leaves o tys xs items st kind ≡ after_head limits near leaves o.name (form.Function o.ret tys []) o.defined xs [] items st kind
       by_kind near leaves (k.Word one) h = by_word one h
         where
-          by_word : (one : Word) → begins_item (k.Word one) ≡ true
-            → in_items limits near leaves items st (k.Word one) ≡ item_started limits near leaves true items st (k.Word one)
-          by_word w.Extern h = cc
+          by_word : (one : Word) → a_hold (k.Word one) ≡ false
+            → after_parameters limits near leaves o tys xs items st (k.Word one) ≡ after_head limits near leaves o.name (form.Function o.ret tys []) o.defined xs [] items st (k.Word one)
+          by_word w.Holds h = cc
           by_word _ h = refl
       by_kind near leaves _ h = refl
 
-  begins_return : (d : Bool) (items : List ItemTree) (st : List Frame) (s : List Token) → next_of_kind s ≡ true
-    → begun_item d items s st ≡ run limits s (WantKind None) (ReturnKind d items ∷ st)
-  begins_return d items st [] h = cc
-  begins_return d items st (t ∷ ts) h = ap (go (run limits ts) (length ts)) (by_kind (nat_lt (length ts) limits.cut) (is_at limits.left_out (length ts)) t.kind h)
-    where
-      by_kind : (near leaves : Bool) (kind : TokenKind) → begins_kind kind ≡ true
-        → item_started limits near leaves d items st kind ≡ want_kind limits near leaves None (ReturnKind d items ∷ st) kind
-      by_kind near leaves (k.Word one) h = by_word one h
-        where
-          by_word : (one : Word) → begins_kind (k.Word one) ≡ true
-            → item_started limits near leaves d items st (k.Word one) ≡ want_kind limits near leaves None (ReturnKind d items ∷ st) (k.Word one)
-          by_word w.Lock h = cc
-          by_word w.Shared h = cc
-          by_word w.Const h = cc
-          by_word w.Void h = cc
-          by_word _ h = refl
-      by_kind near leaves _ h = refl
+  reads_names : {hs : List Ident} {q : Place} {s r : List Token} → SpellsNames hs s (sign sg.CloseParen q ∷ r)
+    → (o : Opening) (tys : List Ty) (xs : List (Option Ident)) (before : List Ident) (items : List ItemTree) (st : List Frame)
+    → run limits s (WantHeld o tys xs before items) st ≡ run limits r (AfterHead o.name (form.Function o.ret tys (names_alone (before ++ hs))) o.defined xs (places_alone (before ++ hs)) items) st
+  reads_names (last_name x _) o tys xs before items st = refl
+  reads_names {r = r} (one_name x hs p s _ h) o tys xs before items st =
+      reads_names h o tys xs (before ++ x ∷ []) items st
+      ∙ ap (λ all. run limits r (AfterHead o.name (form.Function o.ret tys (names_alone all)) o.defined xs (places_alone all) items) st) (append_assoc before (x ∷ []) hs)
 
-  reads_return_type : {ty : Ty} {x : Ident} {s r : List Token} → SpellsType limits ty s (ident x ∷ r) → (d : Bool) (items : List ItemTree) (st : List Frame)
-    → run limits s (WantKind None) (ReturnKind d items ∷ st) ≡ run limits r (FunctionName (record { defined = d; ret = ty; name = x }) items) st
-  reads_return_type (integer kd s _ h) d items st = reads_kind limits h (ReturnKind d items ∷ st) refl
-  reads_return_type (pointer kd p s _ h) d items st = reads_kind limits h (ReturnKind d items ∷ st) refl
-  reads_return_type {x = x} {r = r} (pointer_to_pointer kd p q s _ out h) d items st =
-      reads_kind limits h (ReturnKind d items ∷ st) refl
-      ∙ (rw (leaves limits (ident x ∷ r) out))
+  reads_holds : {hs : List Ident} {s r : List Token} → SpellsHolds hs s r → (o : Opening) (tys : List Ty) (xs : List (Option Ident)) (items : List ItemTree) (st : List Frame) → next_holds r ≡ false
+    → run limits s (AfterParameters o tys xs items) st ≡ run limits r (AfterHead o.name (form.Function o.ret tys (names_alone hs)) o.defined xs (places_alone hs) items) st
+  reads_holds (none_held r) o tys xs items st ends = no_holds o tys xs items st r ends
+  reads_holds (held hs p q q' s r h) o tys xs items st ends = reads_names h o tys xs [] items st
 
-  begins_type : {ty : Ty} {s r : List Token} → SpellsType limits ty s r → next_of_kind s ≡ true
-  begins_type (integer kd s r h) = begins_with_kind h
-  begins_type (pointer kd p s r h) = begins_with_kind h
-  begins_type (pointer_to_pointer kd p q s r out h) = begins_with_kind h
+  pub reads_head : {x : Ident} {f : Form} {xs : List (Option Ident)} {hs : List Place} {s r : List Token} → SpellsHead limits x f xs hs s r → (d : Bool) (items : List ItemTree) (st : List Frame) → next_holds r ≡ false
+    → begun_item limits d items s st ≡ run limits r (AfterHead x f d xs hs items) st
+  reads_head (head x ret tys xs holds p q s t v r hret hparams hholds) d items st ends =
+      reads_return limits hret d items st
+      ∙ reads_parameters limits hparams (record { defined = d; ret = ret; name = x }) items st
+      ∙ reads_holds hholds (record { defined = d; ret = ret; name = x }) tys xs items st ends
 
-  pub reads_return : {ty : Ty} {x : Ident} {s r : List Token} → SpellsReturn limits ty s (ident x ∷ r) → (d : Bool) (items : List ItemTree) (st : List Frame)
-    → begun_item d items s st ≡ run limits r (FunctionName (record { defined = d; ret = ty; name = x }) items) st
-  reads_return (no_value p _) d items st = refl
-  reads_return (a_value ty s _ h) d items st = begins_return d items st s (begins_type h) ∙ reads_return_type h d items st
+pub head_item : {limits : Limits} {x : Ident} {f : Form} {xs : List (Option Ident)} {hs : List Place} {s r : List Token} → SpellsHead limits x f xs hs s r → next_item s ≡ true
+head_item (head x ret tys xs holds p q s t v r hret hparams hholds) = return_item hret

@@ -6,5 +6,7 @@ pub mod CompleteLocals
 pub mod CompleteStarts
 pub mod CompleteStmts
 pub mod CompleteCells
+pub mod CompleteReturns
+pub mod CompleteParameters
 pub mod CompleteHeads
 pub mod CompleteItems
