@@ -1,19 +1,16 @@
 -- What is spelled as the cells of a global is read as them.
-use Rattle.std.proofs.Common.{◌≡◌, ℕ, Bool, true, false, nat_lt, List, [], ◌∷◌, ◌++◌, length, Option, Some, None, arith, refl, ap, ◌∙◌, append_assoc}
+use Rattle.std.proofs.Common.{◌≡◌, ℕ, Bool, true, false, List, [], ◌∷◌, ◌++◌, None, refl, ap, ◌∙◌, append_assoc}
 use Rattle.cas_base.specs.declared.kind.Kind.{Kind}
 use Rattle.cas_base.specs.declared.kind.Ty.{Ty}
-use Rattle.cas_base.specs.declared.kind.Ty.TheVariants.{Int, Ptr, Array}
+use Rattle.cas_base.specs.declared.kind.Ty.TheVariants.{Int, Array}
 use Rattle.cas_base.specs.declared.place.Place.{Place}
 use Rattle.cas_lex.specs.declared.token.Token.{Token}
-use Rattle.cas_lex.specs.declared.token.TokenKind.{TokenKind}
-use Rattle.cas_lex.specs.declared.token.TokenKind.TheVariants as k
 use Rattle.cas_lex.specs.declared.token.Sign.TheVariants as sg
 use Rattle.cas_syntax.specs.declared.tree.Ident.{Ident}
 use Rattle.cas_syntax.specs.Tree.{ItemTree}
 use Rattle.cas_syntax.specs.Limits.{Limits}
-use Rattle.cas_syntax.specs.Tokens.{sign, ident, number}
+use Rattle.cas_syntax.specs.Tokens.{sign}
 use Rattle.cas_syntax.specs.Items.{SpellsValue, as_it_is, negative, SpellsValues, last_value, last_value_and_comma, one_value, SpellsCells, one_cell, one_cell_with_value, cells, cells_with_values, arrays}
-use Rattle.cas_syntax.specs.Tokens.{ident}
 use Rattle.cas_read.specs.Frames.{Sort, Data, Frame, CellsKind, HaveKind, InItems, CellValue, WantCells, HaveCells, MoreCells, CellsEnd}
 use Rattle.cas_read.specs.Machine.{cells as cells_item, run}
 use Rattle.cas_read.proofs.CompleteKinds.{next_of_kind}

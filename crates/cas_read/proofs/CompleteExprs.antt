@@ -1,5 +1,5 @@
 -- What is spelled as an expression is read as it.
-use Rattle.std.proofs.Common.{◌≡◌, ℕ, suc, ◌+◌, ◌-◌, ◌*◌, ◌≤◌, ◌<◌, ◌||◌, max, Bool, true, false, nat_le, nat_lt, if◌then◌else◌, List, [], ◌∷◌, length, Option, Some, None, Ok, arith, refl, ap, sym, ◌∙◌, sub-add_cancel}
+use Rattle.std.proofs.Common.{◌≡◌, ℕ, ◌+◌, ◌-◌, ◌*◌, ◌≤◌, ◌<◌, ◌||◌, max, Bool, true, false, nat_le, nat_lt, List, [], ◌∷◌, length, Some, Ok, arith, refl, ap, ◌∙◌}
 use Rattle.std.proofs.lemmas.Bool.Decides.{nat_tests}
 use Rattle.cas_base.specs.declared.kind.Kind.{Kind}
 use Rattle.cas_base.specs.declared.place.Place.{Place}
@@ -12,14 +12,14 @@ use Rattle.cas_syntax.specs.declared.tree.Ident.{Ident}
 use Rattle.cas_syntax.specs.declared.tree.UnaryOperator.{UnaryOperator}
 use Rattle.cas_syntax.specs.declared.tree.UnaryOperator.TheVariants as u
 use Rattle.cas_syntax.specs.declared.tree.BinaryOperator.{BinaryOperator}
-use Rattle.cas_syntax.specs.declared.tree.BinaryOperator.TheVariants.{Add, Sub, Mul, Div, Mod, Shl, Shr, BitAnd, BitOr, BitXor, Eq, Ne, Lt, Le, Gt, Ge}
-use Rattle.cas_syntax.specs.Tree.{ExprTree, literal, name, index, deref, address, address_index, unary, cast, conditional}
+use Rattle.cas_syntax.specs.declared.tree.BinaryOperator.TheVariants.{Add}
+use Rattle.cas_syntax.specs.Tree.{ExprTree, conditional}
 use Rattle.cas_syntax.specs.Operators.{Infix, always_both, logical_and, logical_or, joined, level, infix_sign, unary_sign}
-use Rattle.cas_syntax.specs.Limits.{Limits, AllowsTokens, IsLeftOut}
-use Rattle.cas_syntax.specs.Tokens.{word, sign, ident, number}
+use Rattle.cas_syntax.specs.Limits.{Limits}
+use Rattle.cas_syntax.specs.Tokens.{sign, ident}
 use Rattle.cas_syntax.specs.Expressions.{Spells, a_literal, a_name, an_element, in_parentheses, an_operand_of, what_is_pointed_to, an_address, an_address_of_element, a_cast, two_operands, a_choice, a_call, a_call_of_address, SpellsExpr, outermost}
-use Rattle.cas_read.specs.Frames.{Frame, Before, Right, InParens, InBrackets, Then, Otherwise, Prefix, Operates, Points, Casts, Control, WantExpr, HaveExpr, Given, WantOutermost, Named, Taking, Opened, CastKind, WantKind, HaveKind}
-use Rattle.cas_read.specs.Machine.{binds, infix_of, named, bracketed, prefixed, operated, after_operand_name, have, down, operand, shift, run, go, Verdict}
+use Rattle.cas_read.specs.Frames.{Frame, Before, Right, InParens, InBrackets, Then, Otherwise, Prefix, Operates, Points, Casts, WantExpr, HaveExpr, Given, WantOutermost, Named, Opened, CastKind, WantKind, HaveKind}
+use Rattle.cas_read.specs.Machine.{binds, infix_of, named, bracketed, prefixed, after_operand_name, have, down, operand, shift, run, go, Verdict}
 use Rattle.cas_read.proofs.CompleteLimits.{counts, leaves}
 use Rattle.cas_read.proofs.CompleteKinds.{next_of_kind, shorter_kind, begins_with_kind, reads_kind_in}
 

@@ -1,25 +1,23 @@
 -- What is spelled as items is read as them, and as nothing else.
-use Rattle.std.proofs.Common.{◌≡◌, ℕ, ◌<◌, Bool, true, false, List, [], ◌∷◌, ◌++◌, map, Option, Some, None, Ok, refl, ap, sym, ◌∙◌, append_assoc, append-nil}
+use Rattle.std.proofs.Common.{◌≡◌, ◌<◌, Bool, true, List, [], ◌∷◌, ◌++◌, map, Some, Ok, refl, ap, sym, ◌∙◌, append_assoc, append-nil}
 use Rattle.cas_base.specs.declared.decl.Form.{Form}
 use Rattle.cas_base.specs.declared.decl.Form.TheVariants as form
-use Rattle.cas_base.specs.declared.kind.Kind.{Kind}
 use Rattle.cas_base.specs.declared.kind.Ty.{Ty}
 use Rattle.cas_base.specs.declared.place.Place.{Place}
 use Rattle.cas_lex.specs.declared.token.Token.{Token}
-use Rattle.cas_lex.specs.declared.token.Word.TheVariants as w
 use Rattle.cas_lex.specs.declared.token.Sign.{Sign}
 use Rattle.cas_lex.specs.declared.token.Sign.TheVariants as sg
 use Rattle.cas_syntax.specs.declared.tree.Ident.{Ident}
-use Rattle.cas_syntax.specs.Tree.{StmtList, no_more, ItemTree, global}
+use Rattle.cas_syntax.specs.Tree.{no_more, ItemTree, global}
 use Rattle.cas_syntax.specs.Limits.{Limits, IsLeftOut}
-use Rattle.cas_syntax.specs.Tokens.{word, sign, ident}
+use Rattle.cas_syntax.specs.Tokens.{sign}
 use Rattle.cas_syntax.specs.Items.{declared, here, FollowsGlobal, its_length, its_value, its_end, SpellsItem, a_lock, a_shared, a_table, a_prototype, a_function, a_plain_global, SpellsItems, no_item, an_item}
-use Rattle.cas_read.specs.Frames.{Guarded, Constant, Opening, Frame, CellsKind, BodyOf, FunctionName, AfterHead, InList, InItems}
-use Rattle.cas_read.specs.Machine.{all_named, closing_of_function, run, Verdict}
+use Rattle.cas_read.specs.Frames.{Guarded, Constant, Frame, CellsKind, BodyOf, FunctionName, AfterHead, InList, InItems}
+use Rattle.cas_read.specs.Machine.{all_named, closing_of_function, run}
 use Rattle.cas_read.proofs.CompleteLimits.{leaves}
 use Rattle.cas_read.proofs.CompleteKinds.{reads_kind}
 use Rattle.cas_read.proofs.CompleteCells.{reads_cells, cells_no_kind}
-use Rattle.cas_read.proofs.CompleteReturns.{begun_item, reads_extern, reads_return, return_item}
+use Rattle.cas_read.proofs.CompleteReturns.{reads_extern, reads_return, return_item}
 use Rattle.cas_read.proofs.CompleteHeads.{reads_head, head_item}
 use Rattle.cas_read.proofs.CompleteStarts.{adds_all}
 use Rattle.cas_read.proofs.CompleteStmts.{reads_stmts}

@@ -1,5 +1,5 @@
 -- What the limits of a derivation say of a single token.
-use Rattle.std.proofs.Common.{◌≡◌, ℕ, ◌+◌, ◌≤◌, ◌<◌, ◌⊎◌, ◌||◌, max, true, false, nat_eq, nat_lt, List, [], ◌∷◌, length, Option, Some, arith, refl, inl, inr}
+use Rattle.std.proofs.Common.{◌≡◌, ℕ, ◌+◌, ◌≤◌, ◌||◌, max, true, nat_lt, List, ◌∷◌, length, arith, inl, inr}
 use Rattle.std.proofs.lemmas.Bool.Decides.{nat_tests}
 use Rattle.cas_lex.specs.declared.token.Token.{Token}
 use Rattle.cas_syntax.specs.Limits.{Limits, AllowsDepth, IsLeftOut}

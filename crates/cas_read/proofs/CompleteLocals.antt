@@ -1,21 +1,19 @@
 -- What is spelled as a local is read as it.
-use Rattle.std.proofs.Common.{◌≡◌, ℕ, ◌<◌, Bool, true, false, nat_lt, List, [], ◌∷◌, length, arith, refl, ap, ◌∙◌}
+use Rattle.std.proofs.Common.{◌≡◌, ℕ, ◌<◌, Bool, true, false, nat_lt, List, [], ◌∷◌, length, refl, ap, ◌∙◌}
 use Rattle.cas_base.specs.declared.kind.Kind.{Kind}
 use Rattle.cas_base.specs.declared.kind.Ty.{Ty}
 use Rattle.cas_base.specs.declared.kind.Ty.TheVariants.{Int, Ptr, Array}
-use Rattle.cas_base.specs.declared.place.Place.{Place}
 use Rattle.cas_lex.specs.declared.token.Token.{Token}
 use Rattle.cas_lex.specs.declared.token.TokenKind.{TokenKind}
 use Rattle.cas_lex.specs.declared.token.TokenKind.TheVariants as k
 use Rattle.cas_lex.specs.declared.token.Sign.{Sign}
 use Rattle.cas_lex.specs.declared.token.Sign.TheVariants as sg
 use Rattle.cas_syntax.specs.declared.tree.Ident.{Ident}
-use Rattle.cas_syntax.specs.Tree.{ExprTree, InitTree, nothing, value, called, StmtTree, declare}
+use Rattle.cas_syntax.specs.Tree.{ExprTree, InitTree, nothing, value, StmtTree, declare}
 use Rattle.cas_syntax.specs.Limits.{Limits}
-use Rattle.cas_syntax.specs.Tokens.{sign, ident}
 use Rattle.cas_syntax.specs.Expressions.{SpellsExpr}
 use Rattle.cas_syntax.specs.Statements.{SpellsInit, no_value, a_value, a_result, SpellsLocal, variable, pointer, array, pointer_to_pointer, pointers, arrays, array_values}
-use Rattle.cas_read.specs.Frames.{Begun, Keeps, Frame, ValueOf, WantOutermost, Given, WantValue, WantLocal, LocalName, LocalPointer, LocalArray, HaveLocal}
+use Rattle.cas_read.specs.Frames.{Begun, Keeps, Frame, ValueOf, WantOutermost, Given, WantLocal, LocalName, LocalPointer, LocalArray, HaveLocal}
 use Rattle.cas_read.specs.Machine.{is_at, local_name, local_pointer, local_array, local_ended, run, go}
 use Rattle.cas_read.proofs.CompleteLimits.{leaves}
 use Rattle.cas_read.proofs.CompleteKinds.{next_of_kind}

@@ -1,10 +1,8 @@
 -- What is spelled as the parameters of a function is read as them.
-use Rattle.std.proofs.Common.{◌≡◌, ℕ, Bool, true, false, nat_lt, List, [], ◌∷◌, ◌++◌, length, Option, Some, None, Ok, arith, refl, ap, ◌∙◌, append_assoc}
-use Rattle.cas_base.specs.declared.decl.Form.{Form}
-use Rattle.cas_base.specs.declared.decl.Form.TheVariants as form
+use Rattle.std.proofs.Common.{◌≡◌, Bool, true, false, nat_lt, List, [], ◌∷◌, ◌++◌, length, Option, Some, None, refl, ap, ◌∙◌, append_assoc}
 use Rattle.cas_base.specs.declared.kind.Kind.{Kind}
 use Rattle.cas_base.specs.declared.kind.Ty.{Ty}
-use Rattle.cas_base.specs.declared.kind.Ty.TheVariants.{Void, Int, Ptr, Array}
+use Rattle.cas_base.specs.declared.kind.Ty.TheVariants.{Int, Ptr}
 use Rattle.cas_base.specs.declared.place.Place.{Place}
 use Rattle.cas_lex.specs.declared.token.Token.{Token}
 use Rattle.cas_lex.specs.declared.token.TokenKind.{TokenKind}
@@ -16,12 +14,11 @@ use Rattle.cas_lex.specs.declared.token.Sign.TheVariants as sg
 use Rattle.cas_syntax.specs.declared.tree.Ident.{Ident}
 use Rattle.cas_syntax.specs.Tree.{ItemTree}
 use Rattle.cas_syntax.specs.Limits.{Limits}
-use Rattle.cas_syntax.specs.Tokens.{word, sign, ident}
-use Rattle.cas_syntax.specs.Items.{SpellsExtern, here, elsewhere, SpellsType, integer, pointer, pointer_to_pointer, SpellsReturn, no_value, a_value, SpellsParameter, unnamed, named, unnamed_array, named_array, SpellsParameterList, last_parameter, one_parameter, SpellsParameters, nothing, void, parameters, SpellsNames, last_name, one_name, SpellsHolds, none_held, held, names_alone, places_alone, SpellsHead, head}
-use Rattle.cas_read.specs.Frames.{Opening, Frame, ReturnKind, ParameterKind, WantKind, HaveKind, InItems, AfterExtern, WantFunction, FunctionName, WantParameters, WantParameter, ParameterStar, ParameterType, ParameterName, HaveParameter, AfterParameters, WantHeld, HaveHeld, AfterHead}
-use Rattle.cas_read.specs.Machine.{is_at, begins_kind, item_started, in_items, want_kind, want_parameters, parameter_kind, parameter_star, parameter_typed, parameter_ended, after_parameters, after_head, run, go, Verdict}
+use Rattle.cas_syntax.specs.Tokens.{sign}
+use Rattle.cas_syntax.specs.Items.{SpellsType, integer, pointer, pointer_to_pointer, SpellsParameter, unnamed, named, unnamed_array, named_array, SpellsParameterList, last_parameter, one_parameter, SpellsParameters, nothing, void, parameters}
+use Rattle.cas_read.specs.Frames.{Opening, Frame, ParameterKind, WantKind, HaveKind, WantParameters, WantParameter, ParameterStar, ParameterType, ParameterName, HaveParameter, AfterParameters}
+use Rattle.cas_read.specs.Machine.{is_at, begins_kind, want_kind, want_parameters, parameter_kind, parameter_star, parameter_typed, parameter_ended, run, go}
 use Rattle.cas_read.proofs.CompleteKinds.{next_of_kind, begins_with_kind, reads_kind}
-use Rattle.cas_read.proofs.CompleteExprs.{is_ending, next_ends}
 use Rattle.cas_read.proofs.CompleteLimits.{leaves}
 
 -- what may follow a type

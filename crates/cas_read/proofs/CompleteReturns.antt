@@ -1,27 +1,19 @@
 -- How items begin, and what functions return.
-use Rattle.std.proofs.Common.{◌≡◌, ℕ, Bool, true, false, nat_lt, List, [], ◌∷◌, ◌++◌, length, Option, Some, None, Ok, arith, refl, ap, ◌∙◌, append_assoc}
-use Rattle.cas_base.specs.declared.decl.Form.{Form}
-use Rattle.cas_base.specs.declared.decl.Form.TheVariants as form
-use Rattle.cas_base.specs.declared.kind.Kind.{Kind}
+use Rattle.std.proofs.Common.{◌≡◌, Bool, true, false, nat_lt, List, [], ◌∷◌, length, None, refl, ap, ◌∙◌}
 use Rattle.cas_base.specs.declared.kind.Ty.{Ty}
-use Rattle.cas_base.specs.declared.kind.Ty.TheVariants.{Void, Int, Ptr, Array}
-use Rattle.cas_base.specs.declared.place.Place.{Place}
 use Rattle.cas_lex.specs.declared.token.Token.{Token}
 use Rattle.cas_lex.specs.declared.token.TokenKind.{TokenKind}
 use Rattle.cas_lex.specs.declared.token.TokenKind.TheVariants as k
 use Rattle.cas_lex.specs.declared.token.Word.{Word}
 use Rattle.cas_lex.specs.declared.token.Word.TheVariants as w
-use Rattle.cas_lex.specs.declared.token.Sign.{Sign}
-use Rattle.cas_lex.specs.declared.token.Sign.TheVariants as sg
 use Rattle.cas_syntax.specs.declared.tree.Ident.{Ident}
 use Rattle.cas_syntax.specs.Tree.{ItemTree}
 use Rattle.cas_syntax.specs.Limits.{Limits}
-use Rattle.cas_syntax.specs.Tokens.{word, sign, ident}
-use Rattle.cas_syntax.specs.Items.{SpellsExtern, here, elsewhere, SpellsType, integer, pointer, pointer_to_pointer, SpellsReturn, no_value, a_value, SpellsParameter, unnamed, named, unnamed_array, named_array, SpellsParameterList, last_parameter, one_parameter, SpellsParameters, nothing, void, parameters, SpellsNames, last_name, one_name, SpellsHolds, none_held, held, names_alone, places_alone, SpellsHead, head}
-use Rattle.cas_read.specs.Frames.{Opening, Frame, ReturnKind, ParameterKind, WantKind, HaveKind, InItems, AfterExtern, WantFunction, FunctionName, WantParameters, WantParameter, ParameterStar, ParameterType, ParameterName, HaveParameter, AfterParameters, WantHeld, HaveHeld, AfterHead}
-use Rattle.cas_read.specs.Machine.{is_at, begins_kind, item_started, in_items, want_kind, want_parameters, parameter_kind, parameter_star, parameter_typed, parameter_ended, after_parameters, after_head, run, go, Verdict}
+use Rattle.cas_syntax.specs.Tokens.{ident}
+use Rattle.cas_syntax.specs.Items.{SpellsExtern, here, elsewhere, SpellsType, integer, pointer, pointer_to_pointer, SpellsReturn, no_value, a_value}
+use Rattle.cas_read.specs.Frames.{Frame, ReturnKind, WantKind, InItems, AfterExtern, FunctionName}
+use Rattle.cas_read.specs.Machine.{is_at, begins_kind, item_started, in_items, want_kind, run, go, Verdict}
 use Rattle.cas_read.proofs.CompleteKinds.{next_of_kind, begins_with_kind, reads_kind}
-use Rattle.cas_read.proofs.CompleteExprs.{is_ending, next_ends}
 use Rattle.cas_read.proofs.CompleteLimits.{leaves}
 
 -- what an item begins with, but for `extern`

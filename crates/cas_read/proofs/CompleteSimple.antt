@@ -1,9 +1,6 @@
 -- What is spelled as an assignment, a call or a local is read as it.
-use Rattle.std.proofs.Common.{◌≡◌, ℕ, ◌+◌, ◌≤◌, ◌<◌, ◌||◌, ◌&&◌, max, Bool, true, false, nat_lt, List, [], ◌∷◌, ◌++◌, length, Option, Some, None, Ok, arith, refl, ap, sym, ◌∙◌, append_assoc}
+use Rattle.std.proofs.Common.{◌≡◌, ℕ, ◌<◌, ◌&&◌, Bool, true, false, nat_lt, List, [], ◌∷◌, ◌++◌, length, Option, Some, None, Ok, arith, refl, ap, ◌∙◌, append_assoc}
 use Rattle.std.proofs.lemmas.Bool.Decides.{nat_tests}
-use Rattle.cas_base.specs.declared.kind.Kind.{Kind}
-use Rattle.cas_base.specs.declared.kind.Ty.{Ty}
-use Rattle.cas_base.specs.declared.kind.Ty.TheVariants.{Int, Ptr, Array}
 use Rattle.cas_base.specs.declared.place.Place.{Place}
 use Rattle.cas_lex.specs.declared.token.Token.{Token}
 use Rattle.cas_lex.specs.declared.token.TokenKind.{TokenKind}
@@ -14,15 +11,15 @@ use Rattle.cas_syntax.specs.declared.tree.Ident.{Ident}
 use Rattle.cas_syntax.specs.declared.tree.UnaryOperator.{UnaryOperator}
 use Rattle.cas_syntax.specs.declared.tree.UnaryOperator.TheVariants as u
 use Rattle.cas_syntax.specs.declared.tree.BinaryOperator.{BinaryOperator}
-use Rattle.cas_syntax.specs.declared.tree.BinaryOperator.TheVariants.{Add, Sub, Mul, Div, Mod, Shl, Shr, BitAnd, BitOr, BitXor, Eq, Ne, Lt, Le, Gt, Ge}
-use Rattle.cas_syntax.specs.Tree.{ExprTree, name, TargetTree, to_name, to_index, to_deref, InitTree, nothing, value, called, StmtTree, skip, declare, assign, call}
+use Rattle.cas_syntax.specs.declared.tree.BinaryOperator.TheVariants.{Add, Sub, Mul, Div, Mod, Shl, Shr, BitAnd, BitOr, BitXor}
+use Rattle.cas_syntax.specs.Tree.{ExprTree, TargetTree, to_name, to_index, to_deref, StmtTree, assign}
 use Rattle.cas_syntax.specs.Operators.{assigning_sign, unary_sign}
-use Rattle.cas_syntax.specs.Limits.{Limits, IsLeftOut}
-use Rattle.cas_syntax.specs.Tokens.{sign, ident, number, begins_call, is_opening_paren}
+use Rattle.cas_syntax.specs.Limits.{Limits}
+use Rattle.cas_syntax.specs.Tokens.{sign, ident, begins_call, is_opening_paren}
 use Rattle.cas_syntax.specs.Expressions.{Spells, an_operand_of, two_operands, a_choice, SpellsExpr, outermost, SpellsExprs, last_of, one_of, SpellsArguments, no_arguments, arguments}
-use Rattle.cas_syntax.specs.Statements.{SpellsTarget, a_variable, an_element, behind_name, behind_parentheses, MayBeValue, SpellsSimple, sets, changes, increments, decrements, increments_first, decrements_first, keeps_result, calls, SpellsInit, no_value, a_value, a_result, SpellsLocal, variable, pointer, array, pointer_to_pointer, pointers, arrays, array_values}
-use Rattle.cas_read.specs.Frames.{Receiver, Assigned, Begun, Caller, Alone, Keeps, Use, Written, Stepped, Frame, ValueOf, AssignedTo, Argument, TargetIndex, TargetBehind, Control, WantOutermost, Given, WantValue, MaybeCall, Named, WantArguments, WantTarget, AfterName, AfterStar, SteppedName, AfterTarget, HaveSimple, WantLocal, LocalName, LocalStar, LocalPointer, LocalLength, LocalArray, HaveLocal}
-use Rattle.cas_read.specs.Machine.{assigning, stepped, resulted, limited, is_at, value_started, maybe_call, after_operand_name, arguments_started, outermost as begins_outermost, after_name, after_target, changed_by, stepped_name, simple_started, local_name, local_pointer, local_array, local_ended, ended, shift, run, go, Verdict}
+use Rattle.cas_syntax.specs.Statements.{SpellsTarget, a_variable, an_element, behind_name, behind_parentheses, MayBeValue, SpellsSimple, sets, changes, increments, decrements, increments_first, decrements_first, keeps_result, calls}
+use Rattle.cas_read.specs.Frames.{Receiver, Assigned, Caller, Alone, Keeps, Written, Stepped, Frame, ValueOf, AssignedTo, Argument, TargetIndex, TargetBehind, Control, WantOutermost, Given, WantValue, MaybeCall, Named, WantArguments, WantTarget, AfterName, SteppedName, AfterTarget, HaveSimple}
+use Rattle.cas_read.specs.Machine.{assigning, stepped, resulted, limited, is_at, maybe_call, after_operand_name, arguments_started, outermost as begins_outermost, after_name, after_target, changed_by, stepped_name, simple_started, ended, run, go, Verdict}
 use Rattle.cas_read.proofs.CompleteLimits.{leaves}
 use Rattle.cas_read.proofs.CompleteExprs.{is_ending, next_ends, reads_outermost}
 

@@ -1,27 +1,21 @@
 -- What is spelled as statements is read as them.
-use Rattle.std.proofs.Common.{◌≡◌, ℕ, ◌+◌, ◌<◌, ◌||◌, Bool, true, false, nat_lt, List, [], ◌∷◌, length, Option, Some, None, arith, refl, ap, sym, ◌∙◌}
+use Rattle.std.proofs.Common.{◌≡◌, ℕ, ◌+◌, ◌<◌, Bool, true, false, List, [], ◌∷◌, Option, Some, None, refl, ap, ◌∙◌}
 use Rattle.cas_base.specs.declared.kind.Kind.{Kind}
 use Rattle.cas_base.specs.declared.place.Place.{Place}
 use Rattle.cas_lex.specs.declared.token.Token.{Token}
-use Rattle.cas_lex.specs.declared.token.TokenKind.{TokenKind}
-use Rattle.cas_lex.specs.declared.token.TokenKind.TheVariants as k
-use Rattle.cas_lex.specs.declared.token.Word.{Word}
 use Rattle.cas_lex.specs.declared.token.Word.TheVariants as w
-use Rattle.cas_lex.specs.declared.token.Sign.{Sign}
 use Rattle.cas_lex.specs.declared.token.Sign.TheVariants as sg
-use Rattle.cas_syntax.specs.Tree.{ExprTree, StmtTree, block, if_, while_, do_, for_, return_, print, StmtOption, absent, present, StmtList, no_more, one_more}
-use Rattle.cas_syntax.specs.Limits.{Limits, AllowsDepth}
+use Rattle.cas_syntax.specs.Tree.{ExprTree, StmtTree, block, if_, while_, do_, for_, return_, print, StmtOption, absent, present, StmtList, no_more}
+use Rattle.cas_syntax.specs.Limits.{Limits}
 use Rattle.cas_syntax.specs.Tokens.{word, sign, ident}
-use Rattle.cas_syntax.specs.Expressions.{SpellsExpr, SpellsKind}
-use Rattle.cas_syntax.specs.Statements.{SpellsTarget, a_variable, SpellsSimple, sets, changes, increments, decrements, SpellsLocals, last_local, one_local, SpellsFirst, nothing_first, simple_first, local_first, SpellsAfter, nothing_after, simple_after, SpellsOptional, no_expr, an_expr, dangles, SpellsStmt, skips, blocks, simple, ifs, if_elses, whiles, dos, fors, breaks, continues, returns, locks, unlocks, prints, SpellsStmts, ended, a_stmt, locals}
-use Rattle.cas_read.specs.Frames.{Frame, IfCondition, WhileCondition, DoCondition, ForCondition, ReturnValue, PrintValue, SimpleStmt, FirstSimple, AfterSimple, Locals, FirstLocal, LocalsKind, FirstKind, IfThen, IfElse, WhileBody, DoBody, ForBody, NextStmt, BlockOf, WantOutermost, WantKind, HaveKind, WantLocal, WantStmt, HaveStmt, InList, ForFirst, ForSecond, ForThird, AfterReturn}
-use Rattle.cas_read.specs.Machine.{begins_kind, is_at, is_else, snoc, started, simple_started, nested, outermost as begins_outermost, for_first, for_second, for_third, after_return, in_list, run, go, shift}
-use Rattle.cas_read.proofs.CompleteLimits.{allows}
+use Rattle.cas_syntax.specs.Statements.{SpellsLocals, last_local, one_local, SpellsFirst, nothing_first, simple_first, local_first, SpellsAfter, nothing_after, simple_after, SpellsOptional, no_expr, an_expr, dangles, SpellsStmt, skips, blocks, simple, ifs, if_elses, whiles, dos, fors, breaks, continues, returns, locks, unlocks, prints, SpellsStmts, ended, a_stmt, locals}
+use Rattle.cas_read.specs.Frames.{Frame, IfCondition, WhileCondition, DoCondition, ForCondition, ReturnValue, PrintValue, SimpleStmt, FirstSimple, AfterSimple, Locals, FirstLocal, LocalsKind, FirstKind, IfThen, IfElse, WhileBody, DoBody, ForBody, NextStmt, BlockOf, HaveKind, WantLocal, WantStmt, HaveStmt, InList, ForFirst, ForSecond, ForThird, AfterReturn}
+use Rattle.cas_read.specs.Machine.{snoc, run}
 use Rattle.cas_read.proofs.CompleteKinds.{next_of_kind, begins_with_kind, reads_kind}
-use Rattle.cas_read.proofs.CompleteExprs.{is_ending, next_ends, reads_outermost}
-use Rattle.cas_read.proofs.CompleteSimple.{expr_no_end, begun, reads_simple}
+use Rattle.cas_read.proofs.CompleteExprs.{reads_outermost}
+use Rattle.cas_read.proofs.CompleteSimple.{expr_no_end, reads_simple}
 use Rattle.cas_read.proofs.CompleteLocals.{local_no_kind, reads_local}
-use Rattle.cas_read.proofs.CompleteStarts.{simple_begins, stmt_begins, an_else, next_else, is_else-same, none_no_else, stmts_no_else, adds, adds_all, enters, enters_simple, begins_stmt, begins_locals, first_simple, first_kind, second_expr, third_simple, returned_expr}
+use Rattle.cas_read.proofs.CompleteStarts.{simple_begins, stmt_begins, next_else, is_else-same, stmts_no_else, adds, adds_all, enters, enters_simple, begins_stmt, begins_locals, first_simple, first_kind, second_expr, third_simple, returned_expr}
 
 -- no `else` that stands behind the statement belongs to an `if` in it
 abbrev pub Ends : StmtTree → List Token → Type 0
