@@ -292,10 +292,10 @@ module _ (limits : Limits) (whole behind : ℕ) (room : whole ≤ limits.tokens 
       ∙ pop_otherwise limits used' l c a b st r (omega arith)
   reads (a_call m x p r out) used used' l st count count' inside least below most stops ends =
       let same : used' ≡ used + 1 + 1 = omega arith in
-      rw (fits used (sign sg.OpenParen p ∷ r) (omega arith) (omega arith), leaves limits r out, same)
+      rw (fits used (sign sg.OpenParen p ∷ r) (omega arith) (omega arith), leaves limits r out, fits (used + 1) r (omega arith) inside, same)
   reads (a_call_of_address m x o p r out) used used' l st count count' inside least below most stops ends =
       let same : used' ≡ used + 1 + 1 + 1 = omega arith in
-      rw (fits used (ident x ∷ sign sg.OpenParen p ∷ r) (omega arith) (omega arith), fits (used + 1) (sign sg.OpenParen p ∷ r) (omega arith) (omega arith), leaves limits r out, same)
+      rw (fits used (ident x ∷ sign sg.OpenParen p ∷ r) (omega arith) (omega arith), fits (used + 1) (sign sg.OpenParen p ∷ r) (omega arith) (omega arith), leaves limits r out, fits (used + 1 + 1) r (omega arith) inside, same)
 
 -- where an expression ends: the next token is `;`, `,`, `)`, `]`
 
