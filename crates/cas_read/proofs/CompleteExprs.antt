@@ -6,7 +6,6 @@ use Rattle.cas_base.specs.declared.place.Place.{Place}
 use Rattle.cas_lex.specs.declared.token.Token.{Token}
 use Rattle.cas_lex.specs.declared.token.TokenKind.{TokenKind}
 use Rattle.cas_lex.specs.declared.token.TokenKind.TheVariants as k
-use Rattle.cas_lex.specs.declared.token.Sign.{Sign}
 use Rattle.cas_lex.specs.declared.token.Sign.TheVariants as sg
 use Rattle.cas_syntax.specs.declared.tree.Ident.{Ident}
 use Rattle.cas_syntax.specs.declared.tree.UnaryOperator.{UnaryOperator}
@@ -84,11 +83,7 @@ infix_of_sign (always_both op) = by_operator op
     by_operator _ = refl
 
 pub binds_at_most : (kind : TokenKind) → binds kind ≤ 11
-binds_at_most (k.Sign s) = by_sign s
-  where
-    by_sign : (s : Sign) → binds (k.Sign s) ≤ 11
-    by_sign sg.Plus = omega arith
-    by_sign _ = omega arith
+binds_at_most (k.Sign sg.Plus) = omega arith
 binds_at_most _ = omega arith
 
 pub next_at_most : (ts : List Token) → next_binds ts ≤ 11
@@ -119,13 +114,8 @@ module _ (limits : Limits) where
     where
       by_kind : (near leaves : Bool) (kind : TokenKind) → is_opening kind ≡ false
         → after_operand_name limits near leaves used l taken x st kind ≡ have limits near leaves used l (named taken x) st kind
-      by_kind near leaves (k.Sign s) h = by_sign s h
-        where
-          by_sign : (s : Sign) → is_opening (k.Sign s) ≡ false
-            → after_operand_name limits near leaves used l taken x st (k.Sign s) ≡ have limits near leaves used l (named taken x) st (k.Sign s)
-          by_sign sg.OpenBracket h = cc
-          by_sign sg.OpenParen h = cc
-          by_sign _ h = refl
+      by_kind near leaves (k.Sign sg.OpenBracket) h = cc
+      by_kind near leaves (k.Sign sg.OpenParen) h = cc
       by_kind near leaves _ h = refl
 
   -- where the next token doesn't bind so tightly, an expression goes to what waits for it
@@ -311,23 +301,15 @@ next_ends [] = false
 next_ends (t ∷ ts) = is_ending t.kind
 
 ending_binds : (kind : TokenKind) → is_ending kind ≡ true → binds kind ≡ 0
-ending_binds (k.Sign s) h = by_sign s h
-  where
-    by_sign : (s : Sign) → is_ending (k.Sign s) ≡ true → binds (k.Sign s) ≡ 0
-    by_sign sg.Semicolon h = refl
-    by_sign sg.Comma h = refl
-    by_sign sg.CloseParen h = refl
-    by_sign sg.CloseBracket h = refl
-    by_sign _ h = cc
+ending_binds (k.Sign sg.Semicolon) h = refl
+ending_binds (k.Sign sg.Comma) h = refl
+ending_binds (k.Sign sg.CloseParen) h = refl
+ending_binds (k.Sign sg.CloseBracket) h = refl
 ending_binds _ h = cc
 
 ending_opens : (kind : TokenKind) → is_ending kind ≡ true → is_opening kind ≡ false
-ending_opens (k.Sign s) h = by_sign s h
-  where
-    by_sign : (s : Sign) → is_ending (k.Sign s) ≡ true → is_opening (k.Sign s) ≡ false
-    by_sign sg.OpenParen h = cc
-    by_sign sg.OpenBracket h = cc
-    by_sign _ h = refl
+ending_opens (k.Sign sg.OpenParen) h = cc
+ending_opens (k.Sign sg.OpenBracket) h = cc
 ending_opens _ h = refl
 
 pub ends-binds : (r : List Token) → next_ends r ≡ true → next_binds r ≡ 0

@@ -7,7 +7,6 @@ use Rattle.cas_base.specs.declared.place.Place.{Place}
 use Rattle.cas_lex.specs.declared.token.Token.{Token}
 use Rattle.cas_lex.specs.declared.token.TokenKind.{TokenKind}
 use Rattle.cas_lex.specs.declared.token.TokenKind.TheVariants as k
-use Rattle.cas_lex.specs.declared.token.Word.{Word}
 use Rattle.cas_lex.specs.declared.token.Word.TheVariants as w
 use Rattle.cas_lex.specs.declared.token.Sign.TheVariants as sg
 use Rattle.cas_syntax.specs.declared.tree.Ident.{Ident}
@@ -39,12 +38,7 @@ module _ (limits : Limits) where
     where
       by_kind : (near leaves : Bool) (kind : TokenKind) → a_hold kind ≡ false
         → after_parameters limits near leaves o tys xs items st kind ≡ after_head limits near leaves o.name (form.Function o.ret tys []) o.defined xs [] items st kind
-      by_kind near leaves (k.Word one) h = by_word one h
-        where
-          by_word : (one : Word) → a_hold (k.Word one) ≡ false
-            → after_parameters limits near leaves o tys xs items st (k.Word one) ≡ after_head limits near leaves o.name (form.Function o.ret tys []) o.defined xs [] items st (k.Word one)
-          by_word w.Holds h = cc
-          by_word _ h = refl
+      by_kind near leaves (k.Word w.Holds) h = cc
       by_kind near leaves _ h = refl
 
   reads_names : {hs : List Ident} {q : Place} {s r : List Token} → SpellsNames hs s (sign sg.CloseParen q ∷ r)

@@ -55,14 +55,9 @@ module _ (limits : Limits) where
     where
       by_kind : (near leaves : Bool) (kind : TokenKind) → begins_kind kind ≡ false
         → after_signed limits near leaves c st t.place kind ≡ down_kind limits near leaves c I32 st t.place kind
-      by_kind near leaves (k.Word one) h = by_word one h
-        where
-          by_word : (one : Word) → begins_kind (k.Word one) ≡ false
-            → after_signed limits near leaves c st t.place (k.Word one) ≡ down_kind limits near leaves c I32 st t.place (k.Word one)
-          by_word w.Char h = cc
-          by_word w.Short h = cc
-          by_word w.Int h = cc
-          by_word _ h = refl
+      by_kind near leaves (k.Word w.Char) h = cc
+      by_kind near leaves (k.Word w.Short) h = cc
+      by_kind near leaves (k.Word w.Int) h = cc
       by_kind near leaves _ h = refl
 
   pub ends_unsigned : (c : Option ℕ) (st : List Frame) (r : List Token) → next_of_kind r ≡ false → run limits r (Unsigned c) st ≡ run limits r (HaveKind c U32) st
@@ -71,14 +66,9 @@ module _ (limits : Limits) where
     where
       by_kind : (near leaves : Bool) (kind : TokenKind) → begins_kind kind ≡ false
         → after_unsigned limits near leaves c st t.place kind ≡ down_kind limits near leaves c U32 st t.place kind
-      by_kind near leaves (k.Word one) h = by_word one h
-        where
-          by_word : (one : Word) → begins_kind (k.Word one) ≡ false
-            → after_unsigned limits near leaves c st t.place (k.Word one) ≡ down_kind limits near leaves c U32 st t.place (k.Word one)
-          by_word w.Char h = cc
-          by_word w.Short h = cc
-          by_word w.Int h = cc
-          by_word _ h = refl
+      by_kind near leaves (k.Word w.Char) h = cc
+      by_kind near leaves (k.Word w.Short) h = cc
+      by_kind near leaves (k.Word w.Int) h = cc
       by_kind near leaves _ h = refl
 
   pub ends_int : (c : Option ℕ) (kd : Kind) (st : List Frame) (r : List Token) → next_of_kind r ≡ false → run limits r (MayEndInt c kd) st ≡ run limits r (HaveKind c kd) st
@@ -87,12 +77,7 @@ module _ (limits : Limits) where
     where
       by_kind : (near leaves : Bool) (kind : TokenKind) → begins_kind kind ≡ false
         → may_end_int limits near leaves c kd st t.place kind ≡ down_kind limits near leaves c kd st t.place kind
-      by_kind near leaves (k.Word one) h = by_word one h
-        where
-          by_word : (one : Word) → begins_kind (k.Word one) ≡ false
-            → may_end_int limits near leaves c kd st t.place (k.Word one) ≡ down_kind limits near leaves c kd st t.place (k.Word one)
-          by_word w.Int h = cc
-          by_word _ h = refl
+      by_kind near leaves (k.Word w.Int) h = cc
       by_kind near leaves _ h = refl
 
   -- kinds outside of expressions, whose tokens aren't counted

@@ -6,7 +6,6 @@ use Rattle.cas_base.specs.declared.kind.Ty.TheVariants.{Int, Ptr, Array}
 use Rattle.cas_lex.specs.declared.token.Token.{Token}
 use Rattle.cas_lex.specs.declared.token.TokenKind.{TokenKind}
 use Rattle.cas_lex.specs.declared.token.TokenKind.TheVariants as k
-use Rattle.cas_lex.specs.declared.token.Sign.{Sign}
 use Rattle.cas_lex.specs.declared.token.Sign.TheVariants as sg
 use Rattle.cas_syntax.specs.declared.tree.Ident.{Ident}
 use Rattle.cas_syntax.specs.Tree.{ExprTree, InitTree, nothing, value, StmtTree, declare}
@@ -30,13 +29,8 @@ module _ (limits : Limits) where
     where
       by_kind : (near leaves : Bool) (kind : TokenKind) → names kind ≡ false
         → local_name limits near leaves kd x st kind ≡ local_ended (declare x.place (Int kd) x nothing) st kind
-      by_kind near leaves (k.Sign s) h = by_sign s h
-        where
-          by_sign : (s : Sign) → names (k.Sign s) ≡ false
-            → local_name limits near leaves kd x st (k.Sign s) ≡ local_ended (declare x.place (Int kd) x nothing) st (k.Sign s)
-          by_sign sg.OpenBracket h = cc
-          by_sign sg.Equal h = cc
-          by_sign _ h = refl
+      by_kind near leaves (k.Sign sg.OpenBracket) h = cc
+      by_kind near leaves (k.Sign sg.Equal) h = cc
       by_kind near leaves _ h = refl
 
   is_pointer : (kd : Kind) (x : Ident) (st : List Frame) (r : List Token) → next_names r ≡ false
@@ -46,13 +40,8 @@ module _ (limits : Limits) where
     where
       by_kind : (near leaves : Bool) (kind : TokenKind) → names kind ≡ false
         → local_pointer limits near leaves kd x st kind ≡ local_ended (declare x.place (Ptr kd) x nothing) st kind
-      by_kind near leaves (k.Sign s) h = by_sign s h
-        where
-          by_sign : (s : Sign) → names (k.Sign s) ≡ false
-            → local_pointer limits near leaves kd x st (k.Sign s) ≡ local_ended (declare x.place (Ptr kd) x nothing) st (k.Sign s)
-          by_sign sg.OpenBracket h = cc
-          by_sign sg.Equal h = cc
-          by_sign _ h = refl
+      by_kind near leaves (k.Sign sg.OpenBracket) h = cc
+      by_kind near leaves (k.Sign sg.Equal) h = cc
       by_kind near leaves _ h = refl
 
   is_array : (kd : Kind) (x : Ident) (n : ℕ) (st : List Frame) (r : List Token) → next_names r ≡ false
@@ -62,13 +51,8 @@ module _ (limits : Limits) where
     where
       by_kind : (near leaves : Bool) (kind : TokenKind) → names kind ≡ false
         → local_array limits near leaves kd x n st kind ≡ local_ended (declare x.place (Array kd n) x nothing) st kind
-      by_kind near leaves (k.Sign s) h = by_sign s h
-        where
-          by_sign : (s : Sign) → names (k.Sign s) ≡ false
-            → local_array limits near leaves kd x n st (k.Sign s) ≡ local_ended (declare x.place (Array kd n) x nothing) st (k.Sign s)
-          by_sign sg.OpenBracket h = cc
-          by_sign sg.Equal h = cc
-          by_sign _ h = refl
+      by_kind near leaves (k.Sign sg.OpenBracket) h = cc
+      by_kind near leaves (k.Sign sg.Equal) h = cc
       by_kind near leaves _ h = refl
 
   begins_with : (ty : Ty) (x : Ident) (a : ExprTree) (s r : List Token) → SpellsExpr limits a s r → (st : List Frame) → next_ends r ≡ true

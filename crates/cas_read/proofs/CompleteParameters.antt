@@ -7,9 +7,7 @@ use Rattle.cas_base.specs.declared.place.Place.{Place}
 use Rattle.cas_lex.specs.declared.token.Token.{Token}
 use Rattle.cas_lex.specs.declared.token.TokenKind.{TokenKind}
 use Rattle.cas_lex.specs.declared.token.TokenKind.TheVariants as k
-use Rattle.cas_lex.specs.declared.token.Word.{Word}
 use Rattle.cas_lex.specs.declared.token.Word.TheVariants as w
-use Rattle.cas_lex.specs.declared.token.Sign.{Sign}
 use Rattle.cas_lex.specs.declared.token.Sign.TheVariants as sg
 use Rattle.cas_syntax.specs.declared.tree.Ident.{Ident}
 use Rattle.cas_syntax.specs.Tree.{ItemTree}
@@ -44,12 +42,8 @@ next_parts [] = false
 next_parts (t ∷ ts) = follows_parameter t.kind
 
 parts_follow : (kind : TokenKind) → follows_parameter kind ≡ true → follows_type kind ≡ true
-parts_follow (k.Sign s) h = by_sign s h
-  where
-    by_sign : (s : Sign) → follows_parameter (k.Sign s) ≡ true → follows_type (k.Sign s) ≡ true
-    by_sign sg.Comma h = refl
-    by_sign sg.CloseParen h = refl
-    by_sign _ h = cc
+parts_follow (k.Sign sg.Comma) h = refl
+parts_follow (k.Sign sg.CloseParen) h = refl
 parts_follow _ h = cc
 
 next_parts_follow : (r : List Token) → next_parts r ≡ true → next_follows r ≡ true
@@ -85,12 +79,7 @@ module _ (limits : Limits) where
     where
       by_kind : (near leaves : Bool) (kind : TokenKind) → follows_type kind ≡ true
         → parameter_kind limits near leaves o tys xs kd items st t.place kind ≡ parameter_typed limits near leaves o tys xs (Int kd) items st t.place kind
-      by_kind near leaves (k.Sign s) h = by_sign s h
-        where
-          by_sign : (s : Sign) → follows_type (k.Sign s) ≡ true
-            → parameter_kind limits near leaves o tys xs kd items st t.place (k.Sign s) ≡ parameter_typed limits near leaves o tys xs (Int kd) items st t.place (k.Sign s)
-          by_sign sg.Star h = cc
-          by_sign _ h = refl
+      by_kind near leaves (k.Sign sg.Star) h = cc
       by_kind near leaves _ h = refl
 
   is_pointer : (o : Opening) (tys : List Ty) (xs : List (Option Ident)) (kd : Kind) (items : List ItemTree) (st : List Frame) (r : List Token) → next_follows r ≡ true
@@ -100,12 +89,7 @@ module _ (limits : Limits) where
     where
       by_kind : (near leaves : Bool) (kind : TokenKind) → follows_type kind ≡ true
         → parameter_star limits near leaves o tys xs kd items st t.place kind ≡ parameter_typed limits near leaves o tys xs (Ptr kd) items st t.place kind
-      by_kind near leaves (k.Sign s) h = by_sign s h
-        where
-          by_sign : (s : Sign) → follows_type (k.Sign s) ≡ true
-            → parameter_star limits near leaves o tys xs kd items st t.place (k.Sign s) ≡ parameter_typed limits near leaves o tys xs (Ptr kd) items st t.place (k.Sign s)
-          by_sign sg.Star h = cc
-          by_sign _ h = refl
+      by_kind near leaves (k.Sign sg.Star) h = cc
       by_kind near leaves _ h = refl
 
   reads_type : {ty : Ty} {s r : List Token} → SpellsType limits ty s r → (o : Opening) (tys : List Ty) (xs : List (Option Ident)) (items : List ItemTree) (st : List Frame) → next_follows r ≡ true
@@ -167,12 +151,8 @@ module _ (limits : Limits) where
     where
       by_kind : (near leaves : Bool) (kind : TokenKind) → begins_kind kind ≡ true
         → want_parameters limits near leaves o items st kind ≡ want_kind limits near leaves None (ParameterKind o [] [] items ∷ st) kind
-      by_kind near leaves (k.Word one) h = by_word one h
-        where
-          by_word : (one : Word) → begins_kind (k.Word one) ≡ true
-            → want_parameters limits near leaves o items st (k.Word one) ≡ want_kind limits near leaves None (ParameterKind o [] [] items ∷ st) (k.Word one)
-          by_word w.Void h = cc
-          by_word _ h = refl
+      by_kind near leaves (k.Word w.Void) h = cc
+      by_kind near leaves (k.Word _) h = refl
       by_kind near leaves _ h = cc
 
   pub reads_parameters : {tys : List Ty} {xs : List (Option Ident)} {q : Place} {s r : List Token} → SpellsParameters limits tys xs s (sign sg.CloseParen q ∷ r) → (o : Opening) (items : List ItemTree) (st : List Frame)

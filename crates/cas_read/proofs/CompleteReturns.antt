@@ -4,7 +4,6 @@ use Rattle.cas_base.specs.declared.kind.Ty.{Ty}
 use Rattle.cas_lex.specs.declared.token.Token.{Token}
 use Rattle.cas_lex.specs.declared.token.TokenKind.{TokenKind}
 use Rattle.cas_lex.specs.declared.token.TokenKind.TheVariants as k
-use Rattle.cas_lex.specs.declared.token.Word.{Word}
 use Rattle.cas_lex.specs.declared.token.Word.TheVariants as w
 use Rattle.cas_syntax.specs.declared.tree.Ident.{Ident}
 use Rattle.cas_syntax.specs.Tree.{ItemTree}
@@ -29,14 +28,10 @@ next_item [] = false
 next_item (t ∷ ts) = begins_item t.kind
 
 kind_item : (kind : TokenKind) → begins_kind kind ≡ true → begins_item kind ≡ true
-kind_item (k.Word one) h = by_word one h
-  where
-    by_word : (one : Word) → begins_kind (k.Word one) ≡ true → begins_item (k.Word one) ≡ true
-    by_word w.Lock h = refl
-    by_word w.Shared h = refl
-    by_word w.Const h = refl
-    by_word w.Void h = refl
-    by_word _ h = h
+kind_item (k.Word w.Lock) h = refl
+kind_item (k.Word w.Shared) h = refl
+kind_item (k.Word w.Const) h = refl
+kind_item (k.Word w.Void) h = refl
 kind_item _ h = h
 
 next_kind_item : (s : List Token) → next_of_kind s ≡ true → next_item s ≡ true
@@ -70,12 +65,7 @@ module _ (limits : Limits) where
     where
       by_kind : (near leaves : Bool) (kind : TokenKind) → begins_item kind ≡ true
         → in_items limits near leaves items st kind ≡ item_started limits near leaves true items st kind
-      by_kind near leaves (k.Word one) h = by_word one h
-        where
-          by_word : (one : Word) → begins_item (k.Word one) ≡ true
-            → in_items limits near leaves items st (k.Word one) ≡ item_started limits near leaves true items st (k.Word one)
-          by_word w.Extern h = cc
-          by_word _ h = refl
+      by_kind near leaves (k.Word w.Extern) h = cc
       by_kind near leaves _ h = refl
 
   begins_return : (d : Bool) (items : List ItemTree) (st : List Frame) (s : List Token) → next_of_kind s ≡ true
@@ -85,15 +75,10 @@ module _ (limits : Limits) where
     where
       by_kind : (near leaves : Bool) (kind : TokenKind) → begins_kind kind ≡ true
         → item_started limits near leaves d items st kind ≡ want_kind limits near leaves None (ReturnKind d items ∷ st) kind
-      by_kind near leaves (k.Word one) h = by_word one h
-        where
-          by_word : (one : Word) → begins_kind (k.Word one) ≡ true
-            → item_started limits near leaves d items st (k.Word one) ≡ want_kind limits near leaves None (ReturnKind d items ∷ st) (k.Word one)
-          by_word w.Lock h = cc
-          by_word w.Shared h = cc
-          by_word w.Const h = cc
-          by_word w.Void h = cc
-          by_word _ h = refl
+      by_kind near leaves (k.Word w.Lock) h = cc
+      by_kind near leaves (k.Word w.Shared) h = cc
+      by_kind near leaves (k.Word w.Const) h = cc
+      by_kind near leaves (k.Word w.Void) h = cc
       by_kind near leaves _ h = refl
 
   reads_return_type : {ty : Ty} {x : Ident} {s r : List Token} → SpellsType limits ty s (ident x ∷ r) → (d : Bool) (items : List ItemTree) (st : List Frame)

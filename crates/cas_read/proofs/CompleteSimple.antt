@@ -37,13 +37,9 @@ next_names [] = false
 next_names (t ∷ ts) = names t.kind
 
 ending_names : (kind : TokenKind) → is_ending kind ≡ true → names kind ≡ false
-ending_names (k.Sign s) h = by_sign s h
-  where
-    by_sign : (s : Sign) → is_ending (k.Sign s) ≡ true → names (k.Sign s) ≡ false
-    by_sign sg.OpenParen h = cc
-    by_sign sg.OpenBracket h = cc
-    by_sign sg.Equal h = cc
-    by_sign _ h = refl
+ending_names (k.Sign sg.OpenParen) h = cc
+ending_names (k.Sign sg.OpenBracket) h = cc
+ending_names (k.Sign sg.Equal) h = cc
 ending_names _ h = refl
 
 pub ends-names : (r : List Token) → next_ends r ≡ true → next_names r ≡ false
@@ -79,12 +75,7 @@ module _ (limits : Limits) where
     where
       by_kind : (near leaves : Bool) (kind : TokenKind) → is_ending kind ≡ false
         → arguments_started limits near leaves caller st t.place kind ≡ begins_outermost limits near leaves (Argument caller [] ∷ st) t.place kind
-      by_kind near leaves (k.Sign s) h = by_sign s h
-        where
-          by_sign : (s : Sign) → is_ending (k.Sign s) ≡ false
-            → arguments_started limits near leaves caller st t.place (k.Sign s) ≡ begins_outermost limits near leaves (Argument caller [] ∷ st) t.place (k.Sign s)
-          by_sign sg.CloseParen h = cc
-          by_sign _ h = refl
+      by_kind near leaves (k.Sign sg.CloseParen) h = cc
       by_kind near leaves _ h = refl
 
   reads_exprs : {bs : List ExprTree} {q : Place} {s r : List Token} → SpellsExprs limits bs s (sign sg.CloseParen q ∷ r) → (caller : Caller) (before : List ExprTree) (st : List Frame)
@@ -109,12 +100,7 @@ module _ (limits : Limits) where
     where
       by_kind : (near leaves : Bool) (kind : TokenKind) → is_opening_paren kind ≡ false
         → maybe_call limits near leaves 1 receiver x st kind ≡ after_operand_name limits near leaves 1 1 false x (ValueOf receiver ∷ st) kind
-      by_kind near leaves (k.Sign s) h = by_sign s h
-        where
-          by_sign : (s : Sign) → is_opening_paren (k.Sign s) ≡ false
-            → maybe_call limits near leaves 1 receiver x st (k.Sign s) ≡ after_operand_name limits near leaves 1 1 false x (ValueOf receiver ∷ st) (k.Sign s)
-          by_sign sg.OpenParen h = cc
-          by_sign _ h = refl
+      by_kind near leaves (k.Sign sg.OpenParen) h = cc
       by_kind near leaves _ h = refl
 
   goes_alike : (b : Bool) (ts : List Token) (c d : Control) (st other : List Frame) → run limits ts c st ≡ run limits ts d other
@@ -183,14 +169,9 @@ module _ (limits : Limits) where
     where
       by_kind : (near leaves : Bool) (kind : TokenKind) → names kind ≡ false
         → after_name limits near leaves x st kind ≡ after_target limits near leaves x.place (to_name x) st kind
-      by_kind near leaves (k.Sign s) h = by_sign s h
-        where
-          by_sign : (s : Sign) → names (k.Sign s) ≡ false
-            → after_name limits near leaves x st (k.Sign s) ≡ after_target limits near leaves x.place (to_name x) st (k.Sign s)
-          by_sign sg.OpenParen h = cc
-          by_sign sg.OpenBracket h = cc
-          by_sign sg.Equal h = cc
-          by_sign _ h = refl
+      by_kind near leaves (k.Sign sg.OpenParen) h = cc
+      by_kind near leaves (k.Sign sg.OpenBracket) h = cc
+      by_kind near leaves (k.Sign sg.Equal) h = cc
       by_kind near leaves _ h = refl
 
   is_stepped : (q : Place) (op : BinaryOperator) (x : Ident) (st : List Frame) (r : List Token) → next_names r ≡ false
@@ -200,12 +181,7 @@ module _ (limits : Limits) where
     where
       by_kind : (near leaves : Bool) (kind : TokenKind) → names kind ≡ false
         → stepped_name limits near leaves q op x st kind ≡ ended (stepped q (to_name x) op) st kind
-      by_kind near leaves (k.Sign s) h = by_sign s h
-        where
-          by_sign : (s : Sign) → names (k.Sign s) ≡ false
-            → stepped_name limits near leaves q op x st (k.Sign s) ≡ ended (stepped q (to_name x) op) st (k.Sign s)
-          by_sign sg.OpenBracket h = cc
-          by_sign _ h = refl
+      by_kind near leaves (k.Sign sg.OpenBracket) h = cc
       by_kind near leaves _ h = refl
 
   -- a target that is written

@@ -4,9 +4,7 @@ use Rattle.cas_base.specs.declared.place.Place.{Place}
 use Rattle.cas_lex.specs.declared.token.Token.{Token}
 use Rattle.cas_lex.specs.declared.token.TokenKind.{TokenKind}
 use Rattle.cas_lex.specs.declared.token.TokenKind.TheVariants as k
-use Rattle.cas_lex.specs.declared.token.Word.{Word}
 use Rattle.cas_lex.specs.declared.token.Word.TheVariants as w
-use Rattle.cas_lex.specs.declared.token.Sign.{Sign}
 use Rattle.cas_lex.specs.declared.token.Sign.TheVariants as sg
 use Rattle.cas_syntax.specs.Tree.{ExprTree, StmtTree, StmtOption, StmtList, no_more, one_more}
 use Rattle.cas_syntax.specs.Limits.{Limits, AllowsDepth}
@@ -53,11 +51,7 @@ next_none (t ∷ ts) = begins_none t.kind
 
 by_simple : (kind : TokenKind) → begins_simple kind ≡ true → begins_none kind ≡ false
 by_simple (k.Word one) h = cc
-by_simple (k.Sign s) h = by_sign s h
-  where
-    by_sign : (s : Sign) → begins_simple (k.Sign s) ≡ true → begins_none (k.Sign s) ≡ false
-    by_sign sg.CloseBrace h = cc
-    by_sign _ h = refl
+by_simple (k.Sign sg.CloseBrace) h = cc
 by_simple _ h = refl
 
 simple_no_none : (s : List Token) → next_simple s ≡ true → next_none s ≡ false
@@ -77,19 +71,11 @@ next_else [] = false
 next_else (t ∷ ts) = an_else t.kind
 
 pub is_else-same : (limits : Limits) (near leaves : Bool) (kind : TokenKind) → is_else limits near leaves kind ≡ an_else kind
-is_else-same limits near leaves (k.Word one) = by_word one
-  where
-    by_word : (one : Word) → is_else limits near leaves (k.Word one) ≡ an_else (k.Word one)
-    by_word w.Else = refl
-    by_word _ = refl
+is_else-same limits near leaves (k.Word w.Else) = refl
 is_else-same limits near leaves _ = refl
 
 by_none : (kind : TokenKind) → begins_none kind ≡ false → an_else kind ≡ false
-by_none (k.Word one) h = by_word one h
-  where
-    by_word : (one : Word) → begins_none (k.Word one) ≡ false → an_else (k.Word one) ≡ false
-    by_word w.Else h = cc
-    by_word _ h = refl
+by_none (k.Word w.Else) h = cc
 by_none _ h = refl
 
 pub none_no_else : (s : List Token) → next_none s ≡ false → next_else s ≡ false
@@ -97,11 +83,7 @@ none_no_else [] h = refl
 none_no_else (t ∷ ts) h = by_none t.kind h
 
 by_kind_word : (kind : TokenKind) → begins_kind kind ≡ true → an_else kind ≡ false
-by_kind_word (k.Word one) h = by_word one h
-  where
-    by_word : (one : Word) → begins_kind (k.Word one) ≡ true → an_else (k.Word one) ≡ false
-    by_word w.Else h = cc
-    by_word _ h = refl
+by_kind_word (k.Word w.Else) h = cc
 by_kind_word _ h = refl
 
 pub kind_no_else : (s : List Token) → next_of_kind s ≡ true → next_else s ≡ false
@@ -152,13 +134,8 @@ module _ (limits : Limits) where
       by_kind : (near leaves : Bool) (kind : TokenKind) → begins_simple kind ≡ true
         → started limits near leaves n st t.place kind ≡ simple_started limits near leaves (SimpleStmt ∷ st) t.place kind
       by_kind near leaves (k.Word one) h = cc
-      by_kind near leaves (k.Sign s) h = by_sign s h
-        where
-          by_sign : (s : Sign) → begins_simple (k.Sign s) ≡ true
-            → started limits near leaves n st t.place (k.Sign s) ≡ simple_started limits near leaves (SimpleStmt ∷ st) t.place (k.Sign s)
-          by_sign sg.Semicolon h = cc
-          by_sign sg.OpenBrace h = cc
-          by_sign _ h = refl
+      by_kind near leaves (k.Sign sg.Semicolon) h = cc
+      by_kind near leaves (k.Sign sg.OpenBrace) h = cc
       by_kind near leaves _ h = refl
 
   -- in a list, a statement begins, or a kind
@@ -169,22 +146,12 @@ module _ (limits : Limits) where
     where
       by_kind : (near leaves : Bool) (kind : TokenKind) → begins_none kind ≡ false
         → in_list limits near leaves n before st t.place kind ≡ nested limits near leaves n (started limits near leaves n (NextStmt n before ∷ st) t.place kind)
-      by_kind near leaves (k.Word one) h = by_word one h
-        where
-          by_word : (one : Word) → begins_none (k.Word one) ≡ false
-            → in_list limits near leaves n before st t.place (k.Word one) ≡ nested limits near leaves n (started limits near leaves n (NextStmt n before ∷ st) t.place (k.Word one))
-          by_word w.Char h = cc
-          by_word w.Short h = cc
-          by_word w.Int h = cc
-          by_word w.Unsigned h = cc
-          by_word w.Signed h = cc
-          by_word _ h = refl
-      by_kind near leaves (k.Sign s) h = by_sign s h
-        where
-          by_sign : (s : Sign) → begins_none (k.Sign s) ≡ false
-            → in_list limits near leaves n before st t.place (k.Sign s) ≡ nested limits near leaves n (started limits near leaves n (NextStmt n before ∷ st) t.place (k.Sign s))
-          by_sign sg.CloseBrace h = cc
-          by_sign _ h = refl
+      by_kind near leaves (k.Word w.Char) h = cc
+      by_kind near leaves (k.Word w.Short) h = cc
+      by_kind near leaves (k.Word w.Int) h = cc
+      by_kind near leaves (k.Word w.Unsigned) h = cc
+      by_kind near leaves (k.Word w.Signed) h = cc
+      by_kind near leaves (k.Sign sg.CloseBrace) h = cc
       by_kind near leaves _ h = refl
 
   pub begins_locals : (n : ℕ) (before : StmtList) (st : List Frame) (s : List Token) → AllowsDepth limits n s → next_of_kind s ≡ true
@@ -197,16 +164,11 @@ module _ (limits : Limits) where
 
       by_kind : (kind : TokenKind) → begins_kind kind ≡ true
         → run limits (record { kind = kind; place = t.place } ∷ ts) (InList n before) st ≡ run limits (record { kind = kind; place = t.place } ∷ ts) (WantKind None) (LocalsKind n before ∷ st)
-      by_kind (k.Word one) h = by_word one h
-        where
-          by_word : (one : Word) → begins_kind (k.Word one) ≡ true
-            → run limits (record { kind = k.Word one; place = t.place } ∷ ts) (InList n before) st ≡ run limits (record { kind = k.Word one; place = t.place } ∷ ts) (WantKind None) (LocalsKind n before ∷ st)
-          by_word w.Char h = rw fits
-          by_word w.Short h = rw fits
-          by_word w.Int h = rw fits
-          by_word w.Unsigned h = rw fits
-          by_word w.Signed h = rw fits
-          by_word _ h = cc
+      by_kind (k.Word w.Char) h = rw fits
+      by_kind (k.Word w.Short) h = rw fits
+      by_kind (k.Word w.Int) h = rw fits
+      by_kind (k.Word w.Unsigned) h = rw fits
+      by_kind (k.Word w.Signed) h = rw fits
       by_kind _ h = cc
 
   -- the parts of a `for`, and what stands behind `return`
@@ -224,14 +186,10 @@ module _ (limits : Limits) where
       by_kind (k.Word one) h = cc
       by_kind (k.Literal n kd) h = cc
       by_kind (k.Name n) h = rw fits
-      by_kind (k.Sign s) h = by_sign s h
-        where
-          by_sign : (s : Sign) → begins_simple (k.Sign s) ≡ true
-            → run limits (record { kind = k.Sign s; place = t.place } ∷ ts) (ForFirst n p) st ≡ begun limits (record { kind = k.Sign s; place = t.place } ∷ ts) (FirstSimple n p ∷ st)
-          by_sign sg.Star h = rw fits
-          by_sign sg.PlusPlus h = rw fits
-          by_sign sg.MinusMinus h = rw fits
-          by_sign _ h = cc
+      by_kind (k.Sign sg.Star) h = rw fits
+      by_kind (k.Sign sg.PlusPlus) h = rw fits
+      by_kind (k.Sign sg.MinusMinus) h = rw fits
+      by_kind (k.Sign _) h = cc
 
   pub first_kind : (n : ℕ) (p : Place) (st : List Frame) (s : List Token) → AllowsDepth limits (n + 1) s → next_of_kind s ≡ true
     → run limits s (ForFirst n p) st ≡ run limits s (WantKind None) (FirstKind n p ∷ st)
@@ -243,16 +201,11 @@ module _ (limits : Limits) where
 
       by_kind : (kind : TokenKind) → begins_kind kind ≡ true
         → run limits (record { kind = kind; place = t.place } ∷ ts) (ForFirst n p) st ≡ run limits (record { kind = kind; place = t.place } ∷ ts) (WantKind None) (FirstKind n p ∷ st)
-      by_kind (k.Word one) h = by_word one h
-        where
-          by_word : (one : Word) → begins_kind (k.Word one) ≡ true
-            → run limits (record { kind = k.Word one; place = t.place } ∷ ts) (ForFirst n p) st ≡ run limits (record { kind = k.Word one; place = t.place } ∷ ts) (WantKind None) (FirstKind n p ∷ st)
-          by_word w.Char h = rw fits
-          by_word w.Short h = rw fits
-          by_word w.Int h = rw fits
-          by_word w.Unsigned h = rw fits
-          by_word w.Signed h = rw fits
-          by_word _ h = cc
+      by_kind (k.Word w.Char) h = rw fits
+      by_kind (k.Word w.Short) h = rw fits
+      by_kind (k.Word w.Int) h = rw fits
+      by_kind (k.Word w.Unsigned) h = rw fits
+      by_kind (k.Word w.Signed) h = rw fits
       by_kind _ h = cc
 
   pub second_expr : (n : ℕ) (p : Place) (i : StmtOption) (st : List Frame) (s : List Token) → next_ends s ≡ false
@@ -262,12 +215,7 @@ module _ (limits : Limits) where
     where
       by_kind : (near leaves : Bool) (kind : TokenKind) → is_ending kind ≡ false
         → for_second limits near leaves n p i st t.place kind ≡ begins_outermost limits near leaves (ForCondition n p i ∷ st) t.place kind
-      by_kind near leaves (k.Sign s) h = by_sign s h
-        where
-          by_sign : (s : Sign) → is_ending (k.Sign s) ≡ false
-            → for_second limits near leaves n p i st t.place (k.Sign s) ≡ begins_outermost limits near leaves (ForCondition n p i ∷ st) t.place (k.Sign s)
-          by_sign sg.Semicolon h = cc
-          by_sign _ h = refl
+      by_kind near leaves (k.Sign sg.Semicolon) h = cc
       by_kind near leaves _ h = refl
 
   pub third_simple : (n : ℕ) (p : Place) (i : StmtOption) (c : Option ExprTree) (st : List Frame) (s : List Token) → AllowsDepth limits (n + 1) s → next_simple s ≡ true
@@ -283,14 +231,10 @@ module _ (limits : Limits) where
       by_kind (k.Word one) h = cc
       by_kind (k.Literal n kd) h = cc
       by_kind (k.Name n) h = rw fits
-      by_kind (k.Sign s) h = by_sign s h
-        where
-          by_sign : (s : Sign) → begins_simple (k.Sign s) ≡ true
-            → run limits (record { kind = k.Sign s; place = t.place } ∷ ts) (ForThird n p i c) st ≡ begun limits (record { kind = k.Sign s; place = t.place } ∷ ts) (AfterSimple n p i c ∷ st)
-          by_sign sg.Star h = rw fits
-          by_sign sg.PlusPlus h = rw fits
-          by_sign sg.MinusMinus h = rw fits
-          by_sign _ h = cc
+      by_kind (k.Sign sg.Star) h = rw fits
+      by_kind (k.Sign sg.PlusPlus) h = rw fits
+      by_kind (k.Sign sg.MinusMinus) h = rw fits
+      by_kind (k.Sign _) h = cc
 
   pub returned_expr : (q : Place) (st : List Frame) (s : List Token) → next_ends s ≡ false
     → run limits s (AfterReturn q) st ≡ run limits s WantOutermost (ReturnValue q ∷ st)
@@ -299,10 +243,5 @@ module _ (limits : Limits) where
     where
       by_kind : (near leaves : Bool) (kind : TokenKind) → is_ending kind ≡ false
         → after_return limits near leaves q st t.place kind ≡ begins_outermost limits near leaves (ReturnValue q ∷ st) t.place kind
-      by_kind near leaves (k.Sign s) h = by_sign s h
-        where
-          by_sign : (s : Sign) → is_ending (k.Sign s) ≡ false
-            → after_return limits near leaves q st t.place (k.Sign s) ≡ begins_outermost limits near leaves (ReturnValue q ∷ st) t.place (k.Sign s)
-          by_sign sg.Semicolon h = cc
-          by_sign _ h = refl
+      by_kind near leaves (k.Sign sg.Semicolon) h = cc
       by_kind near leaves _ h = refl
