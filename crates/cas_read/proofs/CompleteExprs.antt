@@ -108,45 +108,45 @@ module _ (limits : Limits) where
 
   -- where the next token doesn't go on with a name, the name is an operand
   pub rests : (used l : ℕ) (taken : Bool) (x : Ident) (st : List Frame) (r : List Token) → next_opens r ≡ false
-    → run limits r (Named used l taken x) st ≡ run limits r (HaveExpr used l (named taken x)) st
+      → run limits r (Named used l taken x) st ≡ run limits r (HaveExpr used l (named taken x)) st
   rests used l taken x st [] h = refl
   rests used l taken x st (t ∷ ts) h = ap (go (run limits ts) (length ts)) (by_kind _ _ t.kind h)
     where
       by_kind : (near leaves : Bool) (kind : TokenKind) → is_opening kind ≡ false
-        → after_operand_name limits near leaves used l taken x st kind ≡ have limits near leaves used l (named taken x) st kind
+          → after_operand_name limits near leaves used l taken x st kind ≡ have limits near leaves used l (named taken x) st kind
       by_kind near leaves (k.Sign sg.OpenBracket) h = cc
       by_kind near leaves (k.Sign sg.OpenParen) h = cc
       by_kind near leaves _ h = refl
 
   -- where the next token doesn't bind so tightly, an expression goes to what waits for it
   pub falls : (near leaves : Bool) (used l : ℕ) (x : ExprTree) (st : List Frame) (t : Token) → binds t.kind < l
-    → shift limits near leaves t (HaveExpr used l x) st ≡ down limits near leaves used t.kind x st
+      → shift limits near leaves t (HaveExpr used l x) st ≡ down limits near leaves used t.kind x st
   falls near leaves used l x st t h = let e : nat_le l (binds t.kind) ≡ false = grind (arith, nat_tests) in rw e
 
   pub pop_before : (used l : ℕ) (f : Prefix) (x : ExprTree) (st : List Frame) (r : List Token)
-    → run limits r (HaveExpr used 12 x) (Before l f ∷ st) ≡ run limits r (HaveExpr used l (prefixed f x)) st
+      → run limits r (HaveExpr used 12 x) (Before l f ∷ st) ≡ run limits r (HaveExpr used l (prefixed f x)) st
   pop_before used l f x st [] = refl
   pop_before used l f x st (t ∷ ts) = let h : binds t.kind < 12 = omega (arith, binds_at_most t.kind) in rw falls
 
   pub pop_right : (used l m : ℕ) (op : Infix) (x y : ExprTree) (st : List Frame) (r : List Token) → next_binds r < m
-    → run limits r (HaveExpr used m y) (Right l op x ∷ st) ≡ run limits r (HaveExpr used l (joined op x y)) st
+      → run limits r (HaveExpr used m y) (Right l op x ∷ st) ≡ run limits r (HaveExpr used l (joined op x y)) st
   pop_right used l m op x y st [] h = refl
   pop_right used l m op x y st (t ∷ ts) h = rw falls
 
   pub pop_otherwise : (used l : ℕ) (c x y : ExprTree) (st : List Frame) (r : List Token) → next_binds r < 1
-    → run limits r (HaveExpr used 1 y) (Otherwise l c x ∷ st) ≡ run limits r (HaveExpr used l (conditional c x y)) st
+      → run limits r (HaveExpr used 1 y) (Otherwise l c x ∷ st) ≡ run limits r (HaveExpr used l (conditional c x y)) st
   pop_otherwise used l c x y st [] h = refl
   pop_otherwise used l c x y st (t ∷ ts) h = rw falls
 
   -- behind `(` stands a kind, or an expression
 
   pub opens_parentheses : (used l : ℕ) (st : List Frame) (s : List Token) → next_of_kind s ≡ false
-    → run limits s (Opened used l) st ≡ run limits s (WantExpr used 1) (InParens l ∷ st)
+      → run limits s (Opened used l) st ≡ run limits s (WantExpr used 1) (InParens l ∷ st)
   opens_parentheses used l st [] h = refl
   opens_parentheses used l st (t ∷ ts) h = rw h
 
   pub opens_cast : (used l : ℕ) (st : List Frame) (s : List Token) → next_of_kind s ≡ true
-    → run limits s (Opened used l) st ≡ run limits s (WantKind (Some used)) (CastKind l ∷ st)
+      → run limits s (Opened used l) st ≡ run limits s (WantKind (Some used)) (CastKind l ∷ st)
   opens_cast used l st [] h = refl
   opens_cast used l st (t ∷ ts) h = rw h
 
@@ -156,7 +156,7 @@ module _ (limits : Limits) where
   begins_no_kind _ = refl
 
 operand_unary : (limits : Limits) (near leaves : Bool) (used l : ℕ) (st : List Frame) (p : Place) (op : UnaryOperator)
-  → operand limits near leaves used l st p (k.Sign (unary_sign op)) ≡ Ok (WantExpr (used + 1) 12, Before l (Operates op) ∷ st)
+    → operand limits near leaves used l st p (k.Sign (unary_sign op)) ≡ Ok (WantExpr (used + 1) 12, Before l (Operates op) ∷ st)
 operand_unary limits near leaves used l st p u.Neg = refl
 operand_unary limits near leaves used l st p _ = refl
 
@@ -170,33 +170,33 @@ module _ (limits : Limits) (whole behind : ℕ) (room : whole ≤ limits.tokens 
   fits used ts count inside = counts limits used whole behind ts count room inside
 
   rises : (used l : ℕ) (a : ExprTree) (st : List Frame) (op : Infix) (p : Place) (ts : List Token) → Counts used ts → l ≤ level op
-    → run limits (sign (infix_sign op) p ∷ ts) (HaveExpr used l a) st ≡ run limits ts (WantExpr (used + 1) (level op + 1)) (Right l op a ∷ st)
+      → run limits (sign (infix_sign op) p ∷ ts) (HaveExpr used l a) st ≡ run limits ts (WantExpr (used + 1) (level op + 1)) (Right l op a ∷ st)
   rises used l a st op p ts c h =
       let e : nat_le l (binds (k.Sign (infix_sign op))) ≡ true = grind (arith, binds_sign, nat_tests) in rw (e, infix_of_sign op, c)
 
   chooses : (used l : ℕ) (a : ExprTree) (st : List Frame) (p : Place) (ts : List Token) → Counts used ts → l ≤ 1
-    → run limits (sign sg.Question p ∷ ts) (HaveExpr used l a) st ≡ run limits ts (WantExpr (used + 1) 1) (Then l a ∷ st)
+      → run limits (sign sg.Question p ∷ ts) (HaveExpr used l a) st ≡ run limits ts (WantExpr (used + 1) 1) (Then l a ∷ st)
   chooses used l a st p ts c h = let e : nat_le l 1 ≡ true = grind (arith, nat_tests) in rw (e, c)
 
   goes_on : (used l : ℕ) (c a : ExprTree) (st : List Frame) (q : Place) (ts : List Token) → Counts used ts
-    → run limits (sign sg.Colon q ∷ ts) (HaveExpr used 1 a) (Then l c ∷ st) ≡ run limits ts (WantExpr (used + 1) 1) (Otherwise l c a ∷ st)
+      → run limits (sign sg.Colon q ∷ ts) (HaveExpr used 1 a) (Then l c ∷ st) ≡ run limits ts (WantExpr (used + 1) 1) (Otherwise l c a ∷ st)
   goes_on used l c a st q ts fit = rw fit
 
   casts : (used l : ℕ) (kd : Kind) (st : List Frame) (q : Place) (ts : List Token) → Counts used ts
-    → run limits (sign sg.CloseParen q ∷ ts) (HaveKind (Some used) kd) (CastKind l ∷ st) ≡ run limits ts (WantExpr (used + 1) 12) (Before l (Casts kd) ∷ st)
+      → run limits (sign sg.CloseParen q ∷ ts) (HaveKind (Some used) kd) (CastKind l ∷ st) ≡ run limits ts (WantExpr (used + 1) 12) (Before l (Casts kd) ∷ st)
   casts used l kd st q ts fit = rw fit
 
   closes_parentheses : (used l : ℕ) (a : ExprTree) (st : List Frame) (q : Place) (r : List Token) → Counts used r
-    → run limits (sign sg.CloseParen q ∷ r) (HaveExpr used 1 a) (InParens l ∷ st) ≡ run limits r (HaveExpr (used + 1) l a) st
+      → run limits (sign sg.CloseParen q ∷ r) (HaveExpr used 1 a) (InParens l ∷ st) ≡ run limits r (HaveExpr (used + 1) l a) st
   closes_parentheses used l a st q r c = rw c
 
   closes_brackets : (used l : ℕ) (taken : Bool) (x : Ident) (a : ExprTree) (st : List Frame) (q : Place) (r : List Token) → Counts used r
-    → run limits (sign sg.CloseBracket q ∷ r) (HaveExpr used 1 a) (InBrackets l taken x ∷ st) ≡ run limits r (HaveExpr (used + 1) l (bracketed taken x a)) st
+      → run limits (sign sg.CloseBracket q ∷ r) (HaveExpr used 1 a) (InBrackets l taken x ∷ st) ≡ run limits r (HaveExpr (used + 1) l (bracketed taken x a)) st
   closes_brackets used l taken x a st q r c = rw c
 
   pub reads : {m : ℕ} {a : ExprTree} {s r : List Token} → Spells limits m a s r → (used used' l : ℕ) (st : List Frame) → used + length s ≡ whole
-    → used' + length r ≡ whole → behind ≤ length r → 1 ≤ l → l ≤ m → next_binds r ≤ m → next_binds r + 2 ≤ 2 * m → next_opens r ≡ false
-    → run limits s (WantExpr used l) st ≡ run limits r (HaveExpr used' l a) st
+      → used' + length r ≡ whole → behind ≤ length r → 1 ≤ l → l ≤ m → next_binds r ≤ m → next_binds r + 2 ≤ 2 * m → next_opens r ≡ false
+      → run limits s (WantExpr used l) st ≡ run limits r (HaveExpr used' l a) st
   reads (a_literal m n kd p r) used used' l st count count' inside least below most stops ends =
       let same : used' ≡ used + 1 = omega arith in
       rw (fits used r (omega arith) inside, same)
@@ -209,29 +209,29 @@ module _ (limits : Limits) (whole behind : ℕ) (room : whole ≤ limits.tokens 
       let counted : last + (1 + length r) ≡ whole = omega arith in
       let same : used' ≡ last + 1 = omega arith in
       rw (fits used (sign sg.OpenBracket p ∷ s) (omega arith) (omega arith), fits (used + 1) s (omega arith) (omega arith), same)
-          (reads h (used + 1 + 1) last 1 (InBrackets l false x ∷ st) (omega arith) (omega arith) (omega arith) (omega arith) (omega arith) (omega arith) (omega arith) refl
-          ∙ closes_brackets last l false x a st q r (fits last r counted inside))
+      (reads h (used + 1 + 1) last 1 (InBrackets l false x ∷ st) (omega arith) (omega arith) (omega arith) (omega arith) (omega arith) (omega arith) (omega arith) refl
+      ∙ closes_brackets last l false x a st q r (fits last r counted inside))
   reads (in_parentheses m a p q s r h) used used' l st count count' inside least below most stops ends =
       let shrinks = shorter limits h in
       let last = whole - (1 + length r) in
       let counted : last + (1 + length r) ≡ whole = omega arith in
       let same : used' ≡ last + 1 = omega arith in
       rw (fits used s (omega arith) (omega arith), same)
-          (opens_parentheses limits (used + 1) l st s (begins_no_kind limits h)
-          ∙ reads h (used + 1) last 1 (InParens l ∷ st) (omega arith) (omega arith) (omega arith) (omega arith) (omega arith) (omega arith) (omega arith) refl
-          ∙ closes_parentheses last l a st q r (fits last r counted inside))
+      (opens_parentheses limits (used + 1) l st s (begins_no_kind limits h)
+      ∙ reads h (used + 1) last 1 (InParens l ∷ st) (omega arith) (omega arith) (omega arith) (omega arith) (omega arith) (omega arith) (omega arith) refl
+      ∙ closes_parentheses last l a st q r (fits last r counted inside))
   reads (an_operand_of m op a p s r h) used used' l st count count' inside least below most stops ends =
       let shrinks = shorter limits h in
       let binding = next_at_most r in
       rw (fits used s (omega arith) (omega arith), operand_unary)
-          (reads h (used + 1) used' 12 (Before l (Operates op) ∷ st) (omega arith) count' inside (omega arith) (omega arith) (omega arith) (omega arith) ends
-          ∙ pop_before limits used' l (Operates op) a st r)
+      (reads h (used + 1) used' 12 (Before l (Operates op) ∷ st) (omega arith) count' inside (omega arith) (omega arith) (omega arith) (omega arith) ends
+      ∙ pop_before limits used' l (Operates op) a st r)
   reads (what_is_pointed_to m a p s r h) used used' l st count count' inside least below most stops ends =
       let shrinks = shorter limits h in
       let binding = next_at_most r in
       rw (fits used s (omega arith) (omega arith))
-          (reads h (used + 1) used' 12 (Before l Points ∷ st) (omega arith) count' inside (omega arith) (omega arith) (omega arith) (omega arith) ends
-          ∙ pop_before limits used' l Points a st r)
+      (reads h (used + 1) used' 12 (Before l Points ∷ st) (omega arith) count' inside (omega arith) (omega arith) (omega arith) (omega arith) ends
+      ∙ pop_before limits used' l Points a st r)
   reads (an_address m x p r) used used' l st count count' inside least below most stops ends =
       let same : used' ≡ used + 1 + 1 = omega arith in
       rw (fits used (ident x ∷ r) (omega arith) (omega arith), fits (used + 1) r (omega arith) inside, same) (rests limits (used + 1 + 1) l true x st r ends)
@@ -241,8 +241,8 @@ module _ (limits : Limits) (whole behind : ℕ) (room : whole ≤ limits.tokens 
       let counted : last + (1 + length r) ≡ whole = omega arith in
       let same : used' ≡ last + 1 = omega arith in
       rw (fits used (ident x ∷ sign sg.OpenBracket p ∷ s) (omega arith) (omega arith), fits (used + 1) (sign sg.OpenBracket p ∷ s) (omega arith) (omega arith), fits (used + 1 + 1) s (omega arith) (omega arith), same)
-          (reads h (used + 1 + 1 + 1) last 1 (InBrackets l true x ∷ st) (omega arith) (omega arith) (omega arith) (omega arith) (omega arith) (omega arith) (omega arith) refl
-          ∙ closes_brackets last l true x a st q r (fits last r counted inside))
+      (reads h (used + 1 + 1 + 1) last 1 (InBrackets l true x ∷ st) (omega arith) (omega arith) (omega arith) (omega arith) (omega arith) (omega arith) (omega arith) refl
+      ∙ closes_brackets last l true x a st q r (fits last r counted inside))
   reads (a_cast m kd a p q s t r hk h) used used' l st count count' inside least below most stops ends =
       let shrinks = shorter limits h in
       let shrinks_too = shorter_kind hk in
@@ -250,11 +250,11 @@ module _ (limits : Limits) (whole behind : ℕ) (room : whole ≤ limits.tokens 
       let last = whole - (1 + length t) in
       let counted : last + (1 + length t) ≡ whole = omega arith in
       rw (fits used s (omega arith) (omega arith))
-          (opens_cast limits (used + 1) l st s (begins_with_kind hk)
-          ∙ reads_kind_in limits whole behind room hk (used + 1) last (CastKind l ∷ st) (omega arith) (omega arith) (omega arith) refl
-          ∙ casts last l kd st q t (fits last t counted (omega arith))
-          ∙ reads h (last + 1) used' 12 (Before l (Casts kd) ∷ st) (omega arith) count' inside (omega arith) (omega arith) (omega arith) (omega arith) ends
-          ∙ pop_before limits used' l (Casts kd) a st r)
+      (opens_cast limits (used + 1) l st s (begins_with_kind hk)
+      ∙ reads_kind_in limits whole behind room hk (used + 1) last (CastKind l ∷ st) (omega arith) (omega arith) (omega arith) refl
+      ∙ casts last l kd st q t (fits last t counted (omega arith))
+      ∙ reads h (last + 1) used' 12 (Before l (Casts kd) ∷ st) (omega arith) count' inside (omega arith) (omega arith) (omega arith) (omega arith) ends
+      ∙ pop_before limits used' l (Casts kd) a st r)
   reads (two_operands m op a b p s t r le ha hb) used used' l st count count' inside least below most stops ends =
       let shrinks = shorter limits ha in
       let shrinks_too = shorter limits hb in
@@ -331,7 +331,7 @@ module _ (limits : Limits) where
 
   -- what comes of an outermost expression comes of its tokens
   pub reads_outermost : {a : ExprTree} {s r : List Token} → SpellsExpr limits a s r → (st : List Frame) (V : Verdict) → next_ends r ≡ true
-    → ((used : ℕ) → run limits r (Given used a) st ≡ V) → run limits s WantOutermost st ≡ V
+      → ((used : ℕ) → run limits r (Given used a) st ≡ V) → run limits s WantOutermost st ≡ V
   reads_outermost (outermost a s r room h) st V ends on =
       let shrinks = shorter limits h in
       let binding = ends-binds r ends in

@@ -28,17 +28,17 @@ named_alone (x ∷ xs) = rw (named_alone xs)
 
 module _ (limits : Limits) (some : 0 < limits.tokens) where
   begins_body : (x : Ident) (f : Form) (xs : List Ident) (held : List Place) (p : Place) (t : List Token) (items : List ItemTree) (st : List Frame)
-    → run limits (sign sg.OpenBrace p ∷ t) (AfterHead x f true (map Some xs) held items) st ≡ run limits t (InList 0 no_more) (BodyOf x f xs held items ∷ st)
+      → run limits (sign sg.OpenBrace p ∷ t) (AfterHead x f true (map Some xs) held items) st ≡ run limits t (InList 0 no_more) (BodyOf x f xs held items ∷ st)
   begins_body x f xs held p t items st = rw (named_alone xs)
 
   is_plain : (d : Bool) (ty : Ty) (x : Ident) (by : Sign) (p : Place) (r : List Token) (items : List ItemTree) (st : List Frame) → FollowsGlobal by → IsLeftOut limits r
-    → run limits (sign by p ∷ r) (FunctionName (record { defined = d; ret = ty; name = x }) items) st ≡ run limits r (InItems (items ++ global (declared x.name (form.Table ty) d) [] x.place ∷ [])) st
+      → run limits (sign by p ∷ r) (FunctionName (record { defined = d; ret = ty; name = x }) items) st ≡ run limits r (InItems (items ++ global (declared x.name (form.Table ty) d) [] x.place ∷ [])) st
   is_plain d ty x by p r items st its_length out = rw (leaves limits r out)
   is_plain d ty x by p r items st its_value out = rw (leaves limits r out)
   is_plain d ty x by p r items st its_end out = rw (leaves limits r out)
 
   pub reads_item : {a : ItemTree} {s r : List Token} → SpellsItem limits a s r → (items : List ItemTree) (st : List Frame)
-    → run limits s (InItems items) st ≡ run limits r (InItems (items ++ a ∷ [])) st
+      → run limits s (InItems items) st ≡ run limits r (InItems (items ++ a ∷ [])) st
   reads_item (a_lock x d p q s r h) items st = reads_extern limits h items st refl
   reads_item (a_shared x guard kd ty vs d p q q' e s t v r h hk hc) items st =
       reads_extern limits h items st refl
@@ -63,7 +63,7 @@ module _ (limits : Limits) (some : 0 < limits.tokens) where
       ∙ is_plain d ty x by p r items st follows out
 
   pub reads_items : {bs : List ItemTree} {s r : List Token} → SpellsItems limits bs s r → (before : List ItemTree)
-    → run limits s (InItems before) [] ≡ run limits r (InItems (before ++ bs)) []
+      → run limits s (InItems before) [] ≡ run limits r (InItems (before ++ bs)) []
   reads_items (no_item r) before = ap (λ all. run limits r (InItems all) []) (sym (append-nil before))
   reads_items (an_item a bs s t r h hs) before =
       reads_item h before []

@@ -54,7 +54,7 @@ module _ (limits : Limits) where
   ends_signed c st (t ∷ ts) h = ap (go (run limits ts) (length ts)) (by_kind _ _ t.kind h)
     where
       by_kind : (near leaves : Bool) (kind : TokenKind) → begins_kind kind ≡ false
-        → after_signed limits near leaves c st t.place kind ≡ down_kind limits near leaves c I32 st t.place kind
+          → after_signed limits near leaves c st t.place kind ≡ down_kind limits near leaves c I32 st t.place kind
       by_kind near leaves (k.Word w.Char) h = cc
       by_kind near leaves (k.Word w.Short) h = cc
       by_kind near leaves (k.Word w.Int) h = cc
@@ -65,7 +65,7 @@ module _ (limits : Limits) where
   ends_unsigned c st (t ∷ ts) h = ap (go (run limits ts) (length ts)) (by_kind _ _ t.kind h)
     where
       by_kind : (near leaves : Bool) (kind : TokenKind) → begins_kind kind ≡ false
-        → after_unsigned limits near leaves c st t.place kind ≡ down_kind limits near leaves c U32 st t.place kind
+          → after_unsigned limits near leaves c st t.place kind ≡ down_kind limits near leaves c U32 st t.place kind
       by_kind near leaves (k.Word w.Char) h = cc
       by_kind near leaves (k.Word w.Short) h = cc
       by_kind near leaves (k.Word w.Int) h = cc
@@ -76,34 +76,34 @@ module _ (limits : Limits) where
   ends_int c kd st (t ∷ ts) h = ap (go (run limits ts) (length ts)) (by_kind _ _ t.kind h)
     where
       by_kind : (near leaves : Bool) (kind : TokenKind) → begins_kind kind ≡ false
-        → may_end_int limits near leaves c kd st t.place kind ≡ down_kind limits near leaves c kd st t.place kind
+          → may_end_int limits near leaves c kd st t.place kind ≡ down_kind limits near leaves c kd st t.place kind
       by_kind near leaves (k.Word w.Int) h = cc
       by_kind near leaves _ h = refl
 
   -- kinds outside of expressions, whose tokens aren't counted
 
   leading : {s v : List Token} → Perhaps w.Signed s v → (st : List Frame) (V : Verdict)
-    → run limits v (WantKind None) st ≡ V → run limits v (Signed None) st ≡ V → run limits s (WantKind None) st ≡ V
+      → run limits v (WantKind None) st ≡ V → run limits v (Signed None) st ≡ V → run limits s (WantKind None) st ≡ V
   leading (without r) st V one two = one
   leading (with_it p r) st V one two = two
 
   closing : {t r : List Token} → Perhaps w.Int t r → (kd : Kind) (st : List Frame) → next_of_kind r ≡ false
-    → run limits t (MayEndInt None kd) st ≡ run limits r (HaveKind None kd) st
+      → run limits t (MayEndInt None kd) st ≡ run limits r (HaveKind None kd) st
   closing (without r) kd st ends = ends_int None kd st r ends
   closing (with_it p r) kd st ends = refl
 
   after_signed_word : {t r : List Token} → Perhaps w.Int t r → (st : List Frame) → next_of_kind r ≡ false
-    → run limits t (Signed None) st ≡ run limits r (HaveKind None I32) st
+      → run limits t (Signed None) st ≡ run limits r (HaveKind None I32) st
   after_signed_word (without r) st ends = ends_signed None st r ends
   after_signed_word (with_it p r) st ends = refl
 
   after_unsigned_word : {t r : List Token} → Perhaps w.Int t r → (st : List Frame) → next_of_kind r ≡ false
-    → run limits t (Unsigned None) st ≡ run limits r (HaveKind None U32) st
+      → run limits t (Unsigned None) st ≡ run limits r (HaveKind None U32) st
   after_unsigned_word (without r) st ends = ends_unsigned None st r ends
   after_unsigned_word (with_it p r) st ends = refl
 
   pub reads_kind : {kd : Kind} {s r : List Token} → SpellsKind kd s r → (st : List Frame) → next_of_kind r ≡ false
-    → run limits s (WantKind None) st ≡ run limits r (HaveKind None kd) st
+      → run limits s (WantKind None) st ≡ run limits r (HaveKind None kd) st
   reads_kind (char p s r h) st ends = leading h st (run limits r (HaveKind None I8) st) refl refl
   reads_kind (unsigned_char p q r) st ends = refl
   reads_kind (short p s t r h i) st ends = leading h st (run limits r (HaveKind None I16) st) (closing i I16 st ends) (closing i I16 st ends)
@@ -115,44 +115,44 @@ module _ (limits : Limits) where
 -- kinds in an outermost expression, whose tokens and all behind them are `whole`, and those behind it `behind`
 module _ (limits : Limits) (whole behind : ℕ) (room : whole ≤ limits.tokens + max behind limits.cut) where
   leading_in : {s v : List Token} → Perhaps w.Signed s v → (used : ℕ) (st : List Frame) (V : Verdict) → used + length s ≡ whole → behind ≤ length v
-    → ((one : ℕ) → one + length v ≡ whole → run limits v (WantKind (Some one)) st ≡ V)
-    → ((one : ℕ) → one + length v ≡ whole → run limits v (Signed (Some one)) st ≡ V)
-    → run limits s (WantKind (Some used)) st ≡ V
+      → ((one : ℕ) → one + length v ≡ whole → run limits v (WantKind (Some one)) st ≡ V)
+      → ((one : ℕ) → one + length v ≡ whole → run limits v (Signed (Some one)) st ≡ V)
+      → run limits s (WantKind (Some used)) st ≡ V
   leading_in (without r) used st V count inside one two = one used count
   leading_in (with_it p r) used st V count inside one two = rw (counts limits used whole behind r (omega arith) room inside) (two (used + 1) (omega arith))
 
   closing_in : {t r : List Token} → Perhaps w.Int t r → (kd : Kind) (used used' : ℕ) (st : List Frame) → used + length t ≡ whole → used' + length r ≡ whole
-    → behind ≤ length r → next_of_kind r ≡ false → run limits t (MayEndInt (Some used) kd) st ≡ run limits r (HaveKind (Some used') kd) st
+      → behind ≤ length r → next_of_kind r ≡ false → run limits t (MayEndInt (Some used) kd) st ≡ run limits r (HaveKind (Some used') kd) st
   closing_in (without r) kd used used' st count count' inside ends =
       let same : used ≡ used' = omega arith in rw same (ends_int limits (Some used') kd st r ends)
   closing_in (with_it p r) kd used used' st count count' inside ends =
       let same : used' ≡ used + 1 = omega arith in rw (counts limits used whole behind r (omega arith) room inside, same)
 
   after_signed_in : {t r : List Token} → Perhaps w.Int t r → (used used' : ℕ) (st : List Frame) → used + length t ≡ whole → used' + length r ≡ whole
-    → behind ≤ length r → next_of_kind r ≡ false → run limits t (Signed (Some used)) st ≡ run limits r (HaveKind (Some used') I32) st
+      → behind ≤ length r → next_of_kind r ≡ false → run limits t (Signed (Some used)) st ≡ run limits r (HaveKind (Some used') I32) st
   after_signed_in (without r) used used' st count count' inside ends =
       let same : used ≡ used' = omega arith in rw same (ends_signed limits (Some used') st r ends)
   after_signed_in (with_it p r) used used' st count count' inside ends =
       let same : used' ≡ used + 1 = omega arith in rw (counts limits used whole behind r (omega arith) room inside, same)
 
   after_unsigned_in : {t r : List Token} → Perhaps w.Int t r → (used used' : ℕ) (st : List Frame) → used + length t ≡ whole → used' + length r ≡ whole
-    → behind ≤ length r → next_of_kind r ≡ false → run limits t (Unsigned (Some used)) st ≡ run limits r (HaveKind (Some used') U32) st
+      → behind ≤ length r → next_of_kind r ≡ false → run limits t (Unsigned (Some used)) st ≡ run limits r (HaveKind (Some used') U32) st
   after_unsigned_in (without r) used used' st count count' inside ends =
       let same : used ≡ used' = omega arith in rw same (ends_unsigned limits (Some used') st r ends)
   after_unsigned_in (with_it p r) used used' st count count' inside ends =
       let same : used' ≡ used + 1 = omega arith in rw (counts limits used whole behind r (omega arith) room inside, same)
 
   char_in : (used used' : ℕ) (p : Place) (r : List Token) (st : List Frame) → used + length (word w.Char p ∷ r) ≡ whole → used' + length r ≡ whole → behind ≤ length r
-    → run limits (word w.Char p ∷ r) (WantKind (Some used)) st ≡ run limits r (HaveKind (Some used') I8) st
+      → run limits (word w.Char p ∷ r) (WantKind (Some used)) st ≡ run limits r (HaveKind (Some used') I8) st
   char_in used used' p r st count count' inside =
       let same : used' ≡ used + 1 = omega arith in rw (counts limits used whole behind r (omega arith) room inside, same)
 
   pub reads_kind_in : {kd : Kind} {s r : List Token} → SpellsKind kd s r → (used used' : ℕ) (st : List Frame) → used + length s ≡ whole → used' + length r ≡ whole
-    → behind ≤ length r → next_of_kind r ≡ false → run limits s (WantKind (Some used)) st ≡ run limits r (HaveKind (Some used') kd) st
+      → behind ≤ length r → next_of_kind r ≡ false → run limits s (WantKind (Some used)) st ≡ run limits r (HaveKind (Some used') kd) st
   reads_kind_in (char p s r h) used used' st count count' inside ends =
       leading_in h used st (run limits r (HaveKind (Some used') I8) st) count (omega arith)
-          (λ one c. char_in one used' p r st c count' inside)
-          (λ one c. char_in one used' p r st c count' inside)
+      (λ one c. char_in one used' p r st c count' inside)
+      (λ one c. char_in one used' p r st c count' inside)
   reads_kind_in (unsigned_char p q r) used used' st count count' inside ends =
       let same : used' ≡ used + 1 + 1 = omega arith in
       let first = counts limits used whole behind (word w.Char q ∷ r) (omega arith) room (omega arith) in
@@ -161,8 +161,8 @@ module _ (limits : Limits) (whole behind : ℕ) (room : whole ≤ limits.tokens 
   reads_kind_in (short p s t r h i) used used' st count count' inside ends =
       let some = no_longer i in
       leading_in h used st (run limits r (HaveKind (Some used') I16) st) count (omega arith)
-          (λ one c. rw (counts limits one whole behind t (omega arith) room (omega arith)) (closing_in i I16 (one + 1) used' st (omega arith) count' inside ends))
-          (λ one c. rw (counts limits one whole behind t (omega arith) room (omega arith)) (closing_in i I16 (one + 1) used' st (omega arith) count' inside ends))
+      (λ one c. rw (counts limits one whole behind t (omega arith) room (omega arith)) (closing_in i I16 (one + 1) used' st (omega arith) count' inside ends))
+      (λ one c. rw (counts limits one whole behind t (omega arith) room (omega arith)) (closing_in i I16 (one + 1) used' st (omega arith) count' inside ends))
   reads_kind_in (unsigned_short p q t r i) used used' st count count' inside ends =
       let some = no_longer i in
       let first = counts limits used whole behind (word w.Short q ∷ t) (omega arith) room (omega arith) in

@@ -8,7 +8,7 @@ use Rattle.cas_read.specs.Machine.{is_at}
 module _ (limits : Limits) where
   -- a token of an outermost expression, whose tokens and all behind them are `whole`, and those behind it `behind`
   pub counts : (used whole behind : ℕ) (ts : List Token) → used + (1 + length ts) ≡ whole → whole ≤ limits.tokens + max behind limits.cut → behind ≤ length ts
-    → (nat_lt used limits.tokens || nat_lt (length ts) limits.cut) ≡ true
+      → (nat_lt used limits.tokens || nat_lt (length ts) limits.cut) ≡ true
   counts used whole behind ts count room inside = grind (arith, nat_tests)
 
   -- a statement that begins with this token

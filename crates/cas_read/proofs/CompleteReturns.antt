@@ -54,7 +54,7 @@ module _ (limits : Limits) where
   begun_item d items (t ∷ ts) st = go (run limits ts) (length ts) (item_started limits (nat_lt (length ts) limits.cut) (is_at limits.left_out (length ts)) d items st t.kind)
 
   pub reads_extern : {d : Bool} {s t : List Token} → SpellsExtern d s t → (items : List ItemTree) (st : List Frame) → next_item t ≡ true
-    → run limits s (InItems items) st ≡ begun_item d items t st
+      → run limits s (InItems items) st ≡ begun_item d items t st
   reads_extern (elsewhere p r) items st h = by_rest r
     where
       by_rest : (r : List Token) → run limits r (AfterExtern items) st ≡ begun_item false items r st
@@ -64,17 +64,17 @@ module _ (limits : Limits) where
   reads_extern (here (t ∷ ts)) items st h = ap (go (run limits ts) (length ts)) (by_kind (nat_lt (length ts) limits.cut) (is_at limits.left_out (length ts)) t.kind h)
     where
       by_kind : (near leaves : Bool) (kind : TokenKind) → begins_item kind ≡ true
-        → in_items limits near leaves items st kind ≡ item_started limits near leaves true items st kind
+          → in_items limits near leaves items st kind ≡ item_started limits near leaves true items st kind
       by_kind near leaves (k.Word w.Extern) h = cc
       by_kind near leaves _ h = refl
 
   begins_return : (d : Bool) (items : List ItemTree) (st : List Frame) (s : List Token) → next_of_kind s ≡ true
-    → begun_item d items s st ≡ run limits s (WantKind None) (ReturnKind d items ∷ st)
+      → begun_item d items s st ≡ run limits s (WantKind None) (ReturnKind d items ∷ st)
   begins_return d items st [] h = cc
   begins_return d items st (t ∷ ts) h = ap (go (run limits ts) (length ts)) (by_kind (nat_lt (length ts) limits.cut) (is_at limits.left_out (length ts)) t.kind h)
     where
       by_kind : (near leaves : Bool) (kind : TokenKind) → begins_kind kind ≡ true
-        → item_started limits near leaves d items st kind ≡ want_kind limits near leaves None (ReturnKind d items ∷ st) kind
+          → item_started limits near leaves d items st kind ≡ want_kind limits near leaves None (ReturnKind d items ∷ st) kind
       by_kind near leaves (k.Word w.Lock) h = cc
       by_kind near leaves (k.Word w.Shared) h = cc
       by_kind near leaves (k.Word w.Const) h = cc
@@ -82,7 +82,7 @@ module _ (limits : Limits) where
       by_kind near leaves _ h = refl
 
   reads_return_type : {ty : Ty} {x : Ident} {s r : List Token} → SpellsType limits ty s (ident x ∷ r) → (d : Bool) (items : List ItemTree) (st : List Frame)
-    → run limits s (WantKind None) (ReturnKind d items ∷ st) ≡ run limits r (FunctionName (record { defined = d; ret = ty; name = x }) items) st
+      → run limits s (WantKind None) (ReturnKind d items ∷ st) ≡ run limits r (FunctionName (record { defined = d; ret = ty; name = x }) items) st
   reads_return_type (integer kd s _ h) d items st = reads_kind limits h (ReturnKind d items ∷ st) refl
   reads_return_type (pointer kd p s _ h) d items st = reads_kind limits h (ReturnKind d items ∷ st) refl
   reads_return_type {x = x} {r = r} (pointer_to_pointer kd p q s _ out h) d items st =
@@ -95,6 +95,6 @@ module _ (limits : Limits) where
   begins_type (pointer_to_pointer kd p q s r out h) = begins_with_kind h
 
   pub reads_return : {ty : Ty} {x : Ident} {s r : List Token} → SpellsReturn limits ty s (ident x ∷ r) → (d : Bool) (items : List ItemTree) (st : List Frame)
-    → begun_item d items s st ≡ run limits r (FunctionName (record { defined = d; ret = ty; name = x }) items) st
+      → begun_item d items s st ≡ run limits r (FunctionName (record { defined = d; ret = ty; name = x }) items) st
   reads_return (no_value p _) d items st = refl
   reads_return (a_value ty s _ h) d items st = begins_return d items st s (begins_type h) ∙ reads_return_type h d items st

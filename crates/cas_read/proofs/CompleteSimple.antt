@@ -69,17 +69,17 @@ module _ (limits : Limits) where
   -- arguments
 
   starts_arguments : (caller : Caller) (st : List Frame) (s : List Token) → next_ends s ≡ false
-    → run limits s (WantArguments caller) st ≡ run limits s WantOutermost (Argument caller [] ∷ st)
+      → run limits s (WantArguments caller) st ≡ run limits s WantOutermost (Argument caller [] ∷ st)
   starts_arguments caller st [] h = refl
   starts_arguments caller st (t ∷ ts) h = ap (go (run limits ts) (length ts)) (by_kind (nat_lt (length ts) limits.cut) (is_at limits.left_out (length ts)) t.kind h)
     where
       by_kind : (near leaves : Bool) (kind : TokenKind) → is_ending kind ≡ false
-        → arguments_started limits near leaves caller st t.place kind ≡ begins_outermost limits near leaves (Argument caller [] ∷ st) t.place kind
+          → arguments_started limits near leaves caller st t.place kind ≡ begins_outermost limits near leaves (Argument caller [] ∷ st) t.place kind
       by_kind near leaves (k.Sign sg.CloseParen) h = cc
       by_kind near leaves _ h = refl
 
   reads_exprs : {bs : List ExprTree} {q : Place} {s r : List Token} → SpellsExprs limits bs s (sign sg.CloseParen q ∷ r) → (caller : Caller) (before : List ExprTree) (st : List Frame)
-    → run limits s WantOutermost (Argument caller before ∷ st) ≡ run limits r (resulted caller (before ++ bs)) st
+      → run limits s WantOutermost (Argument caller before ∷ st) ≡ run limits r (resulted caller (before ++ bs)) st
   reads_exprs {q = q} {r = r} (last_of a s _ h) caller before st = reads_outermost limits h (Argument caller before ∷ st) (run limits r (resulted caller (before ++ a ∷ [])) st) refl (λ used. refl)
   reads_exprs {q = q} {r = r} (one_of a bs p s t _ h hs) caller before st =
       reads_outermost limits h (Argument caller before ∷ st) (run limits t WantOutermost (Argument caller (before ++ a ∷ []) ∷ st)) refl (λ used. refl)
@@ -87,35 +87,35 @@ module _ (limits : Limits) where
       ∙ ap (λ all. run limits r (resulted caller all) st) (append_assoc before (a ∷ []) bs)
 
   pub reads_arguments : {bs : List ExprTree} {q : Place} {s r : List Token} → SpellsArguments limits bs s (sign sg.CloseParen q ∷ r) → (caller : Caller) (st : List Frame)
-    → run limits s (WantArguments caller) st ≡ run limits r (resulted caller bs) st
+      → run limits s (WantArguments caller) st ≡ run limits r (resulted caller bs) st
   reads_arguments (no_arguments _) caller st = refl
   reads_arguments (arguments bs s _ h) caller st = starts_arguments caller st s (exprs_no_end h) ∙ reads_exprs h caller [] st
 
   -- values
 
   behind_value : (receiver : Receiver) (x : Ident) (st : List Frame) (r : List Token) → begins_call (ident x ∷ r) ≡ false
-    → run limits r (MaybeCall 1 receiver x) st ≡ run limits r (Named 1 1 false x) (ValueOf receiver ∷ st)
+      → run limits r (MaybeCall 1 receiver x) st ≡ run limits r (Named 1 1 false x) (ValueOf receiver ∷ st)
   behind_value receiver x st [] h = refl
   behind_value receiver x st (t ∷ ts) h = ap (go (run limits ts) (length ts)) (by_kind _ _ t.kind h)
     where
       by_kind : (near leaves : Bool) (kind : TokenKind) → is_opening_paren kind ≡ false
-        → maybe_call limits near leaves 1 receiver x st kind ≡ after_operand_name limits near leaves 1 1 false x (ValueOf receiver ∷ st) kind
+          → maybe_call limits near leaves 1 receiver x st kind ≡ after_operand_name limits near leaves 1 1 false x (ValueOf receiver ∷ st) kind
       by_kind near leaves (k.Sign sg.OpenParen) h = cc
       by_kind near leaves _ h = refl
 
   goes_alike : (b : Bool) (ts : List Token) (c d : Control) (st other : List Frame) → run limits ts c st ≡ run limits ts d other
-    → go (run limits ts) (length ts) (limited b (Ok (c, st))) ≡ go (run limits ts) (length ts) (limited b (Ok (d, other)))
+      → go (run limits ts) (length ts) (limited b (Ok (c, st))) ≡ go (run limits ts) (length ts) (limited b (Ok (d, other)))
   goes_alike true ts c d st other h = h
   goes_alike false ts c d st other h = refl
 
   -- what doesn't begin as a call is read as an expression
   pub values : (receiver : Receiver) (st : List Frame) (s : List Token) → begins_call s ≡ false
-    → run limits s (WantValue receiver) st ≡ run limits s WantOutermost (ValueOf receiver ∷ st)
+      → run limits s (WantValue receiver) st ≡ run limits s WantOutermost (ValueOf receiver ∷ st)
   values receiver st [] h = refl
   values receiver st (t ∷ ts) h = by_kind t.kind h
     where
       by_kind : (kind : TokenKind) → begins_call (record { kind = kind; place = t.place } ∷ ts) ≡ false
-        → run limits (record { kind = kind; place = t.place } ∷ ts) (WantValue receiver) st ≡ run limits (record { kind = kind; place = t.place } ∷ ts) WantOutermost (ValueOf receiver ∷ st)
+          → run limits (record { kind = kind; place = t.place } ∷ ts) (WantValue receiver) st ≡ run limits (record { kind = kind; place = t.place } ∷ ts) WantOutermost (ValueOf receiver ∷ st)
       by_kind (k.Name n) h = goes_alike _ ts _ _ _ _ (behind_value receiver (record { name = n; place = t.place }) st ts h)
       by_kind _ h = refl
 
@@ -163,30 +163,30 @@ module _ (limits : Limits) where
   -- where the next token doesn't go on with a name, the name is a target
 
   is_target : (x : Ident) (st : List Frame) (r : List Token) → next_names r ≡ false
-    → run limits r (AfterName x) st ≡ run limits r (AfterTarget x.place (to_name x)) st
+      → run limits r (AfterName x) st ≡ run limits r (AfterTarget x.place (to_name x)) st
   is_target x st [] h = refl
   is_target x st (t ∷ ts) h = ap (go (run limits ts) (length ts)) (by_kind (nat_lt (length ts) limits.cut) (is_at limits.left_out (length ts)) t.kind h)
     where
       by_kind : (near leaves : Bool) (kind : TokenKind) → names kind ≡ false
-        → after_name limits near leaves x st kind ≡ after_target limits near leaves x.place (to_name x) st kind
+          → after_name limits near leaves x st kind ≡ after_target limits near leaves x.place (to_name x) st kind
       by_kind near leaves (k.Sign sg.OpenParen) h = cc
       by_kind near leaves (k.Sign sg.OpenBracket) h = cc
       by_kind near leaves (k.Sign sg.Equal) h = cc
       by_kind near leaves _ h = refl
 
   is_stepped : (q : Place) (op : BinaryOperator) (x : Ident) (st : List Frame) (r : List Token) → next_names r ≡ false
-    → run limits r (SteppedName q op x) st ≡ run limits r (HaveSimple (stepped q (to_name x) op)) st
+      → run limits r (SteppedName q op x) st ≡ run limits r (HaveSimple (stepped q (to_name x) op)) st
   is_stepped q op x st [] h = refl
   is_stepped q op x st (t ∷ ts) h = ap (go (run limits ts) (length ts)) (by_kind (nat_lt (length ts) limits.cut) (is_at limits.left_out (length ts)) t.kind h)
     where
       by_kind : (near leaves : Bool) (kind : TokenKind) → names kind ≡ false
-        → stepped_name limits near leaves q op x st kind ≡ ended (stepped q (to_name x) op) st kind
+          → stepped_name limits near leaves q op x st kind ≡ ended (stepped q (to_name x) op) st kind
       by_kind near leaves (k.Sign sg.OpenBracket) h = cc
       by_kind near leaves _ h = refl
 
   -- a target that is written
   reads_target : {target : TargetTree} {s r : List Token} → SpellsTarget limits target s r → (st : List Frame) → is_name_alone target && next_names r ≡ false
-    → begun limits s st ≡ run limits r (AfterTarget (first_place s) target) st
+      → begun limits s st ≡ run limits r (AfterTarget (first_place s) target) st
   reads_target (a_variable x r) st h = is_target x st r h
   reads_target (an_element x a p q s r ha) st h =
       reads_outermost limits ha (TargetIndex (Written x.place) x ∷ st) (run limits r (AfterTarget x.place (to_index x a)) st) refl (λ used. refl)
@@ -196,7 +196,7 @@ module _ (limits : Limits) where
 
   -- a target that an operator before it steps
   reads_stepped : {target : TargetTree} {s r : List Token} → SpellsTarget limits target s r → (q : Place) (op : BinaryOperator) (st : List Frame) → next_names r ≡ false
-    → run limits s (WantTarget q op) st ≡ run limits r (HaveSimple (stepped q target op)) st
+      → run limits s (WantTarget q op) st ≡ run limits r (HaveSimple (stepped q target op)) st
   reads_stepped (a_variable x r) q op st h = is_stepped q op x st r h
   reads_stepped (an_element x a p q' s r ha) q op st h =
       reads_outermost limits ha (TargetIndex (Stepped q op) x ∷ st) (run limits r (HaveSimple (stepped q (to_index x a) op)) st) refl (λ used. refl)
@@ -206,7 +206,7 @@ module _ (limits : Limits) where
 
   -- a value that an assignment takes
   takes_value : (p : Place) (target : TargetTree) (op : Option BinaryOperator) (a : ExprTree) (s r : List Token) → SpellsExpr limits a s r → (st : List Frame) → next_ends r ≡ true
-    → run limits s WantOutermost (AssignedTo p target op ∷ st) ≡ run limits r (HaveSimple (assign p target op a)) st
+      → run limits s WantOutermost (AssignedTo p target op ∷ st) ≡ run limits r (HaveSimple (assign p target op a)) st
   takes_value p target op a s r h st ends = reads_outermost limits h (AssignedTo p target op ∷ st) _ ends (λ used. by_rest used r)
     where
       by_rest : (used : ℕ) (r : List Token) → run limits r (Given used a) (AssignedTo p target op ∷ st) ≡ run limits r (HaveSimple (assign p target op a)) st
@@ -214,7 +214,7 @@ module _ (limits : Limits) where
       by_rest used (t ∷ ts) = refl
 
   receives : (x : Ident) (a : ExprTree) (s r : List Token) → SpellsExpr limits a s r → (st : List Frame) → next_ends r ≡ true
-    → run limits s WantOutermost (ValueOf (Assigned x) ∷ st) ≡ run limits r (HaveSimple (assign x.place (to_name x) None a)) st
+      → run limits s WantOutermost (ValueOf (Assigned x) ∷ st) ≡ run limits r (HaveSimple (assign x.place (to_name x) None a)) st
   receives x a s r h st ends = reads_outermost limits h (ValueOf (Assigned x) ∷ st) _ ends (λ used. by_rest used r)
     where
       by_rest : (used : ℕ) (r : List Token) → run limits r (Given used a) (ValueOf (Assigned x) ∷ st) ≡ run limits r (HaveSimple (assign x.place (to_name x) None a)) st
@@ -222,14 +222,14 @@ module _ (limits : Limits) where
       by_rest used (t ∷ ts) = refl
 
   changes_by : (p q : Place) (target : TargetTree) (op : BinaryOperator) (by : Sign) (t : List Token) (st : List Frame) → assigning (k.Sign by) ≡ Some op
-    → run limits (sign by p ∷ t) (AfterTarget q target) st ≡ run limits t WantOutermost (AssignedTo q target (Some op) ∷ st)
+      → run limits (sign by p ∷ t) (AfterTarget q target) st ≡ run limits t WantOutermost (AssignedTo q target (Some op) ∷ st)
   changes_by p q target op by t st h =
       let near = nat_lt (length t) limits.cut in
       let leaves_here = is_at limits.left_out (length t) in
       ap (go (run limits t) (length t)) (by_sign near leaves_here by h ∙ ap (changed_by limits near leaves_here q target st (k.Sign by)) h)
     where
       by_sign : (near leaves : Bool) (by : Sign) → assigning (k.Sign by) ≡ Some op
-        → after_target limits near leaves q target st (k.Sign by) ≡ changed_by limits near leaves q target st (k.Sign by) (assigning (k.Sign by))
+          → after_target limits near leaves q target st (k.Sign by) ≡ changed_by limits near leaves q target st (k.Sign by) (assigning (k.Sign by))
       by_sign near leaves sg.Equal h = cc
       by_sign near leaves sg.PlusPlus h = cc
       by_sign near leaves sg.MinusMinus h = cc
@@ -237,8 +237,8 @@ module _ (limits : Limits) where
 
   -- the place of a statement that writes a name is the name's
   sets_target : (target : TargetTree) (a : ExprTree) (first : Token) (p : Place) (s t r : List Token) → SpellsTarget limits target (first ∷ s) (sign sg.Equal p ∷ t)
-    → MayBeValue target t → SpellsExpr limits a t r → (st : List Frame) → next_ends r ≡ true
-    → begun limits (first ∷ s) st ≡ run limits r (HaveSimple (assign first.place target None a)) st
+      → MayBeValue target t → SpellsExpr limits a t r → (st : List Frame) → next_ends r ≡ true
+      → begun limits (first ∷ s) st ≡ run limits r (HaveSimple (assign first.place target None a)) st
   sets_target (to_name x) a first p s t r (a_variable _ _) may h st ends =
       values limits (Assigned x) st t may
       ∙ receives x a t r h st ends
@@ -254,11 +254,11 @@ module _ (limits : Limits) where
 module _ (limits : Limits) (some : 0 < limits.tokens) where
   -- behind `=`, a call is read as one
   pub calls_value : (receiver : Receiver) (f : Ident) (q : Place) (s : List Token) (st : List Frame)
-    → run limits (ident f ∷ sign sg.OpenParen q ∷ s) (WantValue receiver) st ≡ run limits s (WantArguments (Keeps receiver f)) st
+      → run limits (ident f ∷ sign sg.OpenParen q ∷ s) (WantValue receiver) st ≡ run limits s (WantArguments (Keeps receiver f)) st
   calls_value receiver f q s st = let first : nat_lt 0 limits.tokens ≡ true = grind (arith, nat_tests) in rw first
 
   pub reads_simple : {a : StmtTree} {s r : List Token} → SpellsSimple limits a s r → (st : List Frame) → next_ends r ≡ true
-    → begun limits s st ≡ run limits r (HaveSimple a) st
+      → begun limits s st ≡ run limits r (HaveSimple a) st
   reads_simple (sets target a first p s t r ht may h) st ends = sets_target limits target a first p s t r ht may h st ends
   reads_simple (changes target op by a first p s t r is ht h) st ends =
       let same = assigning_by op by is in

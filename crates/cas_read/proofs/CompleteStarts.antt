@@ -123,16 +123,16 @@ adds_all bs = adds_join bs no_more
 module _ (limits : Limits) where
   -- a statement that is allowed here begins
   pub enters : (n : ℕ) (st : List Frame) (t : Token) (ts : List Token) → AllowsDepth limits n (t ∷ ts)
-    → run limits (t ∷ ts) (WantStmt n) st ≡ go (run limits ts) (length ts) (started limits (nat_lt (length ts) limits.cut) (is_at limits.left_out (length ts)) n st t.place t.kind)
+      → run limits (t ∷ ts) (WantStmt n) st ≡ go (run limits ts) (length ts) (started limits (nat_lt (length ts) limits.cut) (is_at limits.left_out (length ts)) n st t.place t.kind)
   enters n st t ts h = rw (allows limits n t ts h)
 
   pub enters_simple : (n : ℕ) (st : List Frame) (s : List Token) → AllowsDepth limits n s → next_simple s ≡ true
-    → run limits s (WantStmt n) st ≡ begun limits s (SimpleStmt ∷ st)
+      → run limits s (WantStmt n) st ≡ begun limits s (SimpleStmt ∷ st)
   enters_simple n st [] al h = refl
   enters_simple n st (t ∷ ts) al h = enters n st t ts al ∙ ap (go (run limits ts) (length ts)) (by_kind (nat_lt (length ts) limits.cut) (is_at limits.left_out (length ts)) t.kind h)
     where
       by_kind : (near leaves : Bool) (kind : TokenKind) → begins_simple kind ≡ true
-        → started limits near leaves n st t.place kind ≡ simple_started limits near leaves (SimpleStmt ∷ st) t.place kind
+          → started limits near leaves n st t.place kind ≡ simple_started limits near leaves (SimpleStmt ∷ st) t.place kind
       by_kind near leaves (k.Word one) h = cc
       by_kind near leaves (k.Sign sg.Semicolon) h = cc
       by_kind near leaves (k.Sign sg.OpenBrace) h = cc
@@ -140,12 +140,12 @@ module _ (limits : Limits) where
 
   -- in a list, a statement begins, or a kind
   pub begins_stmt : (n : ℕ) (before : StmtList) (st : List Frame) (s : List Token) → next_none s ≡ false
-    → run limits s (InList n before) st ≡ run limits s (WantStmt n) (NextStmt n before ∷ st)
+      → run limits s (InList n before) st ≡ run limits s (WantStmt n) (NextStmt n before ∷ st)
   begins_stmt n before st [] h = cc
   begins_stmt n before st (t ∷ ts) h = ap (go (run limits ts) (length ts)) (by_kind (nat_lt (length ts) limits.cut) (is_at limits.left_out (length ts)) t.kind h)
     where
       by_kind : (near leaves : Bool) (kind : TokenKind) → begins_none kind ≡ false
-        → in_list limits near leaves n before st t.place kind ≡ nested limits near leaves n (started limits near leaves n (NextStmt n before ∷ st) t.place kind)
+          → in_list limits near leaves n before st t.place kind ≡ nested limits near leaves n (started limits near leaves n (NextStmt n before ∷ st) t.place kind)
       by_kind near leaves (k.Word w.Char) h = cc
       by_kind near leaves (k.Word w.Short) h = cc
       by_kind near leaves (k.Word w.Int) h = cc
@@ -155,7 +155,7 @@ module _ (limits : Limits) where
       by_kind near leaves _ h = refl
 
   pub begins_locals : (n : ℕ) (before : StmtList) (st : List Frame) (s : List Token) → AllowsDepth limits n s → next_of_kind s ≡ true
-    → run limits s (InList n before) st ≡ run limits s (WantKind None) (LocalsKind n before ∷ st)
+      → run limits s (InList n before) st ≡ run limits s (WantKind None) (LocalsKind n before ∷ st)
   begins_locals n before st [] al h = cc
   begins_locals n before st (t ∷ ts) al h = by_kind t.kind h
     where
@@ -163,7 +163,7 @@ module _ (limits : Limits) where
       fits = allows limits n t ts al
 
       by_kind : (kind : TokenKind) → begins_kind kind ≡ true
-        → run limits (record { kind = kind; place = t.place } ∷ ts) (InList n before) st ≡ run limits (record { kind = kind; place = t.place } ∷ ts) (WantKind None) (LocalsKind n before ∷ st)
+          → run limits (record { kind = kind; place = t.place } ∷ ts) (InList n before) st ≡ run limits (record { kind = kind; place = t.place } ∷ ts) (WantKind None) (LocalsKind n before ∷ st)
       by_kind (k.Word w.Char) h = rw fits
       by_kind (k.Word w.Short) h = rw fits
       by_kind (k.Word w.Int) h = rw fits
@@ -174,7 +174,7 @@ module _ (limits : Limits) where
   -- the parts of a `for`, and what stands behind `return`
 
   pub first_simple : (n : ℕ) (p : Place) (st : List Frame) (s : List Token) → AllowsDepth limits (n + 1) s → next_simple s ≡ true
-    → run limits s (ForFirst n p) st ≡ begun limits s (FirstSimple n p ∷ st)
+      → run limits s (ForFirst n p) st ≡ begun limits s (FirstSimple n p ∷ st)
   first_simple n p st [] al h = refl
   first_simple n p st (t ∷ ts) al h = by_kind t.kind h
     where
@@ -182,7 +182,7 @@ module _ (limits : Limits) where
       fits = allows limits (n + 1) t ts al
 
       by_kind : (kind : TokenKind) → begins_simple kind ≡ true
-        → run limits (record { kind = kind; place = t.place } ∷ ts) (ForFirst n p) st ≡ begun limits (record { kind = kind; place = t.place } ∷ ts) (FirstSimple n p ∷ st)
+          → run limits (record { kind = kind; place = t.place } ∷ ts) (ForFirst n p) st ≡ begun limits (record { kind = kind; place = t.place } ∷ ts) (FirstSimple n p ∷ st)
       by_kind (k.Word one) h = cc
       by_kind (k.Literal n kd) h = cc
       by_kind (k.Name n) h = rw fits
@@ -192,7 +192,7 @@ module _ (limits : Limits) where
       by_kind (k.Sign _) h = cc
 
   pub first_kind : (n : ℕ) (p : Place) (st : List Frame) (s : List Token) → AllowsDepth limits (n + 1) s → next_of_kind s ≡ true
-    → run limits s (ForFirst n p) st ≡ run limits s (WantKind None) (FirstKind n p ∷ st)
+      → run limits s (ForFirst n p) st ≡ run limits s (WantKind None) (FirstKind n p ∷ st)
   first_kind n p st [] al h = refl
   first_kind n p st (t ∷ ts) al h = by_kind t.kind h
     where
@@ -200,7 +200,7 @@ module _ (limits : Limits) where
       fits = allows limits (n + 1) t ts al
 
       by_kind : (kind : TokenKind) → begins_kind kind ≡ true
-        → run limits (record { kind = kind; place = t.place } ∷ ts) (ForFirst n p) st ≡ run limits (record { kind = kind; place = t.place } ∷ ts) (WantKind None) (FirstKind n p ∷ st)
+          → run limits (record { kind = kind; place = t.place } ∷ ts) (ForFirst n p) st ≡ run limits (record { kind = kind; place = t.place } ∷ ts) (WantKind None) (FirstKind n p ∷ st)
       by_kind (k.Word w.Char) h = rw fits
       by_kind (k.Word w.Short) h = rw fits
       by_kind (k.Word w.Int) h = rw fits
@@ -209,17 +209,17 @@ module _ (limits : Limits) where
       by_kind _ h = cc
 
   pub second_expr : (n : ℕ) (p : Place) (i : StmtOption) (st : List Frame) (s : List Token) → next_ends s ≡ false
-    → run limits s (ForSecond n p i) st ≡ run limits s WantOutermost (ForCondition n p i ∷ st)
+      → run limits s (ForSecond n p i) st ≡ run limits s WantOutermost (ForCondition n p i ∷ st)
   second_expr n p i st [] h = refl
   second_expr n p i st (t ∷ ts) h = ap (go (run limits ts) (length ts)) (by_kind (nat_lt (length ts) limits.cut) (is_at limits.left_out (length ts)) t.kind h)
     where
       by_kind : (near leaves : Bool) (kind : TokenKind) → is_ending kind ≡ false
-        → for_second limits near leaves n p i st t.place kind ≡ begins_outermost limits near leaves (ForCondition n p i ∷ st) t.place kind
+          → for_second limits near leaves n p i st t.place kind ≡ begins_outermost limits near leaves (ForCondition n p i ∷ st) t.place kind
       by_kind near leaves (k.Sign sg.Semicolon) h = cc
       by_kind near leaves _ h = refl
 
   pub third_simple : (n : ℕ) (p : Place) (i : StmtOption) (c : Option ExprTree) (st : List Frame) (s : List Token) → AllowsDepth limits (n + 1) s → next_simple s ≡ true
-    → run limits s (ForThird n p i c) st ≡ begun limits s (AfterSimple n p i c ∷ st)
+      → run limits s (ForThird n p i c) st ≡ begun limits s (AfterSimple n p i c ∷ st)
   third_simple n p i c st [] al h = refl
   third_simple n p i c st (t ∷ ts) al h = by_kind t.kind h
     where
@@ -227,7 +227,7 @@ module _ (limits : Limits) where
       fits = allows limits (n + 1) t ts al
 
       by_kind : (kind : TokenKind) → begins_simple kind ≡ true
-        → run limits (record { kind = kind; place = t.place } ∷ ts) (ForThird n p i c) st ≡ begun limits (record { kind = kind; place = t.place } ∷ ts) (AfterSimple n p i c ∷ st)
+          → run limits (record { kind = kind; place = t.place } ∷ ts) (ForThird n p i c) st ≡ begun limits (record { kind = kind; place = t.place } ∷ ts) (AfterSimple n p i c ∷ st)
       by_kind (k.Word one) h = cc
       by_kind (k.Literal n kd) h = cc
       by_kind (k.Name n) h = rw fits
@@ -237,11 +237,11 @@ module _ (limits : Limits) where
       by_kind (k.Sign _) h = cc
 
   pub returned_expr : (q : Place) (st : List Frame) (s : List Token) → next_ends s ≡ false
-    → run limits s (AfterReturn q) st ≡ run limits s WantOutermost (ReturnValue q ∷ st)
+      → run limits s (AfterReturn q) st ≡ run limits s WantOutermost (ReturnValue q ∷ st)
   returned_expr q st [] h = refl
   returned_expr q st (t ∷ ts) h = ap (go (run limits ts) (length ts)) (by_kind (nat_lt (length ts) limits.cut) (is_at limits.left_out (length ts)) t.kind h)
     where
       by_kind : (near leaves : Bool) (kind : TokenKind) → is_ending kind ≡ false
-        → after_return limits near leaves q st t.place kind ≡ begins_outermost limits near leaves (ReturnValue q ∷ st) t.place kind
+          → after_return limits near leaves q st t.place kind ≡ begins_outermost limits near leaves (ReturnValue q ∷ st) t.place kind
       by_kind near leaves (k.Sign sg.Semicolon) h = cc
       by_kind near leaves _ h = refl

@@ -39,55 +39,55 @@ module _ (limits : Limits) where
   -- a statement goes to what waits for it
 
   pop_then : (n : ℕ) (p : Place) (c : ExprTree) (a : StmtTree) (st : List Frame) (r : List Token) → next_else r ≡ false
-    → run limits r (HaveStmt a) (IfThen n p c ∷ st) ≡ run limits r (HaveStmt (if_ p c a absent)) st
+      → run limits r (HaveStmt a) (IfThen n p c ∷ st) ≡ run limits r (HaveStmt (if_ p c a absent)) st
   pop_then n p c a st [] h = refl
   pop_then n p c a st (t ∷ ts) h = rw (is_else-same, h)
 
   goes_else : (n : ℕ) (p : Place) (c : ExprTree) (a : StmtTree) (st : List Frame) (e : Place) (r : List Token)
-    → run limits (word w.Else e ∷ r) (HaveStmt a) (IfThen n p c ∷ st) ≡ run limits r (WantStmt (n + 1)) (IfElse p c a ∷ st)
+      → run limits (word w.Else e ∷ r) (HaveStmt a) (IfThen n p c ∷ st) ≡ run limits r (WantStmt (n + 1)) (IfElse p c a ∷ st)
   goes_else n p c a st e r = refl
 
   pop_else : (p : Place) (c : ExprTree) (a b : StmtTree) (st : List Frame) (r : List Token)
-    → run limits r (HaveStmt b) (IfElse p c a ∷ st) ≡ run limits r (HaveStmt (if_ p c a (present b))) st
+      → run limits r (HaveStmt b) (IfElse p c a ∷ st) ≡ run limits r (HaveStmt (if_ p c a (present b))) st
   pop_else p c a b st [] = refl
   pop_else p c a b st (t ∷ ts) = refl
 
   pop_while : (p : Place) (c : ExprTree) (a : StmtTree) (st : List Frame) (r : List Token)
-    → run limits r (HaveStmt a) (WhileBody p c ∷ st) ≡ run limits r (HaveStmt (while_ p c a)) st
+      → run limits r (HaveStmt a) (WhileBody p c ∷ st) ≡ run limits r (HaveStmt (while_ p c a)) st
   pop_while p c a st [] = refl
   pop_while p c a st (t ∷ ts) = refl
 
   pop_for : (p : Place) (i : StmtOption) (c : Option ExprTree) (x : StmtOption) (a : StmtTree) (st : List Frame) (r : List Token)
-    → run limits r (HaveStmt a) (ForBody p i c x ∷ st) ≡ run limits r (HaveStmt (for_ p i c x a)) st
+      → run limits r (HaveStmt a) (ForBody p i c x ∷ st) ≡ run limits r (HaveStmt (for_ p i c x a)) st
   pop_for p i c x a st [] = refl
   pop_for p i c x a st (t ∷ ts) = refl
 
   pop_next : (n : ℕ) (before : StmtList) (a : StmtTree) (st : List Frame) (r : List Token)
-    → run limits r (HaveStmt a) (NextStmt n before ∷ st) ≡ run limits r (InList n (snoc before a)) st
+      → run limits r (HaveStmt a) (NextStmt n before ∷ st) ≡ run limits r (InList n (snoc before a)) st
   pop_next n before a st [] = refl
   pop_next n before a st (t ∷ ts) = refl
 
   starts_locals : (n : ℕ) (kd : Kind) (before : StmtList) (st : List Frame) (r : List Token)
-    → run limits r (HaveKind None kd) (LocalsKind n before ∷ st) ≡ run limits r (WantLocal kd) (Locals n kd before ∷ st)
+      → run limits r (HaveKind None kd) (LocalsKind n before ∷ st) ≡ run limits r (WantLocal kd) (Locals n kd before ∷ st)
   starts_locals n kd before st [] = refl
   starts_locals n kd before st (t ∷ ts) = refl
 
   starts_local : (n : ℕ) (p : Place) (kd : Kind) (st : List Frame) (r : List Token)
-    → run limits r (HaveKind None kd) (FirstKind n p ∷ st) ≡ run limits r (WantLocal kd) (FirstLocal n p ∷ st)
+      → run limits r (HaveKind None kd) (FirstKind n p ∷ st) ≡ run limits r (WantLocal kd) (FirstLocal n p ∷ st)
   starts_local n p kd st [] = refl
   starts_local n p kd st (t ∷ ts) = refl
 
   -- expressions that may be absent
 
   reads_second : {c : Option ExprTree} {q : Place} {s r : List Token} → SpellsOptional limits c s (sign sg.Semicolon q ∷ r) → (n : ℕ) (p : Place) (i : StmtOption) (st : List Frame)
-    → run limits s (ForSecond n p i) st ≡ run limits r (ForThird n p i c) st
+      → run limits s (ForSecond n p i) st ≡ run limits r (ForThird n p i c) st
   reads_second (no_expr _) n p i st = refl
   reads_second {r = r} (an_expr a s _ h) n p i st =
       second_expr limits n p i st s (expr_no_end h)
       ∙ reads_outermost limits h (ForCondition n p i ∷ st) (run limits r (ForThird n p i (Some a)) st) refl (λ used. refl)
 
   reads_returned : {a : Option ExprTree} {q : Place} {s r : List Token} → SpellsOptional limits a s (sign sg.Semicolon q ∷ r) → (p : Place) (st : List Frame)
-    → run limits s (AfterReturn p) st ≡ run limits r (HaveStmt (return_ p a)) st
+      → run limits s (AfterReturn p) st ≡ run limits r (HaveStmt (return_ p a)) st
   reads_returned (no_expr _) p st = refl
   reads_returned {r = r} (an_expr a s _ h) p st =
       returned_expr limits p st s (expr_no_end h)
@@ -97,7 +97,7 @@ module _ (limits : Limits) (some : 0 < limits.tokens) where
   -- the parts of a `for`
 
   reads_first : (n : ℕ) {i : StmtOption} {q : Place} {s r : List Token} → SpellsFirst limits (n + 1) i s (sign sg.Semicolon q ∷ r) → (p : Place) (st : List Frame)
-    → run limits s (ForFirst n p) st ≡ run limits r (ForSecond n p i) st
+      → run limits s (ForFirst n p) st ≡ run limits r (ForSecond n p i) st
   reads_first n (nothing_first _) p st = refl
   reads_first n (simple_first a s _ al h) p st =
       first_simple limits n p st s al (simple_begins h)
@@ -109,7 +109,7 @@ module _ (limits : Limits) (some : 0 < limits.tokens) where
       ∙ reads_local limits some h (FirstLocal n p ∷ st) refl
 
   reads_third : (n : ℕ) {x : StmtOption} {q : Place} {s r : List Token} → SpellsAfter limits (n + 1) x s (sign sg.CloseParen q ∷ r) → (p : Place) (i : StmtOption) (c : Option ExprTree) (st : List Frame)
-    → run limits s (ForThird n p i c) st ≡ run limits r (WantStmt (n + 1)) (ForBody p i c x ∷ st)
+      → run limits s (ForThird n p i c) st ≡ run limits r (WantStmt (n + 1)) (ForBody p i c x ∷ st)
   reads_third n (nothing_after _) p i c st = refl
   reads_third n (simple_after a s _ al h) p i c st =
       third_simple limits n p i c st s al (simple_begins h)
@@ -117,9 +117,9 @@ module _ (limits : Limits) (some : 0 < limits.tokens) where
 
   -- locals, and what comes of the statements behind them
   reads_locals : {kd : Kind} {bs rest : StmtList} {q : Place} {s v : List Token} → SpellsLocals limits kd bs rest s (sign sg.Semicolon q ∷ v)
-    → (n : ℕ) (before : StmtList) (st : List Frame) (r : List Token)
-    → ((all : StmtList) → run limits v (InList n all) st ≡ run limits r (InList n (adds all rest)) st)
-    → run limits s (WantLocal kd) (Locals n kd before ∷ st) ≡ run limits r (InList n (adds before bs)) st
+      → (n : ℕ) (before : StmtList) (st : List Frame) (r : List Token)
+      → ((all : StmtList) → run limits v (InList n all) st ≡ run limits r (InList n (adds all rest)) st)
+      → run limits s (WantLocal kd) (Locals n kd before ∷ st) ≡ run limits r (InList n (adds before bs)) st
   reads_locals {kd = kd} (last_local a rest s _ h) n before st r on =
       reads_local limits some h (Locals n kd before ∷ st) refl
       ∙ on (snoc before a)
@@ -129,7 +129,7 @@ module _ (limits : Limits) (some : 0 < limits.tokens) where
 
   mutual
     pub reads_stmt : {n : ℕ} {a : StmtTree} {s r : List Token} → SpellsStmt limits n a s r → (st : List Frame) → Ends a r
-      → run limits s (WantStmt n) st ≡ run limits r (HaveStmt a) st
+        → run limits s (WantStmt n) st ≡ run limits r (HaveStmt a) st
     reads_stmt (skips n p r al) st ends = enters limits n st (sign sg.Semicolon p) r al
     reads_stmt (blocks n bs p q s r al h) st ends =
         enters limits n st (sign sg.OpenBrace p) s al
@@ -176,7 +176,7 @@ module _ (limits : Limits) (some : 0 < limits.tokens) where
         ∙ reads_outermost limits h (PrintValue p ∷ st) (run limits r (HaveStmt (print p a)) st) refl (λ used. refl)
 
     pub reads_stmts : {n : ℕ} {bs : StmtList} {s r : List Token} → SpellsStmts limits n bs s r → (before : StmtList) (st : List Frame) → next_else r ≡ false
-      → run limits s (InList n before) st ≡ run limits r (InList n (adds before bs)) st
+        → run limits s (InList n before) st ≡ run limits r (InList n (adds before bs)) st
     reads_stmts (ended n r) before st ends = refl
     reads_stmts (a_stmt n a bs s t r ha hbs) before st ends =
         begins_stmt limits n before st s (stmt_begins ha)
