@@ -12,8 +12,8 @@ use Rattle.cas_syntax.specs.Limits.{Limits}
 use Rattle.cas_syntax.specs.Tokens.{sign}
 use Rattle.cas_syntax.specs.Items.{SpellsValue, as_it_is, negative, SpellsValues, last_value, last_value_and_comma, one_value, SpellsCells, one_cell, one_cell_with_value, cells, cells_with_values, arrays}
 use Rattle.cas_read.specs.Frames.{Sort, Data, Frame, CellsKind, HaveKind, InItems, CellValue, WantCells, HaveCells, MoreCells, CellsEnd}
-use Rattle.cas_read.specs.Machine.{cells as cells_item, run}
-use Rattle.cas_read.proofs.CompleteKinds.{next_of_kind}
+use Rattle.cas_read.specs.Machine.{cells as cells_item, run, begins_kind}
+use Rattle.cas_read.proofs.CompleteNext.{next_is}
 use Rattle.cas_read.proofs.CompleteLimits.{leaves}
 
 module _ (limits : Limits) where
@@ -57,6 +57,6 @@ module _ (limits : Limits) where
   reads_cells {d = d} {kd = kd} (cells_with_values x n j vs p o q e f g s _ is h) sort items st = rw is (reads_values h sort true x n [] items st)
   reads_cells {e = e} {r = r} (arrays x n j p o q q' _ out) sort items st = rw (leaves limits (sign sg.Semicolon e ∷ r) out)
 
-pub cells_no_kind : {limits : Limits} {d : Bool} {kd : Kind} {x : Ident} {ty : Ty} {vs : List ℕ} {s r : List Token} → SpellsCells limits d kd x ty vs s r → next_of_kind s ≡ false
+pub cells_no_kind : {limits : Limits} {d : Bool} {kd : Kind} {x : Ident} {ty : Ty} {vs : List ℕ} {s r : List Token} → SpellsCells limits d kd x ty vs s r → next_is begins_kind s ≡ false
 cells_no_kind (one_cell x r) = refl
 cells_no_kind _ = refl

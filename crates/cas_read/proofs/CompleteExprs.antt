@@ -1,5 +1,5 @@
 -- What is spelled as an expression is read as it.
-use Rattle.std.proofs.Common.{◌≡◌, ℕ, ◌+◌, ◌-◌, ◌*◌, ◌≤◌, ◌<◌, ◌||◌, max, Bool, true, false, nat_le, nat_lt, List, [], ◌∷◌, length, Some, Ok, arith, refl, ap, ◌∙◌}
+use Rattle.std.proofs.Common.{◌≡◌, ℕ, ◌+◌, ◌-◌, ◌*◌, ◌≤◌, ◌<◌, ◌||◌, max, Bool, true, false, nat_le, nat_lt, List, [], ◌∷◌, length, Some, Ok, arith, refl, ◌∙◌}
 use Rattle.std.proofs.lemmas.Bool.Decides.{nat_tests}
 use Rattle.cas_base.specs.declared.kind.Kind.{Kind}
 use Rattle.cas_base.specs.declared.place.Place.{Place}
@@ -18,9 +18,10 @@ use Rattle.cas_syntax.specs.Limits.{Limits}
 use Rattle.cas_syntax.specs.Tokens.{sign, ident}
 use Rattle.cas_syntax.specs.Expressions.{Spells, a_literal, a_name, an_element, in_parentheses, an_operand_of, what_is_pointed_to, an_address, an_address_of_element, a_cast, two_operands, a_choice, a_call, a_call_of_address, SpellsExpr, outermost}
 use Rattle.cas_read.specs.Frames.{Frame, Before, Right, InParens, InBrackets, Then, Otherwise, Prefix, Operates, Points, Casts, WantExpr, HaveExpr, Given, WantOutermost, Named, Opened, CastKind, WantKind, HaveKind}
-use Rattle.cas_read.specs.Machine.{binds, infix_of, named, bracketed, prefixed, after_operand_name, have, down, operand, shift, run, go, Verdict}
+use Rattle.cas_read.specs.Machine.{binds, infix_of, named, bracketed, prefixed, after_operand_name, have, down, operand, shift, run, Verdict, begins_kind}
+use Rattle.cas_read.proofs.CompleteNext.{next_is, next_is-not, alike}
 use Rattle.cas_read.proofs.CompleteLimits.{counts, leaves}
-use Rattle.cas_read.proofs.CompleteKinds.{next_of_kind, shorter_kind, begins_with_kind, reads_kind_in}
+use Rattle.cas_read.proofs.CompleteKinds.{shorter_kind, begins_with_kind, reads_kind_in}
 
 -- how tightly the next token binds
 abbrev pub next_binds : List Token → ℕ
@@ -33,10 +34,6 @@ is_opening (k.Sign sg.OpenParen) = true
 is_opening kind = false
 
 -- whether the next token goes on with a name
-abbrev pub next_opens : List Token → Bool
-next_opens [] = false
-next_opens (t ∷ ts) = is_opening t.kind
-
 pub level_at_most : (op : Infix) → level op ≤ 11
 level_at_most logical_or = omega arith
 level_at_most logical_and = omega arith
@@ -107,16 +104,15 @@ module _ (limits : Limits) where
   shorter (a_call_of_address l x o p r out) = omega arith
 
   -- where the next token doesn't go on with a name, the name is an operand
-  pub rests : (used l : ℕ) (taken : Bool) (x : Ident) (st : List Frame) (r : List Token) → next_opens r ≡ false
+  pub rests : (used l : ℕ) (taken : Bool) (x : Ident) (st : List Frame) (r : List Token) → next_is is_opening r ≡ false
       → run limits r (Named used l taken x) st ≡ run limits r (HaveExpr used l (named taken x)) st
-  rests used l taken x st [] h = refl
-  rests used l taken x st (t ∷ ts) h = ap (go (run limits ts) (length ts)) (by_kind _ _ t.kind h)
+  rests used l taken x st r h = alike limits is_opening false (Named used l taken x) (HaveExpr used l (named taken x)) st st refl by_kind r h
     where
-      by_kind : (near leaves : Bool) (kind : TokenKind) → is_opening kind ≡ false
+      by_kind : (near leaves : Bool) (place : Place) (kind : TokenKind) → is_opening kind ≡ false
           → after_operand_name limits near leaves used l taken x st kind ≡ have limits near leaves used l (named taken x) st kind
-      by_kind near leaves (k.Sign sg.OpenBracket) h = cc
-      by_kind near leaves (k.Sign sg.OpenParen) h = cc
-      by_kind near leaves _ h = refl
+      by_kind near leaves place (k.Sign sg.OpenBracket) h = cc
+      by_kind near leaves place (k.Sign sg.OpenParen) h = cc
+      by_kind near leaves place _ h = refl
 
   -- where the next token doesn't bind so tightly, an expression goes to what waits for it
   pub falls : (near leaves : Bool) (used l : ℕ) (x : ExprTree) (st : List Frame) (t : Token) → binds t.kind < l
@@ -140,17 +136,17 @@ module _ (limits : Limits) where
 
   -- behind `(` stands a kind, or an expression
 
-  pub opens_parentheses : (used l : ℕ) (st : List Frame) (s : List Token) → next_of_kind s ≡ false
+  pub opens_parentheses : (used l : ℕ) (st : List Frame) (s : List Token) → next_is begins_kind s ≡ false
       → run limits s (Opened used l) st ≡ run limits s (WantExpr used 1) (InParens l ∷ st)
   opens_parentheses used l st [] h = refl
   opens_parentheses used l st (t ∷ ts) h = rw h
 
-  pub opens_cast : (used l : ℕ) (st : List Frame) (s : List Token) → next_of_kind s ≡ true
+  pub opens_cast : (used l : ℕ) (st : List Frame) (s : List Token) → next_is begins_kind s ≡ true
       → run limits s (Opened used l) st ≡ run limits s (WantKind (Some used)) (CastKind l ∷ st)
   opens_cast used l st [] h = refl
   opens_cast used l st (t ∷ ts) h = rw h
 
-  pub begins_no_kind : {m : ℕ} {a : ExprTree} {s r : List Token} → Spells limits m a s r → next_of_kind s ≡ false
+  pub begins_no_kind : {m : ℕ} {a : ExprTree} {s r : List Token} → Spells limits m a s r → next_is begins_kind s ≡ false
   begins_no_kind (two_operands l op a b p s t r le ha hb) = begins_no_kind ha
   begins_no_kind (a_choice l c a b p q s t u r le hc ha hb) = begins_no_kind hc
   begins_no_kind _ = refl
@@ -195,7 +191,7 @@ module _ (limits : Limits) (whole behind : ℕ) (room : whole ≤ limits.tokens 
   closes_brackets used l taken x a st q r c = rw c
 
   pub reads : {m : ℕ} {a : ExprTree} {s r : List Token} → Spells limits m a s r → (used used' l : ℕ) (st : List Frame) → used + length s ≡ whole
-      → used' + length r ≡ whole → behind ≤ length r → 1 ≤ l → l ≤ m → next_binds r ≤ m → next_binds r + 2 ≤ 2 * m → next_opens r ≡ false
+      → used' + length r ≡ whole → behind ≤ length r → 1 ≤ l → l ≤ m → next_binds r ≤ m → next_binds r + 2 ≤ 2 * m → next_is is_opening r ≡ false
       → run limits s (WantExpr used l) st ≡ run limits r (HaveExpr used' l a) st
   reads (a_literal m n kd p r) used used' l st count count' inside least below most stops ends =
       let same : used' ≡ used + 1 = omega arith in
@@ -296,10 +292,6 @@ is_ending (k.Sign sg.CloseParen) = true
 is_ending (k.Sign sg.CloseBracket) = true
 is_ending kind = false
 
-abbrev pub next_ends : List Token → Bool
-next_ends [] = false
-next_ends (t ∷ ts) = is_ending t.kind
-
 ending_binds : (kind : TokenKind) → is_ending kind ≡ true → binds kind ≡ 0
 ending_binds (k.Sign sg.Semicolon) h = refl
 ending_binds (k.Sign sg.Comma) h = refl
@@ -312,13 +304,12 @@ ending_opens (k.Sign sg.OpenParen) h = cc
 ending_opens (k.Sign sg.OpenBracket) h = cc
 ending_opens _ h = refl
 
-pub ends-binds : (r : List Token) → next_ends r ≡ true → next_binds r ≡ 0
+pub ends-binds : (r : List Token) → next_is is_ending r ≡ true → next_binds r ≡ 0
 ends-binds [] h = refl
 ends-binds (t ∷ ts) h = ending_binds t.kind h
 
-pub ends-opens : (r : List Token) → next_ends r ≡ true → next_opens r ≡ false
-ends-opens [] h = refl
-ends-opens (t ∷ ts) h = ending_opens t.kind h
+pub ends-opens : (r : List Token) → next_is is_ending r ≡ true → next_is is_opening r ≡ false
+ends-opens r h = next_is-not is_ending is_opening ending_opens r h
 
 module _ (limits : Limits) where
   begins_outermost : (st : List Frame) (s : List Token) → run limits s WantOutermost st ≡ run limits s (WantExpr 0 1) st
@@ -330,7 +321,7 @@ module _ (limits : Limits) where
   gives used a st (t ∷ ts) h = let below : binds t.kind < 1 = omega arith in rw (falls limits _ _ used 1 a st t below)
 
   -- what comes of an outermost expression comes of its tokens
-  pub reads_outermost : {a : ExprTree} {s r : List Token} → SpellsExpr limits a s r → (st : List Frame) (V : Verdict) → next_ends r ≡ true
+  pub reads_outermost : {a : ExprTree} {s r : List Token} → SpellsExpr limits a s r → (st : List Frame) (V : Verdict) → next_is is_ending r ≡ true
       → ((used : ℕ) → run limits r (Given used a) st ≡ V) → run limits s WantOutermost st ≡ V
   reads_outermost (outermost a s r room h) st V ends on =
       let shrinks = shorter limits h in

@@ -1,5 +1,5 @@
 -- What is spelled as a function up to its body is read as it.
-use Rattle.std.proofs.Common.{◌≡◌, Bool, true, false, nat_lt, List, [], ◌∷◌, ◌++◌, length, Option, refl, ap, ◌∙◌, append_assoc}
+use Rattle.std.proofs.Common.{◌≡◌, Bool, true, false, List, [], ◌∷◌, ◌++◌, Option, refl, ap, ◌∙◌, append_assoc}
 use Rattle.cas_base.specs.declared.decl.Form.{Form}
 use Rattle.cas_base.specs.declared.decl.Form.TheVariants as form
 use Rattle.cas_base.specs.declared.kind.Ty.{Ty}
@@ -15,30 +15,26 @@ use Rattle.cas_syntax.specs.Limits.{Limits}
 use Rattle.cas_syntax.specs.Tokens.{sign}
 use Rattle.cas_syntax.specs.Items.{SpellsNames, last_name, one_name, SpellsHolds, none_held, held, names_alone, places_alone, SpellsHead, head}
 use Rattle.cas_read.specs.Frames.{Opening, Frame, AfterParameters, WantHeld, AfterHead}
-use Rattle.cas_read.specs.Machine.{is_at, after_parameters, after_head, run, go}
+use Rattle.cas_read.specs.Machine.{after_parameters, after_head, run}
+use Rattle.cas_read.proofs.CompleteNext.{next_is, alike}
 use Rattle.cas_read.proofs.CompleteLimits.{leaves}
-use Rattle.cas_read.proofs.CompleteReturns.{begun_item, reads_return, return_item, next_item}
+use Rattle.cas_read.proofs.CompleteReturns.{begins_item, begun_item, reads_return, return_item}
 use Rattle.cas_read.proofs.CompleteParameters.{reads_parameters}
 
 -- whether the next token begins the locks that a function's caller holds
-abbrev a_hold : TokenKind → Bool
+abbrev pub a_hold : TokenKind → Bool
 a_hold (k.Word w.Holds) = true
 a_hold kind = false
 
-abbrev pub next_holds : List Token → Bool
-next_holds [] = false
-next_holds (t ∷ ts) = a_hold t.kind
-
 module _ (limits : Limits) where
-  no_holds : (o : Opening) (tys : List Ty) (xs : List (Option Ident)) (items : List ItemTree) (st : List Frame) (r : List Token) → next_holds r ≡ false
+  no_holds : (o : Opening) (tys : List Ty) (xs : List (Option Ident)) (items : List ItemTree) (st : List Frame) (r : List Token) → next_is a_hold r ≡ false
       → run limits r (AfterParameters o tys xs items) st ≡ run limits r (AfterHead o.name (form.Function o.ret tys []) o.defined xs [] items) st
-  no_holds o tys xs items st [] h = refl
-  no_holds o tys xs items st (t ∷ ts) h = ap (go (run limits ts) (length ts)) (by_kind (nat_lt (length ts) limits.cut) (is_at limits.left_out (length ts)) t.kind h)
+  no_holds o tys xs items st r h = alike limits a_hold false (AfterParameters o tys xs items) (AfterHead o.name (form.Function o.ret tys []) o.defined xs [] items) st st refl by_kind r h
     where
-      by_kind : (near leaves : Bool) (kind : TokenKind) → a_hold kind ≡ false
+      by_kind : (near leaves : Bool) (place : Place) (kind : TokenKind) → a_hold kind ≡ false
           → after_parameters limits near leaves o tys xs items st kind ≡ after_head limits near leaves o.name (form.Function o.ret tys []) o.defined xs [] items st kind
-      by_kind near leaves (k.Word w.Holds) h = cc
-      by_kind near leaves _ h = refl
+      by_kind near leaves place (k.Word w.Holds) h = cc
+      by_kind near leaves place _ h = refl
 
   reads_names : {hs : List Ident} {q : Place} {s r : List Token} → SpellsNames hs s (sign sg.CloseParen q ∷ r)
       → (o : Opening) (tys : List Ty) (xs : List (Option Ident)) (before : List Ident) (items : List ItemTree) (st : List Frame)
@@ -48,17 +44,17 @@ module _ (limits : Limits) where
       reads_names h o tys xs (before ++ x ∷ []) items st
       ∙ ap (λ all. run limits r (AfterHead o.name (form.Function o.ret tys (names_alone all)) o.defined xs (places_alone all) items) st) (append_assoc before (x ∷ []) hs)
 
-  reads_holds : {hs : List Ident} {s r : List Token} → SpellsHolds hs s r → (o : Opening) (tys : List Ty) (xs : List (Option Ident)) (items : List ItemTree) (st : List Frame) → next_holds r ≡ false
+  reads_holds : {hs : List Ident} {s r : List Token} → SpellsHolds hs s r → (o : Opening) (tys : List Ty) (xs : List (Option Ident)) (items : List ItemTree) (st : List Frame) → next_is a_hold r ≡ false
       → run limits s (AfterParameters o tys xs items) st ≡ run limits r (AfterHead o.name (form.Function o.ret tys (names_alone hs)) o.defined xs (places_alone hs) items) st
   reads_holds (none_held r) o tys xs items st ends = no_holds o tys xs items st r ends
   reads_holds (held hs p q q' s r h) o tys xs items st ends = reads_names h o tys xs [] items st
 
-  pub reads_head : {x : Ident} {f : Form} {xs : List (Option Ident)} {hs : List Place} {s r : List Token} → SpellsHead limits x f xs hs s r → (d : Bool) (items : List ItemTree) (st : List Frame) → next_holds r ≡ false
+  pub reads_head : {x : Ident} {f : Form} {xs : List (Option Ident)} {hs : List Place} {s r : List Token} → SpellsHead limits x f xs hs s r → (d : Bool) (items : List ItemTree) (st : List Frame) → next_is a_hold r ≡ false
       → begun_item limits d items s st ≡ run limits r (AfterHead x f d xs hs items) st
   reads_head (head x ret tys xs holds p q s t v r hret hparams hholds) d items st ends =
       reads_return limits hret d items st
       ∙ reads_parameters limits hparams (record { defined = d; ret = ret; name = x }) items st
       ∙ reads_holds hholds (record { defined = d; ret = ret; name = x }) tys xs items st ends
 
-pub head_item : {limits : Limits} {x : Ident} {f : Form} {xs : List (Option Ident)} {hs : List Place} {s r : List Token} → SpellsHead limits x f xs hs s r → next_item s ≡ true
+pub head_item : {limits : Limits} {x : Ident} {f : Form} {xs : List (Option Ident)} {hs : List Place} {s r : List Token} → SpellsHead limits x f xs hs s r → next_is begins_item s ≡ true
 head_item (head x ret tys xs holds p q s t v r hret hparams hholds) = return_item hret

@@ -1,5 +1,5 @@
 -- What is spelled as a kind is read as it.
-use Rattle.std.proofs.Common.{◌≡◌, ℕ, ◌+◌, ◌≤◌, ◌<◌, max, Bool, true, false, List, [], ◌∷◌, length, Option, Some, None, arith, refl, ap}
+use Rattle.std.proofs.Common.{◌≡◌, ℕ, ◌+◌, ◌≤◌, ◌<◌, max, Bool, true, false, List, ◌∷◌, length, Option, Some, None, arith, refl}
 use Rattle.cas_base.specs.declared.kind.Kind.{Kind}
 use Rattle.cas_base.specs.declared.kind.Kind.TheVariants.{I8, I16, U16, I32, U32}
 use Rattle.cas_base.specs.declared.place.Place.{Place}
@@ -12,14 +12,11 @@ use Rattle.cas_syntax.specs.Limits.{Limits}
 use Rattle.cas_syntax.specs.Tokens.{word}
 use Rattle.cas_syntax.specs.Expressions.{Perhaps, without, with_it, SpellsKind, char, unsigned_char, short, unsigned_short, int, signed, unsigned}
 use Rattle.cas_read.specs.Frames.{Frame, WantKind, HaveKind, Signed, Unsigned, MayEndInt}
-use Rattle.cas_read.specs.Machine.{begins_kind, after_signed, after_unsigned, may_end_int, down_kind, run, go, Verdict}
+use Rattle.cas_read.specs.Machine.{begins_kind, after_signed, after_unsigned, may_end_int, down_kind, run, Verdict}
+use Rattle.cas_read.proofs.CompleteNext.{next_is, alike}
 use Rattle.cas_read.proofs.CompleteLimits.{counts}
 
 -- whether the next token is a word of a kind
-abbrev pub next_of_kind : List Token → Bool
-next_of_kind [] = false
-next_of_kind (t ∷ ts) = begins_kind t.kind
-
 pub no_longer : {w : Word} {s r : List Token} → Perhaps w s r → length r ≤ length s
 no_longer (without r) = omega arith
 no_longer (with_it p r) = omega arith
@@ -33,15 +30,15 @@ shorter_kind (int p r) = omega arith
 shorter_kind (signed p t r i) = let one = no_longer i in omega arith
 shorter_kind (unsigned p t r i) = let one = no_longer i in omega arith
 
-pub begins_with_kind : {kd : Kind} {s r : List Token} → SpellsKind kd s r → next_of_kind s ≡ true
+pub begins_with_kind : {kd : Kind} {s r : List Token} → SpellsKind kd s r → next_is begins_kind s ≡ true
 begins_with_kind (char p s r h) = leads h refl
   where
-    leads : {s v : List Token} → Perhaps w.Signed s v → next_of_kind v ≡ true → next_of_kind s ≡ true
+    leads : {s v : List Token} → Perhaps w.Signed s v → next_is begins_kind v ≡ true → next_is begins_kind s ≡ true
     leads (without r) h = h
     leads (with_it p r) h = refl
 begins_with_kind (short p s t r h i) = leads h refl
   where
-    leads : {s v : List Token} → Perhaps w.Signed s v → next_of_kind v ≡ true → next_of_kind s ≡ true
+    leads : {s v : List Token} → Perhaps w.Signed s v → next_is begins_kind v ≡ true → next_is begins_kind s ≡ true
     leads (without r) h = h
     leads (with_it p r) h = refl
 begins_with_kind _ = refl
@@ -49,36 +46,33 @@ begins_with_kind _ = refl
 module _ (limits : Limits) where
   -- where no further word of a kind stands, the kind is whole
 
-  pub ends_signed : (c : Option ℕ) (st : List Frame) (r : List Token) → next_of_kind r ≡ false → run limits r (Signed c) st ≡ run limits r (HaveKind c I32) st
-  ends_signed c st [] h = refl
-  ends_signed c st (t ∷ ts) h = ap (go (run limits ts) (length ts)) (by_kind _ _ t.kind h)
+  pub ends_signed : (c : Option ℕ) (st : List Frame) (r : List Token) → next_is begins_kind r ≡ false → run limits r (Signed c) st ≡ run limits r (HaveKind c I32) st
+  ends_signed c st r h = alike limits begins_kind false (Signed c) (HaveKind c I32) st st refl by_kind r h
     where
-      by_kind : (near leaves : Bool) (kind : TokenKind) → begins_kind kind ≡ false
-          → after_signed limits near leaves c st t.place kind ≡ down_kind limits near leaves c I32 st t.place kind
-      by_kind near leaves (k.Word w.Char) h = cc
-      by_kind near leaves (k.Word w.Short) h = cc
-      by_kind near leaves (k.Word w.Int) h = cc
-      by_kind near leaves _ h = refl
+      by_kind : (near leaves : Bool) (place : Place) (kind : TokenKind) → begins_kind kind ≡ false
+          → after_signed limits near leaves c st place kind ≡ down_kind limits near leaves c I32 st place kind
+      by_kind near leaves place (k.Word w.Char) h = cc
+      by_kind near leaves place (k.Word w.Short) h = cc
+      by_kind near leaves place (k.Word w.Int) h = cc
+      by_kind near leaves place _ h = refl
 
-  pub ends_unsigned : (c : Option ℕ) (st : List Frame) (r : List Token) → next_of_kind r ≡ false → run limits r (Unsigned c) st ≡ run limits r (HaveKind c U32) st
-  ends_unsigned c st [] h = refl
-  ends_unsigned c st (t ∷ ts) h = ap (go (run limits ts) (length ts)) (by_kind _ _ t.kind h)
+  pub ends_unsigned : (c : Option ℕ) (st : List Frame) (r : List Token) → next_is begins_kind r ≡ false → run limits r (Unsigned c) st ≡ run limits r (HaveKind c U32) st
+  ends_unsigned c st r h = alike limits begins_kind false (Unsigned c) (HaveKind c U32) st st refl by_kind r h
     where
-      by_kind : (near leaves : Bool) (kind : TokenKind) → begins_kind kind ≡ false
-          → after_unsigned limits near leaves c st t.place kind ≡ down_kind limits near leaves c U32 st t.place kind
-      by_kind near leaves (k.Word w.Char) h = cc
-      by_kind near leaves (k.Word w.Short) h = cc
-      by_kind near leaves (k.Word w.Int) h = cc
-      by_kind near leaves _ h = refl
+      by_kind : (near leaves : Bool) (place : Place) (kind : TokenKind) → begins_kind kind ≡ false
+          → after_unsigned limits near leaves c st place kind ≡ down_kind limits near leaves c U32 st place kind
+      by_kind near leaves place (k.Word w.Char) h = cc
+      by_kind near leaves place (k.Word w.Short) h = cc
+      by_kind near leaves place (k.Word w.Int) h = cc
+      by_kind near leaves place _ h = refl
 
-  pub ends_int : (c : Option ℕ) (kd : Kind) (st : List Frame) (r : List Token) → next_of_kind r ≡ false → run limits r (MayEndInt c kd) st ≡ run limits r (HaveKind c kd) st
-  ends_int c kd st [] h = refl
-  ends_int c kd st (t ∷ ts) h = ap (go (run limits ts) (length ts)) (by_kind _ _ t.kind h)
+  pub ends_int : (c : Option ℕ) (kd : Kind) (st : List Frame) (r : List Token) → next_is begins_kind r ≡ false → run limits r (MayEndInt c kd) st ≡ run limits r (HaveKind c kd) st
+  ends_int c kd st r h = alike limits begins_kind false (MayEndInt c kd) (HaveKind c kd) st st refl by_kind r h
     where
-      by_kind : (near leaves : Bool) (kind : TokenKind) → begins_kind kind ≡ false
-          → may_end_int limits near leaves c kd st t.place kind ≡ down_kind limits near leaves c kd st t.place kind
-      by_kind near leaves (k.Word w.Int) h = cc
-      by_kind near leaves _ h = refl
+      by_kind : (near leaves : Bool) (place : Place) (kind : TokenKind) → begins_kind kind ≡ false
+          → may_end_int limits near leaves c kd st place kind ≡ down_kind limits near leaves c kd st place kind
+      by_kind near leaves place (k.Word w.Int) h = cc
+      by_kind near leaves place _ h = refl
 
   -- kinds outside of expressions, whose tokens aren't counted
 
@@ -87,22 +81,22 @@ module _ (limits : Limits) where
   leading (without r) st V one two = one
   leading (with_it p r) st V one two = two
 
-  closing : {t r : List Token} → Perhaps w.Int t r → (kd : Kind) (st : List Frame) → next_of_kind r ≡ false
+  closing : {t r : List Token} → Perhaps w.Int t r → (kd : Kind) (st : List Frame) → next_is begins_kind r ≡ false
       → run limits t (MayEndInt None kd) st ≡ run limits r (HaveKind None kd) st
   closing (without r) kd st ends = ends_int None kd st r ends
   closing (with_it p r) kd st ends = refl
 
-  after_signed_word : {t r : List Token} → Perhaps w.Int t r → (st : List Frame) → next_of_kind r ≡ false
+  after_signed_word : {t r : List Token} → Perhaps w.Int t r → (st : List Frame) → next_is begins_kind r ≡ false
       → run limits t (Signed None) st ≡ run limits r (HaveKind None I32) st
   after_signed_word (without r) st ends = ends_signed None st r ends
   after_signed_word (with_it p r) st ends = refl
 
-  after_unsigned_word : {t r : List Token} → Perhaps w.Int t r → (st : List Frame) → next_of_kind r ≡ false
+  after_unsigned_word : {t r : List Token} → Perhaps w.Int t r → (st : List Frame) → next_is begins_kind r ≡ false
       → run limits t (Unsigned None) st ≡ run limits r (HaveKind None U32) st
   after_unsigned_word (without r) st ends = ends_unsigned None st r ends
   after_unsigned_word (with_it p r) st ends = refl
 
-  pub reads_kind : {kd : Kind} {s r : List Token} → SpellsKind kd s r → (st : List Frame) → next_of_kind r ≡ false
+  pub reads_kind : {kd : Kind} {s r : List Token} → SpellsKind kd s r → (st : List Frame) → next_is begins_kind r ≡ false
       → run limits s (WantKind None) st ≡ run limits r (HaveKind None kd) st
   reads_kind (char p s r h) st ends = leading h st (run limits r (HaveKind None I8) st) refl refl
   reads_kind (unsigned_char p q r) st ends = refl
@@ -122,21 +116,21 @@ module _ (limits : Limits) (whole behind : ℕ) (room : whole ≤ limits.tokens 
   leading_in (with_it p r) used st V count inside one two = rw (counts limits used whole behind r (omega arith) room inside) (two (used + 1) (omega arith))
 
   closing_in : {t r : List Token} → Perhaps w.Int t r → (kd : Kind) (used used' : ℕ) (st : List Frame) → used + length t ≡ whole → used' + length r ≡ whole
-      → behind ≤ length r → next_of_kind r ≡ false → run limits t (MayEndInt (Some used) kd) st ≡ run limits r (HaveKind (Some used') kd) st
+      → behind ≤ length r → next_is begins_kind r ≡ false → run limits t (MayEndInt (Some used) kd) st ≡ run limits r (HaveKind (Some used') kd) st
   closing_in (without r) kd used used' st count count' inside ends =
       let same : used ≡ used' = omega arith in rw same (ends_int limits (Some used') kd st r ends)
   closing_in (with_it p r) kd used used' st count count' inside ends =
       let same : used' ≡ used + 1 = omega arith in rw (counts limits used whole behind r (omega arith) room inside, same)
 
   after_signed_in : {t r : List Token} → Perhaps w.Int t r → (used used' : ℕ) (st : List Frame) → used + length t ≡ whole → used' + length r ≡ whole
-      → behind ≤ length r → next_of_kind r ≡ false → run limits t (Signed (Some used)) st ≡ run limits r (HaveKind (Some used') I32) st
+      → behind ≤ length r → next_is begins_kind r ≡ false → run limits t (Signed (Some used)) st ≡ run limits r (HaveKind (Some used') I32) st
   after_signed_in (without r) used used' st count count' inside ends =
       let same : used ≡ used' = omega arith in rw same (ends_signed limits (Some used') st r ends)
   after_signed_in (with_it p r) used used' st count count' inside ends =
       let same : used' ≡ used + 1 = omega arith in rw (counts limits used whole behind r (omega arith) room inside, same)
 
   after_unsigned_in : {t r : List Token} → Perhaps w.Int t r → (used used' : ℕ) (st : List Frame) → used + length t ≡ whole → used' + length r ≡ whole
-      → behind ≤ length r → next_of_kind r ≡ false → run limits t (Unsigned (Some used)) st ≡ run limits r (HaveKind (Some used') U32) st
+      → behind ≤ length r → next_is begins_kind r ≡ false → run limits t (Unsigned (Some used)) st ≡ run limits r (HaveKind (Some used') U32) st
   after_unsigned_in (without r) used used' st count count' inside ends =
       let same : used ≡ used' = omega arith in rw same (ends_unsigned limits (Some used') st r ends)
   after_unsigned_in (with_it p r) used used' st count count' inside ends =
@@ -148,7 +142,7 @@ module _ (limits : Limits) (whole behind : ℕ) (room : whole ≤ limits.tokens 
       let same : used' ≡ used + 1 = omega arith in rw (counts limits used whole behind r (omega arith) room inside, same)
 
   pub reads_kind_in : {kd : Kind} {s r : List Token} → SpellsKind kd s r → (used used' : ℕ) (st : List Frame) → used + length s ≡ whole → used' + length r ≡ whole
-      → behind ≤ length r → next_of_kind r ≡ false → run limits s (WantKind (Some used)) st ≡ run limits r (HaveKind (Some used') kd) st
+      → behind ≤ length r → next_is begins_kind r ≡ false → run limits s (WantKind (Some used)) st ≡ run limits r (HaveKind (Some used') kd) st
   reads_kind_in (char p s r h) used used' st count count' inside ends =
       leading_in h used st (run limits r (HaveKind (Some used') I8) st) count (omega arith)
       (λ one c. char_in one used' p r st c count' inside)

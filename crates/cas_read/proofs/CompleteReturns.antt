@@ -12,20 +12,17 @@ use Rattle.cas_syntax.specs.Tokens.{ident}
 use Rattle.cas_syntax.specs.Items.{SpellsExtern, here, elsewhere, SpellsType, integer, pointer, pointer_to_pointer, SpellsReturn, no_value, a_value}
 use Rattle.cas_read.specs.Frames.{Frame, ReturnKind, WantKind, InItems, AfterExtern, FunctionName}
 use Rattle.cas_read.specs.Machine.{is_at, begins_kind, item_started, in_items, want_kind, run, go, Verdict}
-use Rattle.cas_read.proofs.CompleteKinds.{next_of_kind, begins_with_kind, reads_kind}
+use Rattle.cas_read.proofs.CompleteNext.{next_is, next_is-so}
+use Rattle.cas_read.proofs.CompleteKinds.{begins_with_kind, reads_kind}
 use Rattle.cas_read.proofs.CompleteLimits.{leaves}
 
 -- what an item begins with, but for `extern`
-abbrev begins_item : TokenKind → Bool
+abbrev pub begins_item : TokenKind → Bool
 begins_item (k.Word w.Lock) = true
 begins_item (k.Word w.Shared) = true
 begins_item (k.Word w.Const) = true
 begins_item (k.Word w.Void) = true
 begins_item kind = begins_kind kind
-
-abbrev pub next_item : List Token → Bool
-next_item [] = false
-next_item (t ∷ ts) = begins_item t.kind
 
 kind_item : (kind : TokenKind) → begins_kind kind ≡ true → begins_item kind ≡ true
 kind_item (k.Word w.Lock) h = refl
@@ -34,15 +31,14 @@ kind_item (k.Word w.Const) h = refl
 kind_item (k.Word w.Void) h = refl
 kind_item _ h = h
 
-next_kind_item : (s : List Token) → next_of_kind s ≡ true → next_item s ≡ true
-next_kind_item [] h = h
-next_kind_item (t ∷ ts) h = kind_item t.kind h
+kind-item : (s : List Token) → next_is begins_kind s ≡ true → next_is begins_item s ≡ true
+kind-item s h = next_is-so begins_kind begins_item kind_item s h
 
-pub return_item : {limits : Limits} {ty : Ty} {s r : List Token} → SpellsReturn limits ty s r → next_item s ≡ true
+pub return_item : {limits : Limits} {ty : Ty} {s r : List Token} → SpellsReturn limits ty s r → next_is begins_item s ≡ true
 return_item (no_value p r) = refl
-return_item (a_value ty s r h) = next_kind_item s (of_type h)
+return_item (a_value ty s r h) = kind-item s (of_type h)
   where
-    of_type : {limits : Limits} {ty : Ty} {s r : List Token} → SpellsType limits ty s r → next_of_kind s ≡ true
+    of_type : {limits : Limits} {ty : Ty} {s r : List Token} → SpellsType limits ty s r → next_is begins_kind s ≡ true
     of_type (integer kd s r h) = begins_with_kind h
     of_type (pointer kd p s r h) = begins_with_kind h
     of_type (pointer_to_pointer kd p q s r out h) = begins_with_kind h
@@ -53,7 +49,7 @@ module _ (limits : Limits) where
   begun_item d items [] st = run limits [] (AfterExtern items) st
   begun_item d items (t ∷ ts) st = go (run limits ts) (length ts) (item_started limits (nat_lt (length ts) limits.cut) (is_at limits.left_out (length ts)) d items st t.kind)
 
-  pub reads_extern : {d : Bool} {s t : List Token} → SpellsExtern d s t → (items : List ItemTree) (st : List Frame) → next_item t ≡ true
+  pub reads_extern : {d : Bool} {s t : List Token} → SpellsExtern d s t → (items : List ItemTree) (st : List Frame) → next_is begins_item t ≡ true
       → run limits s (InItems items) st ≡ begun_item d items t st
   reads_extern (elsewhere p r) items st h = by_rest r
     where
@@ -68,7 +64,7 @@ module _ (limits : Limits) where
       by_kind near leaves (k.Word w.Extern) h = cc
       by_kind near leaves _ h = refl
 
-  begins_return : (d : Bool) (items : List ItemTree) (st : List Frame) (s : List Token) → next_of_kind s ≡ true
+  begins_return : (d : Bool) (items : List ItemTree) (st : List Frame) (s : List Token) → next_is begins_kind s ≡ true
       → begun_item d items s st ≡ run limits s (WantKind None) (ReturnKind d items ∷ st)
   begins_return d items st [] h = cc
   begins_return d items st (t ∷ ts) h = ap (go (run limits ts) (length ts)) (by_kind (nat_lt (length ts) limits.cut) (is_at limits.left_out (length ts)) t.kind h)
@@ -89,7 +85,7 @@ module _ (limits : Limits) where
       reads_kind limits h (ReturnKind d items ∷ st) refl
       ∙ (rw (leaves limits (ident x ∷ r) out))
 
-  begins_type : {ty : Ty} {s r : List Token} → SpellsType limits ty s r → next_of_kind s ≡ true
+  begins_type : {ty : Ty} {s r : List Token} → SpellsType limits ty s r → next_is begins_kind s ≡ true
   begins_type (integer kd s r h) = begins_with_kind h
   begins_type (pointer kd p s r h) = begins_with_kind h
   begins_type (pointer_to_pointer kd p q s r out h) = begins_with_kind h

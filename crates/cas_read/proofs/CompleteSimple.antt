@@ -20,8 +20,9 @@ use Rattle.cas_syntax.specs.Expressions.{Spells, an_operand_of, two_operands, a_
 use Rattle.cas_syntax.specs.Statements.{SpellsTarget, a_variable, an_element, behind_name, behind_parentheses, MayBeValue, SpellsSimple, sets, changes, increments, decrements, increments_first, decrements_first, keeps_result, calls}
 use Rattle.cas_read.specs.Frames.{Receiver, Assigned, Caller, Alone, Keeps, Written, Stepped, Frame, ValueOf, AssignedTo, Argument, TargetIndex, TargetBehind, Control, WantOutermost, Given, WantValue, MaybeCall, Named, WantArguments, WantTarget, AfterName, SteppedName, AfterTarget, HaveSimple}
 use Rattle.cas_read.specs.Machine.{assigning, stepped, resulted, limited, is_at, maybe_call, after_operand_name, arguments_started, outermost as begins_outermost, after_name, after_target, changed_by, stepped_name, simple_started, ended, run, go, Verdict}
+use Rattle.cas_read.proofs.CompleteNext.{next_is, next_is-not, alike}
 use Rattle.cas_read.proofs.CompleteLimits.{leaves}
-use Rattle.cas_read.proofs.CompleteExprs.{is_ending, next_ends, reads_outermost}
+use Rattle.cas_read.proofs.CompleteExprs.{is_ending, reads_outermost}
 
 -- what may stand behind an assignment, a call or a local isn't what goes on with a name
 
@@ -32,19 +33,14 @@ names (k.Sign sg.Equal) = true
 names kind = false
 
 -- whether the next token goes on with a name that begins a statement or a local
-abbrev pub next_names : List Token → Bool
-next_names [] = false
-next_names (t ∷ ts) = names t.kind
-
 ending_names : (kind : TokenKind) → is_ending kind ≡ true → names kind ≡ false
 ending_names (k.Sign sg.OpenParen) h = cc
 ending_names (k.Sign sg.OpenBracket) h = cc
 ending_names (k.Sign sg.Equal) h = cc
 ending_names _ h = refl
 
-pub ends-names : (r : List Token) → next_ends r ≡ true → next_names r ≡ false
-ends-names [] h = refl
-ends-names (t ∷ ts) h = ending_names t.kind h
+pub ends-names : (r : List Token) → next_is is_ending r ≡ true → next_is names r ≡ false
+ends-names r h = next_is-not is_ending names ending_names r h
 
 -- an expression begins with no token that ends one
 
@@ -52,31 +48,30 @@ sign_no_end : (op : UnaryOperator) → is_ending (k.Sign (unary_sign op)) ≡ fa
 sign_no_end u.Neg = refl
 sign_no_end _ = refl
 
-pub begins_no_end : {limits : Limits} {m : ℕ} {a : ExprTree} {s r : List Token} → Spells limits m a s r → next_ends s ≡ false
+pub begins_no_end : {limits : Limits} {m : ℕ} {a : ExprTree} {s r : List Token} → Spells limits m a s r → next_is is_ending s ≡ false
 begins_no_end (two_operands l op a b p s t r le ha hb) = begins_no_end ha
 begins_no_end (a_choice l c a b p q s t u r le hc ha hb) = begins_no_end hc
 begins_no_end (an_operand_of l op a p s r h) = sign_no_end op
 begins_no_end _ = refl
 
-pub expr_no_end : {limits : Limits} {a : ExprTree} {s r : List Token} → SpellsExpr limits a s r → next_ends s ≡ false
+pub expr_no_end : {limits : Limits} {a : ExprTree} {s r : List Token} → SpellsExpr limits a s r → next_is is_ending s ≡ false
 expr_no_end (outermost a s r room h) = begins_no_end h
 
-exprs_no_end : {limits : Limits} {bs : List ExprTree} {s r : List Token} → SpellsExprs limits bs s r → next_ends s ≡ false
+exprs_no_end : {limits : Limits} {bs : List ExprTree} {s r : List Token} → SpellsExprs limits bs s r → next_is is_ending s ≡ false
 exprs_no_end (last_of a s r h) = expr_no_end h
 exprs_no_end (one_of a bs p s t r h hs) = expr_no_end h
 
 module _ (limits : Limits) where
   -- arguments
 
-  starts_arguments : (caller : Caller) (st : List Frame) (s : List Token) → next_ends s ≡ false
+  starts_arguments : (caller : Caller) (st : List Frame) (s : List Token) → next_is is_ending s ≡ false
       → run limits s (WantArguments caller) st ≡ run limits s WantOutermost (Argument caller [] ∷ st)
-  starts_arguments caller st [] h = refl
-  starts_arguments caller st (t ∷ ts) h = ap (go (run limits ts) (length ts)) (by_kind (nat_lt (length ts) limits.cut) (is_at limits.left_out (length ts)) t.kind h)
+  starts_arguments caller st s h = alike limits is_ending false (WantArguments caller) WantOutermost st (Argument caller [] ∷ st) refl by_kind s h
     where
-      by_kind : (near leaves : Bool) (kind : TokenKind) → is_ending kind ≡ false
-          → arguments_started limits near leaves caller st t.place kind ≡ begins_outermost limits near leaves (Argument caller [] ∷ st) t.place kind
-      by_kind near leaves (k.Sign sg.CloseParen) h = cc
-      by_kind near leaves _ h = refl
+      by_kind : (near leaves : Bool) (place : Place) (kind : TokenKind) → is_ending kind ≡ false
+          → arguments_started limits near leaves caller st place kind ≡ begins_outermost limits near leaves (Argument caller [] ∷ st) place kind
+      by_kind near leaves place (k.Sign sg.CloseParen) h = cc
+      by_kind near leaves place _ h = refl
 
   reads_exprs : {bs : List ExprTree} {q : Place} {s r : List Token} → SpellsExprs limits bs s (sign sg.CloseParen q ∷ r) → (caller : Caller) (before : List ExprTree) (st : List Frame)
       → run limits s WantOutermost (Argument caller before ∷ st) ≡ run limits r (resulted caller (before ++ bs)) st
@@ -95,13 +90,12 @@ module _ (limits : Limits) where
 
   behind_value : (receiver : Receiver) (x : Ident) (st : List Frame) (r : List Token) → begins_call (ident x ∷ r) ≡ false
       → run limits r (MaybeCall 1 receiver x) st ≡ run limits r (Named 1 1 false x) (ValueOf receiver ∷ st)
-  behind_value receiver x st [] h = refl
-  behind_value receiver x st (t ∷ ts) h = ap (go (run limits ts) (length ts)) (by_kind _ _ t.kind h)
+  behind_value receiver x st r h = alike limits is_opening_paren false (MaybeCall 1 receiver x) (Named 1 1 false x) st (ValueOf receiver ∷ st) refl by_kind r h
     where
-      by_kind : (near leaves : Bool) (kind : TokenKind) → is_opening_paren kind ≡ false
+      by_kind : (near leaves : Bool) (place : Place) (kind : TokenKind) → is_opening_paren kind ≡ false
           → maybe_call limits near leaves 1 receiver x st kind ≡ after_operand_name limits near leaves 1 1 false x (ValueOf receiver ∷ st) kind
-      by_kind near leaves (k.Sign sg.OpenParen) h = cc
-      by_kind near leaves _ h = refl
+      by_kind near leaves place (k.Sign sg.OpenParen) h = cc
+      by_kind near leaves place _ h = refl
 
   goes_alike : (b : Bool) (ts : List Token) (c d : Control) (st other : List Frame) → run limits ts c st ≡ run limits ts d other
       → go (run limits ts) (length ts) (limited b (Ok (c, st))) ≡ go (run limits ts) (length ts) (limited b (Ok (d, other)))
@@ -162,30 +156,28 @@ no_name (to_deref a) b h = refl
 module _ (limits : Limits) where
   -- where the next token doesn't go on with a name, the name is a target
 
-  is_target : (x : Ident) (st : List Frame) (r : List Token) → next_names r ≡ false
+  is_target : (x : Ident) (st : List Frame) (r : List Token) → next_is names r ≡ false
       → run limits r (AfterName x) st ≡ run limits r (AfterTarget x.place (to_name x)) st
-  is_target x st [] h = refl
-  is_target x st (t ∷ ts) h = ap (go (run limits ts) (length ts)) (by_kind (nat_lt (length ts) limits.cut) (is_at limits.left_out (length ts)) t.kind h)
+  is_target x st r h = alike limits names false (AfterName x) (AfterTarget x.place (to_name x)) st st refl by_kind r h
     where
-      by_kind : (near leaves : Bool) (kind : TokenKind) → names kind ≡ false
+      by_kind : (near leaves : Bool) (place : Place) (kind : TokenKind) → names kind ≡ false
           → after_name limits near leaves x st kind ≡ after_target limits near leaves x.place (to_name x) st kind
-      by_kind near leaves (k.Sign sg.OpenParen) h = cc
-      by_kind near leaves (k.Sign sg.OpenBracket) h = cc
-      by_kind near leaves (k.Sign sg.Equal) h = cc
-      by_kind near leaves _ h = refl
+      by_kind near leaves place (k.Sign sg.OpenParen) h = cc
+      by_kind near leaves place (k.Sign sg.OpenBracket) h = cc
+      by_kind near leaves place (k.Sign sg.Equal) h = cc
+      by_kind near leaves place _ h = refl
 
-  is_stepped : (q : Place) (op : BinaryOperator) (x : Ident) (st : List Frame) (r : List Token) → next_names r ≡ false
+  is_stepped : (q : Place) (op : BinaryOperator) (x : Ident) (st : List Frame) (r : List Token) → next_is names r ≡ false
       → run limits r (SteppedName q op x) st ≡ run limits r (HaveSimple (stepped q (to_name x) op)) st
-  is_stepped q op x st [] h = refl
-  is_stepped q op x st (t ∷ ts) h = ap (go (run limits ts) (length ts)) (by_kind (nat_lt (length ts) limits.cut) (is_at limits.left_out (length ts)) t.kind h)
+  is_stepped q op x st r h = alike limits names false (SteppedName q op x) (HaveSimple (stepped q (to_name x) op)) st st refl by_kind r h
     where
-      by_kind : (near leaves : Bool) (kind : TokenKind) → names kind ≡ false
+      by_kind : (near leaves : Bool) (place : Place) (kind : TokenKind) → names kind ≡ false
           → stepped_name limits near leaves q op x st kind ≡ ended (stepped q (to_name x) op) st kind
-      by_kind near leaves (k.Sign sg.OpenBracket) h = cc
-      by_kind near leaves _ h = refl
+      by_kind near leaves place (k.Sign sg.OpenBracket) h = cc
+      by_kind near leaves place _ h = refl
 
   -- a target that is written
-  reads_target : {target : TargetTree} {s r : List Token} → SpellsTarget limits target s r → (st : List Frame) → is_name_alone target && next_names r ≡ false
+  reads_target : {target : TargetTree} {s r : List Token} → SpellsTarget limits target s r → (st : List Frame) → is_name_alone target && next_is names r ≡ false
       → begun limits s st ≡ run limits r (AfterTarget (first_place s) target) st
   reads_target (a_variable x r) st h = is_target x st r h
   reads_target (an_element x a p q s r ha) st h =
@@ -195,7 +187,7 @@ module _ (limits : Limits) where
       reads_outermost limits ha (TargetBehind (Written o) ∷ st) (run limits r (AfterTarget o (to_deref a)) st) refl (λ used. refl)
 
   -- a target that an operator before it steps
-  reads_stepped : {target : TargetTree} {s r : List Token} → SpellsTarget limits target s r → (q : Place) (op : BinaryOperator) (st : List Frame) → next_names r ≡ false
+  reads_stepped : {target : TargetTree} {s r : List Token} → SpellsTarget limits target s r → (q : Place) (op : BinaryOperator) (st : List Frame) → next_is names r ≡ false
       → run limits s (WantTarget q op) st ≡ run limits r (HaveSimple (stepped q target op)) st
   reads_stepped (a_variable x r) q op st h = is_stepped q op x st r h
   reads_stepped (an_element x a p q' s r ha) q op st h =
@@ -205,7 +197,7 @@ module _ (limits : Limits) where
       reads_outermost limits ha (TargetBehind (Stepped q op) ∷ st) (run limits r (HaveSimple (stepped q (to_deref a) op)) st) refl (λ used. refl)
 
   -- a value that an assignment takes
-  takes_value : (p : Place) (target : TargetTree) (op : Option BinaryOperator) (a : ExprTree) (s r : List Token) → SpellsExpr limits a s r → (st : List Frame) → next_ends r ≡ true
+  takes_value : (p : Place) (target : TargetTree) (op : Option BinaryOperator) (a : ExprTree) (s r : List Token) → SpellsExpr limits a s r → (st : List Frame) → next_is is_ending r ≡ true
       → run limits s WantOutermost (AssignedTo p target op ∷ st) ≡ run limits r (HaveSimple (assign p target op a)) st
   takes_value p target op a s r h st ends = reads_outermost limits h (AssignedTo p target op ∷ st) _ ends (λ used. by_rest used r)
     where
@@ -213,7 +205,7 @@ module _ (limits : Limits) where
       by_rest used [] = refl
       by_rest used (t ∷ ts) = refl
 
-  receives : (x : Ident) (a : ExprTree) (s r : List Token) → SpellsExpr limits a s r → (st : List Frame) → next_ends r ≡ true
+  receives : (x : Ident) (a : ExprTree) (s r : List Token) → SpellsExpr limits a s r → (st : List Frame) → next_is is_ending r ≡ true
       → run limits s WantOutermost (ValueOf (Assigned x) ∷ st) ≡ run limits r (HaveSimple (assign x.place (to_name x) None a)) st
   receives x a s r h st ends = reads_outermost limits h (ValueOf (Assigned x) ∷ st) _ ends (λ used. by_rest used r)
     where
@@ -237,7 +229,7 @@ module _ (limits : Limits) where
 
   -- the place of a statement that writes a name is the name's
   sets_target : (target : TargetTree) (a : ExprTree) (first : Token) (p : Place) (s t r : List Token) → SpellsTarget limits target (first ∷ s) (sign sg.Equal p ∷ t)
-      → MayBeValue target t → SpellsExpr limits a t r → (st : List Frame) → next_ends r ≡ true
+      → MayBeValue target t → SpellsExpr limits a t r → (st : List Frame) → next_is is_ending r ≡ true
       → begun limits (first ∷ s) st ≡ run limits r (HaveSimple (assign first.place target None a)) st
   sets_target (to_name x) a first p s t r (a_variable _ _) may h st ends =
       values limits (Assigned x) st t may
@@ -257,7 +249,7 @@ module _ (limits : Limits) (some : 0 < limits.tokens) where
       → run limits (ident f ∷ sign sg.OpenParen q ∷ s) (WantValue receiver) st ≡ run limits s (WantArguments (Keeps receiver f)) st
   calls_value receiver f q s st = let first : nat_lt 0 limits.tokens ≡ true = grind (arith, nat_tests) in rw first
 
-  pub reads_simple : {a : StmtTree} {s r : List Token} → SpellsSimple limits a s r → (st : List Frame) → next_ends r ≡ true
+  pub reads_simple : {a : StmtTree} {s r : List Token} → SpellsSimple limits a s r → (st : List Frame) → next_is is_ending r ≡ true
       → begun limits s st ≡ run limits r (HaveSimple a) st
   reads_simple (sets target a first p s t r ht may h) st ends = sets_target limits target a first p s t r ht may h st ends
   reads_simple (changes target op by a first p s t r is ht h) st ends =

@@ -10,35 +10,36 @@ use Rattle.cas_syntax.specs.Limits.{Limits}
 use Rattle.cas_syntax.specs.Tokens.{word, sign, ident}
 use Rattle.cas_syntax.specs.Statements.{SpellsLocals, last_local, one_local, SpellsFirst, nothing_first, simple_first, local_first, SpellsAfter, nothing_after, simple_after, SpellsOptional, no_expr, an_expr, dangles, SpellsStmt, skips, blocks, simple, ifs, if_elses, whiles, dos, fors, breaks, continues, returns, locks, unlocks, prints, SpellsStmts, ended, a_stmt, locals}
 use Rattle.cas_read.specs.Frames.{Frame, IfCondition, WhileCondition, DoCondition, ForCondition, ReturnValue, PrintValue, SimpleStmt, FirstSimple, AfterSimple, Locals, FirstLocal, LocalsKind, FirstKind, IfThen, IfElse, WhileBody, DoBody, ForBody, NextStmt, BlockOf, HaveKind, WantLocal, WantStmt, HaveStmt, InList, ForFirst, ForSecond, ForThird, AfterReturn}
-use Rattle.cas_read.specs.Machine.{snoc, run}
-use Rattle.cas_read.proofs.CompleteKinds.{next_of_kind, begins_with_kind, reads_kind}
+use Rattle.cas_read.specs.Machine.{snoc, run, begins_kind}
+use Rattle.cas_read.proofs.CompleteNext.{next_is}
+use Rattle.cas_read.proofs.CompleteKinds.{begins_with_kind, reads_kind}
 use Rattle.cas_read.proofs.CompleteExprs.{reads_outermost}
 use Rattle.cas_read.proofs.CompleteSimple.{expr_no_end, reads_simple}
 use Rattle.cas_read.proofs.CompleteLocals.{local_no_kind, reads_local}
-use Rattle.cas_read.proofs.CompleteStarts.{simple_begins, stmt_begins, next_else, is_else-same, stmts_no_else, adds, adds_all, enters, enters_simple, begins_stmt, begins_locals, first_simple, first_kind, second_expr, third_simple, returned_expr}
+use Rattle.cas_read.proofs.CompleteStarts.{an_else, simple_begins, stmt_begins, is_else-same, stmts_no_else, adds, adds_all, enters, enters_simple, starts_stmt, starts_locals, first_simple, first_kind, second_expr, third_simple, returned_expr}
 
 -- no `else` that stands behind the statement belongs to an `if` in it
 abbrev pub Ends : StmtTree → List Token → Type 0
-Ends a r = next_else r ≡ true → dangles a ≡ false
+Ends a r = next_is an_else r ≡ true → dangles a ≡ false
 
-no_else : (a : StmtTree) (r : List Token) → next_else r ≡ false → Ends a r
+no_else : (a : StmtTree) (r : List Token) → next_is an_else r ≡ false → Ends a r
 no_else a r h e = cc
 
-dangling : (p : Place) (c : ExprTree) (a : StmtTree) (r : List Token) → Ends (if_ p c a absent) r → next_else r ≡ false
-dangling p c a r h = by_cases (next_else r) h
+dangling : (p : Place) (c : ExprTree) (a : StmtTree) (r : List Token) → Ends (if_ p c a absent) r → next_is an_else r ≡ false
+dangling p c a r h = by_cases (next_is an_else r) h
   where
     by_cases : (b : Bool) → (b ≡ true → true ≡ false) → b ≡ false
     by_cases true h = h refl
     by_cases false h = refl
 
-locals_no_kind : {limits : Limits} {kd : Kind} {bs rest : StmtList} {s r : List Token} → SpellsLocals limits kd bs rest s r → next_of_kind s ≡ false
+locals_no_kind : {limits : Limits} {kd : Kind} {bs rest : StmtList} {s r : List Token} → SpellsLocals limits kd bs rest s r → next_is begins_kind s ≡ false
 locals_no_kind (last_local a rest s r h) = local_no_kind h
 locals_no_kind (one_local a bs rest p s t r h hs) = local_no_kind h
 
 module _ (limits : Limits) where
   -- a statement goes to what waits for it
 
-  pop_then : (n : ℕ) (p : Place) (c : ExprTree) (a : StmtTree) (st : List Frame) (r : List Token) → next_else r ≡ false
+  pop_then : (n : ℕ) (p : Place) (c : ExprTree) (a : StmtTree) (st : List Frame) (r : List Token) → next_is an_else r ≡ false
       → run limits r (HaveStmt a) (IfThen n p c ∷ st) ≡ run limits r (HaveStmt (if_ p c a absent)) st
   pop_then n p c a st [] h = refl
   pop_then n p c a st (t ∷ ts) h = rw (is_else-same, h)
@@ -67,15 +68,15 @@ module _ (limits : Limits) where
   pop_next n before a st [] = refl
   pop_next n before a st (t ∷ ts) = refl
 
-  starts_locals : (n : ℕ) (kd : Kind) (before : StmtList) (st : List Frame) (r : List Token)
+  goes_to_locals : (n : ℕ) (kd : Kind) (before : StmtList) (st : List Frame) (r : List Token)
       → run limits r (HaveKind None kd) (LocalsKind n before ∷ st) ≡ run limits r (WantLocal kd) (Locals n kd before ∷ st)
-  starts_locals n kd before st [] = refl
-  starts_locals n kd before st (t ∷ ts) = refl
+  goes_to_locals n kd before st [] = refl
+  goes_to_locals n kd before st (t ∷ ts) = refl
 
-  starts_local : (n : ℕ) (p : Place) (kd : Kind) (st : List Frame) (r : List Token)
+  goes_to_local : (n : ℕ) (p : Place) (kd : Kind) (st : List Frame) (r : List Token)
       → run limits r (HaveKind None kd) (FirstKind n p ∷ st) ≡ run limits r (WantLocal kd) (FirstLocal n p ∷ st)
-  starts_local n p kd st [] = refl
-  starts_local n p kd st (t ∷ ts) = refl
+  goes_to_local n p kd st [] = refl
+  goes_to_local n p kd st (t ∷ ts) = refl
 
   -- expressions that may be absent
 
@@ -105,7 +106,7 @@ module _ (limits : Limits) (some : 0 < limits.tokens) where
   reads_first n (local_first kd a s t _ al hk h) p st =
       first_kind limits n p st s al (begins_with_kind hk)
       ∙ reads_kind limits hk (FirstKind n p ∷ st) (local_no_kind h)
-      ∙ starts_local limits n p kd st t
+      ∙ goes_to_local limits n p kd st t
       ∙ reads_local limits some h (FirstLocal n p ∷ st) refl
 
   reads_third : (n : ℕ) {x : StmtOption} {q : Place} {s r : List Token} → SpellsAfter limits (n + 1) x s (sign sg.CloseParen q ∷ r) → (p : Place) (i : StmtOption) (c : Option ExprTree) (st : List Frame)
@@ -175,16 +176,16 @@ module _ (limits : Limits) (some : 0 < limits.tokens) where
         enters limits n st (word w.Print p) (sign sg.OpenParen q ∷ s) al
         ∙ reads_outermost limits h (PrintValue p ∷ st) (run limits r (HaveStmt (print p a)) st) refl (λ used. refl)
 
-    pub reads_stmts : {n : ℕ} {bs : StmtList} {s r : List Token} → SpellsStmts limits n bs s r → (before : StmtList) (st : List Frame) → next_else r ≡ false
+    pub reads_stmts : {n : ℕ} {bs : StmtList} {s r : List Token} → SpellsStmts limits n bs s r → (before : StmtList) (st : List Frame) → next_is an_else r ≡ false
         → run limits s (InList n before) st ≡ run limits r (InList n (adds before bs)) st
     reads_stmts (ended n r) before st ends = refl
     reads_stmts (a_stmt n a bs s t r ha hbs) before st ends =
-        begins_stmt limits n before st s (stmt_begins ha)
+        starts_stmt limits n before st s (stmt_begins ha)
         ∙ reads_stmt ha (NextStmt n before ∷ st) (no_else a t (stmts_no_else hbs ends))
         ∙ pop_next limits n before a st t
         ∙ reads_stmts hbs (snoc before a) st ends
     reads_stmts (locals n kd bs rest p s t v r al hk hl hrest) before st ends =
-        begins_locals limits n before st s al (begins_with_kind hk)
+        starts_locals limits n before st s al (begins_with_kind hk)
         ∙ reads_kind limits hk (LocalsKind n before ∷ st) (locals_no_kind hl)
-        ∙ starts_locals limits n kd before st t
+        ∙ goes_to_locals limits n kd before st t
         ∙ reads_locals hl n before st r (λ all. reads_stmts hrest all st ends)

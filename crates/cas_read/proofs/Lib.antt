@@ -1,4 +1,5 @@
 pub mod CompleteLimits
+pub mod CompleteNext
 pub mod CompleteKinds
 pub mod CompleteExprs
 pub mod CompleteSimple
