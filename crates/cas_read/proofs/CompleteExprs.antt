@@ -320,14 +320,16 @@ module _ (limits : Limits) where
   gives used a st [] h = refl
   gives used a st (t ∷ ts) h = let below : binds t.kind < 1 = omega arith in rw (falls limits _ _ used 1 a st t below)
 
-  -- what comes of an outermost expression comes of its tokens
-  pub reads_outermost : {a : ExprTree} {s r : List Token} → SpellsExpr limits a s r → (st : List Frame) (V : Verdict) → next_is is_ending r ≡ true
-      → ((used : ℕ) → run limits r (Given used a) st ≡ V) → run limits s WantOutermost st ≡ V
-  reads_outermost (outermost a s r room h) st V ends on =
+  pub reads_given : {a : ExprTree} {s r : List Token} → SpellsExpr limits a s r → (st : List Frame) → next_is is_ending r ≡ true
+      → run limits s WantOutermost st ≡ run limits r (Given (length s - length r) a) st
+  reads_given (outermost a s r room h) st ends =
       let shrinks = shorter limits h in
       let binding = ends-binds r ends in
-      let used = length s - length r in
       begins_outermost st s
-      ∙ reads limits (length s) (length r) room h 0 used 1 st (omega arith) (omega arith) (omega arith) (omega arith) (omega arith) (omega arith) (omega arith) (ends-opens r ends)
-      ∙ gives used a st r binding
-      ∙ on used
+      ∙ reads limits (length s) (length r) room h 0 (length s - length r) 1 st (omega arith) (omega arith) (omega arith) (omega arith) (omega arith) (omega arith) (omega arith) (ends-opens r ends)
+      ∙ gives (length s - length r) a st r binding
+
+  -- what comes of an outermost expression, however many tokens it has, comes of its tokens
+  pub reads_outermost : {a : ExprTree} {s r : List Token} → SpellsExpr limits a s r → (st : List Frame) (V : Verdict) → next_is is_ending r ≡ true
+      → ((used : ℕ) → run limits r (Given used a) st ≡ V) → run limits s WantOutermost st ≡ V
+  reads_outermost {s = s} {r = r} h st V ends on = reads_given h st ends ∙ on (length s - length r)

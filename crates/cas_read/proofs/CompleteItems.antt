@@ -1,5 +1,5 @@
 -- What is spelled as items is read as them, and as nothing else.
-use Rattle.std.proofs.Common.{◌≡◌, ◌<◌, Bool, true, List, [], ◌∷◌, ◌++◌, map, Some, Ok, refl, ap, sym, ◌∙◌, append_assoc, append-nil}
+use Rattle.std.proofs.Common.{◌≡◌, ℕ, ◌<◌, Bool, true, List, [], ◌∷◌, ◌++◌, map, Option, Some, Ok, arith, refl, ap, sym, ◌∙◌, append_assoc, append-nil}
 use Rattle.cas_base.specs.declared.decl.Form.{Form}
 use Rattle.cas_base.specs.declared.decl.Form.TheVariants as form
 use Rattle.cas_base.specs.declared.kind.Ty.{Ty}
@@ -12,6 +12,7 @@ use Rattle.cas_syntax.specs.Tree.{no_more, ItemTree, global}
 use Rattle.cas_syntax.specs.Limits.{Limits, IsLeftOut}
 use Rattle.cas_syntax.specs.Tokens.{sign}
 use Rattle.cas_syntax.specs.Items.{declared, here, FollowsGlobal, its_length, its_value, its_end, SpellsItem, a_lock, a_shared, a_table, a_prototype, a_function, a_plain_global, SpellsItems, no_item, an_item}
+use Rattle.cas_syntax.specs.Reading.{within, without, IsModule}
 use Rattle.cas_read.specs.Frames.{Guarded, Constant, Frame, CellsKind, BodyOf, FunctionName, AfterHead, InList, InItems}
 use Rattle.cas_read.specs.Machine.{all_named, closing_of_function, run}
 use Rattle.cas_read.proofs.CompleteLimits.{leaves}
@@ -80,3 +81,14 @@ module _ (limits : Limits) (some : 0 < limits.tokens) where
       let one = reads_module h in
       let two = reads_module g in
       cc
+
+-- the limits of module texts
+
+pub some_within : (cut : ℕ) → 0 < (within cut).tokens
+some_within cut = omega arith
+
+pub some_without : (count : ℕ) (left_out : Option ℕ) → 0 < (without count left_out).tokens
+some_without count left_out = omega arith
+
+pub IsModule-once : {items other : List ItemTree} {tokens : List Token} → IsModule items tokens → IsModule other tokens → items ≡ other
+IsModule-once h g = unambiguous (within 0) (some_within 0) h g

@@ -16,8 +16,9 @@ use Rattle.cas_syntax.specs.Tokens.{sign}
 use Rattle.cas_syntax.specs.Items.{SpellsType, integer, pointer, pointer_to_pointer, SpellsParameter, unnamed, named, unnamed_array, named_array, SpellsParameterList, last_parameter, one_parameter, SpellsParameters, nothing, void, parameters}
 use Rattle.cas_read.specs.Frames.{Opening, Frame, ParameterKind, WantKind, HaveKind, WantParameters, WantParameter, ParameterStar, ParameterType, ParameterName, HaveParameter, AfterParameters}
 use Rattle.cas_read.specs.Machine.{begins_kind, want_kind, want_parameters, parameter_kind, parameter_star, parameter_typed, parameter_ended, run}
+use Rattle.cas_read.proofs.CompleteReturns.{type_begins}
 use Rattle.cas_read.proofs.CompleteNext.{next_is, next_is-so, next_is-not, alike}
-use Rattle.cas_read.proofs.CompleteKinds.{begins_with_kind, reads_kind}
+use Rattle.cas_read.proofs.CompleteKinds.{reads_kind}
 use Rattle.cas_read.proofs.CompleteLimits.{leaves}
 
 -- what may follow a type
@@ -48,11 +49,6 @@ type_no_kind _ h = refl
 
 follows_no_kind : (r : List Token) → next_is follows_type r ≡ true → next_is begins_kind r ≡ false
 follows_no_kind r h = next_is-not follows_type begins_kind type_no_kind r h
-
-type_begins : {limits : Limits} {ty : Ty} {s r : List Token} → SpellsType limits ty s r → next_is begins_kind s ≡ true
-type_begins (integer kd s r h) = begins_with_kind h
-type_begins (pointer kd p s r h) = begins_with_kind h
-type_begins (pointer_to_pointer kd p q s r out h) = begins_with_kind h
 
 parameter_begins : {limits : Limits} {ty : Ty} {x : Option Ident} {s r : List Token} → SpellsParameter limits ty x s r → next_is begins_kind s ≡ true
 parameter_begins (unnamed ty s r h) = type_begins h

@@ -31,17 +31,14 @@ kind_item (k.Word w.Const) h = refl
 kind_item (k.Word w.Void) h = refl
 kind_item _ h = h
 
-kind-item : (s : List Token) → next_is begins_kind s ≡ true → next_is begins_item s ≡ true
-kind-item s h = next_is-so begins_kind begins_item kind_item s h
+pub type_begins : {limits : Limits} {ty : Ty} {s r : List Token} → SpellsType limits ty s r → next_is begins_kind s ≡ true
+type_begins (integer kd s r h) = begins_with_kind h
+type_begins (pointer kd p s r h) = begins_with_kind h
+type_begins (pointer_to_pointer kd p q s r out h) = begins_with_kind h
 
 pub return_item : {limits : Limits} {ty : Ty} {s r : List Token} → SpellsReturn limits ty s r → next_is begins_item s ≡ true
 return_item (no_value p r) = refl
-return_item (a_value ty s r h) = kind-item s (of_type h)
-  where
-    of_type : {limits : Limits} {ty : Ty} {s r : List Token} → SpellsType limits ty s r → next_is begins_kind s ≡ true
-    of_type (integer kd s r h) = begins_with_kind h
-    of_type (pointer kd p s r h) = begins_with_kind h
-    of_type (pointer_to_pointer kd p q s r out h) = begins_with_kind h
+return_item (a_value ty s r h) = next_is-so begins_kind begins_item kind_item s (type_begins h)
 
 module _ (limits : Limits) where
   -- what may be an item behind `extern` or none, where these tokens stand
@@ -83,14 +80,9 @@ module _ (limits : Limits) where
   reads_return_type (pointer kd p s _ h) d items st = reads_kind limits h (ReturnKind d items ∷ st) refl
   reads_return_type {x = x} {r = r} (pointer_to_pointer kd p q s _ out h) d items st =
       reads_kind limits h (ReturnKind d items ∷ st) refl
-      ∙ (rw (leaves limits (ident x ∷ r) out))
-
-  begins_type : {ty : Ty} {s r : List Token} → SpellsType limits ty s r → next_is begins_kind s ≡ true
-  begins_type (integer kd s r h) = begins_with_kind h
-  begins_type (pointer kd p s r h) = begins_with_kind h
-  begins_type (pointer_to_pointer kd p q s r out h) = begins_with_kind h
+      ∙ rw (leaves limits (ident x ∷ r) out)
 
   pub reads_return : {ty : Ty} {x : Ident} {s r : List Token} → SpellsReturn limits ty s (ident x ∷ r) → (d : Bool) (items : List ItemTree) (st : List Frame)
       → begun_item d items s st ≡ run limits r (FunctionName (record { defined = d; ret = ty; name = x }) items) st
   reads_return (no_value p _) d items st = refl
-  reads_return (a_value ty s _ h) d items st = begins_return d items st s (begins_type h) ∙ reads_return_type h d items st
+  reads_return (a_value ty s _ h) d items st = begins_return d items st s (type_begins h) ∙ reads_return_type h d items st
