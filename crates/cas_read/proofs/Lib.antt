@@ -1,2 +1,5 @@
 pub mod Holds
+pub mod SoundCells
+pub mod SoundItems
+pub mod SoundKinds
 pub mod SoundSimple

@@ -157,7 +157,7 @@ module _ (limits : Limits) (all : List Token) where
       by_test true below passes = inl (grind arith)
       by_test false below passes = inr (let close : length ts < limits.cut = grind arith in omega (arith, close))
 
-  leave_holds : (c : Control) (st : List Frame) (ts : List Token) → (IsLeftOut limits ts → Holds limits all c st ts) →
+  pub leave_holds : (c : Control) (st : List Frame) (ts : List Token) → (IsLeftOut limits ts → Holds limits all c st ts) →
       HoldsAfter limits all ts (m.leave limits (near limits ts) (leaves limits ts) c st)
   leave_holds c st ts h = by_test (leaves limits ts) refl
     where
