@@ -4,3 +4,4 @@ pub mod SoundExprs
 pub mod SoundItems
 pub mod SoundKinds
 pub mod SoundSimple
+pub mod SoundTargets
