@@ -1,7 +1,9 @@
 pub mod Holds
+pub mod Sound
 pub mod SoundCells
 pub mod SoundExprs
 pub mod SoundItems
 pub mod SoundKinds
 pub mod SoundSimple
+pub mod SoundStmts
 pub mod SoundTargets

@@ -1,11 +1,10 @@
 -- What a token of an item does, outside the bodies of functions, keeps what the frames hold.
-use Rattle.std.proofs.Common.{◌≡◌, ◌≤◌, ◌<◌, ℕ, ◌+◌, Bool, true, false, List, [], ◌∷◌, ◌++◌, map, length, Option, Some, None, Ok, Err, refl, sym, ap, arith, append_assoc}
-use Rattle.cas_base.specs.Word.{word_sub, narrowed}
+use Rattle.std.proofs.Common.{◌≡◌, ◌≤◌, ℕ, Bool, true, false, List, [], ◌∷◌, ◌++◌, map, length, Option, Some, None, refl, sym, arith, append_assoc}
 use Rattle.cas_base.specs.declared.decl.Form.{Form}
 use Rattle.cas_base.specs.declared.decl.Form.TheVariants as form
 use Rattle.cas_base.specs.declared.kind.Kind.{Kind}
 use Rattle.cas_base.specs.declared.kind.Ty.{Ty}
-use Rattle.cas_base.specs.declared.kind.Ty.TheVariants.{Int, Ptr, Array}
+use Rattle.cas_base.specs.declared.kind.Ty.TheVariants.{Int, Ptr}
 use Rattle.cas_base.specs.declared.place.Place.{Place}
 use Rattle.cas_lex.specs.declared.token.Token.{Token}
 use Rattle.cas_lex.specs.declared.token.TokenKind.{TokenKind}
@@ -20,15 +19,15 @@ use Rattle.cas_syntax.specs.Items as i
 use Rattle.cas_syntax.specs.Items.{SpellsExtern, SpellsCells, SpellsType, SpellsReturn, SpellsParameter, SpellsHead, SpellsItem, SpellsItems, FollowsGlobal, declared, names_alone, places_alone}
 use Rattle.cas_syntax.specs.Limits.{Limits, IsLeftOut}
 use Rattle.cas_syntax.specs.Tokens.{ident, sign}
-use Rattle.cas_syntax.specs.Tree.{ItemTree, global, no_more}
+use Rattle.cas_syntax.specs.Tree.{ItemTree, global}
 use Rattle.cas_read.specs.Machine as m
 use Rattle.cas_read.specs.Machine.{all_named, at, cells, sort_of}
-use Rattle.cas_read.specs.Frames.{Opening, Sort, Data, Frame, Control, InItems, HaveParameter, ParameterType, CellsEnd, WantFunction}
+use Rattle.cas_read.specs.Frames.{Opening, Frame, InItems, HaveParameter, ParameterType, WantFunction}
 use Rattle.cas_read.proofs.Holds as h
 use Rattle.cas_read.proofs.Holds.{ItemAt, SortAt, CellsAt, ValuesAt, HeadAt, ParameterAt, AfterAt, HeldAt, WithValues, WithNames, Holds, HoldsAfter}
 use Rattle.cas_read.proofs.SoundSimple.{token, near, leaves, leave_holds}
 
-snoc-items : {limits : Limits} {items : List ItemTree} {from t : List Token} → SpellsItems limits items from t → (a : ItemTree) (r : List Token) →
+pub snoc-items : {limits : Limits} {items : List ItemTree} {from t : List Token} → SpellsItems limits items from t → (a : ItemTree) (r : List Token) →
     SpellsItem limits a t r → SpellsItems limits (items ++ a ∷ []) from r
 snoc-items (i.no_item t) a r ha = i.an_item _ _ _ _ _ ha (i.no_item _)
 snoc-items (i.an_item b bs from u t hb hs) a r ha = i.an_item _ _ _ _ _ hb (snoc-items hs a r ha)
@@ -60,7 +59,7 @@ module _ (limits : Limits) (all : List Token) where
 
   -- functions
 
-  function_named_holds : (d : Bool) (ty : Ty) (items : List ItemTree) (st : List Frame) (t : List Token) (kind : TokenKind) (p : Place) (ts : List Token) →
+  pub function_named_holds : (d : Bool) (ty : Ty) (items : List ItemTree) (st : List Frame) (t : List Token) (kind : TokenKind) (p : Place) (ts : List Token) →
       ItemAt limits all items d t → SpellsReturn limits ty t (token kind p ∷ ts) →
       HoldsAfter limits all ts (m.function_named limits (near limits ts) (leaves limits ts) d ty items st p kind)
   function_named_holds d ty items st t (k.Name n) p ts hi hr = (t, hi, hr)

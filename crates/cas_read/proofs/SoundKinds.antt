@@ -1,7 +1,7 @@
 -- What a token does among the words of a kind, or behind them, keeps what the frames hold.
-use Rattle.std.proofs.Common.{◌≡◌, ℕ, ◌+◌, List, [], ◌∷◌, Option, Some, None, Ok, Err, refl}
+use Rattle.std.proofs.Common.{ℕ, List, ◌∷◌, Option, Some, None}
 use Rattle.cas_base.specs.declared.kind.Kind.{Kind}
-use Rattle.cas_base.specs.declared.kind.Kind.TheVariants.{I16, I32, U16, U32}
+use Rattle.cas_base.specs.declared.kind.Kind.TheVariants.{I32, U32}
 use Rattle.cas_base.specs.declared.place.Place.{Place}
 use Rattle.cas_lex.specs.declared.token.Token.{Token}
 use Rattle.cas_lex.specs.declared.token.TokenKind.{TokenKind}
@@ -12,8 +12,8 @@ use Rattle.cas_syntax.specs.Expressions as ex
 use Rattle.cas_syntax.specs.Expressions.{Perhaps, SpellsKind}
 use Rattle.cas_syntax.specs.Statements as s
 use Rattle.cas_syntax.specs.Limits.{Limits}
-use Rattle.cas_syntax.specs.Tokens.{word, sign}
-use Rattle.cas_syntax.specs.Tree.{StmtList, no_more}
+use Rattle.cas_syntax.specs.Tokens.{word}
+use Rattle.cas_syntax.specs.Tree.{no_more}
 use Rattle.cas_read.specs.Machine as m
 use Rattle.cas_read.specs.Frames.{Frame}
 use Rattle.cas_read.proofs.Holds as h

@@ -1,8 +1,7 @@
 -- What a token does that ends an assignment, a call or a local keeps what the frames hold; and what limits do to a token.
-use Rattle.std.proofs.Common.{◌≡◌, ◌≤◌, ◌<◌, ℕ, ◌+◌, max, Bool, true, false, ◌||◌, ◌&&◌, if◌then◌else◌, List, [], ◌∷◌, ◌++◌, length, Option, Some, None, nat_lt, nat_eq, Ok, Err, refl, sym, ap, subst, inl, inr, arith, append_assoc}
+use Rattle.std.proofs.Common.{◌≡◌, ◌≤◌, ◌<◌, ℕ, ◌+◌, max, Bool, true, false, ◌||◌, if◌then◌else◌, List, [], ◌∷◌, ◌++◌, length, Option, Some, None, nat_lt, Ok, Err, refl, sym, ap, inl, inr, arith, append_assoc}
 use Rattle.std.proofs.Math.Nat.{le-max_left, le-max_right, max-le}
 use Rattle.cas_base.specs.declared.kind.Kind.{Kind}
-use Rattle.cas_base.specs.declared.kind.Ty.TheVariants.{Int, Ptr}
 use Rattle.cas_base.specs.declared.place.Place.{Place}
 use Rattle.cas_lex.specs.declared.code.ReadCode.TheVariants.{R7}
 use Rattle.cas_lex.specs.declared.token.Token.{Token}
@@ -10,18 +9,16 @@ use Rattle.cas_lex.specs.declared.token.TokenKind.{TokenKind}
 use Rattle.cas_lex.specs.declared.token.TokenKind.TheVariants as k
 use Rattle.cas_lex.specs.declared.token.Sign.{Sign}
 use Rattle.cas_lex.specs.declared.token.Sign.TheVariants as sg
-use Rattle.cas_syntax.specs.declared.tree.Ident.{Ident}
-use Rattle.cas_syntax.specs.declared.tree.BinaryOperator.TheVariants.{Add, Sub}
 use Rattle.cas_syntax.specs.Expressions as ex
 use Rattle.cas_syntax.specs.Expressions.{SpellsExpr, SpellsExprs, SpellsArguments}
 use Rattle.cas_syntax.specs.Statements as s
 use Rattle.cas_syntax.specs.Statements.{SpellsTarget, SpellsSimple, SpellsLocal, SpellsLocals, SpellsStmt, SpellsStmts, dangles}
 use Rattle.cas_syntax.specs.Limits.{Limits, AllowsDepth, AllowsTokens, IsLeftOut}
 use Rattle.cas_syntax.specs.Tokens.{sign, ident, begins_call}
-use Rattle.cas_syntax.specs.Tree.{ExprTree, TargetTree, to_name, to_index, to_deref, nothing, value, called, StmtTree, declare, assign, call, StmtOption, present, StmtList, no_more, one_more}
+use Rattle.cas_syntax.specs.Tree.{ExprTree, TargetTree, to_name, value, called, StmtTree, StmtList, no_more, one_more}
 use Rattle.cas_read.specs.Machine as m
 use Rattle.cas_read.specs.Machine.{Outcome, snoc, is, is_at, limited}
-use Rattle.cas_read.specs.Frames.{Receiver, Assigned, Begun, Caller, Alone, Keeps, Use, Written, Stepped, Frame, Locals, Argument, Control, WantLocal, InList}
+use Rattle.cas_read.specs.Frames.{Receiver, Caller, Use, Frame, Control}
 use Rattle.cas_read.proofs.Holds as h
 use Rattle.cas_read.proofs.Holds.{ListAt, StmtAt, SimpleAt, LocalAt, ReceiverAt, CallerAt, UseAt, OuterAt, WithLocals, WithExprs, TakesCalls, Budget, BudgetOf, joined_lists, Holds, HoldsAfter}
 

@@ -1,5 +1,5 @@
 -- What a token of an assignment, a call or a local does keeps what the frames hold.
-use Rattle.std.proofs.Common.{◌≡◌, ℕ, List, [], ◌∷◌, Option, Some, None, Ok, Err, refl, sym}
+use Rattle.std.proofs.Common.{◌≡◌, ℕ, List, ◌∷◌, Option, Some, None, refl, sym}
 use Rattle.cas_base.specs.declared.kind.Kind.{Kind}
 use Rattle.cas_base.specs.declared.kind.Ty.TheVariants.{Ptr, Array}
 use Rattle.cas_base.specs.declared.place.Place.{Place}
