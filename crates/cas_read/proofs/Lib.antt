@@ -1,3 +1,4 @@
 pub mod Valid
 pub mod ViableExpressions
 pub mod ViableKinds
+pub mod ViableStatements

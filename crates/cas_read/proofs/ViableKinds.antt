@@ -1,5 +1,4 @@
--- Each token of the words of a kind, of statements and of items leads to a valid state, and its fault is the one that
--- the machine names.
+-- Each token at the words of a kind leads to a valid state, and its fault is the one that the machine names.
 use Rattle.std.proofs.Common.{◌≡◌, ℕ, ◌+◌, ◌<◌, ◌⊎◌, inl, inr, Bool, true, false, ◌||◌, if◌then◌else◌, nat_le, nat_lt, List, [], ◌∷◌, ◌++◌, Option, Some, None, Ok, Err, Result, refl, arith}
 use Rattle.cas_base.specs.declared.decl.Form.{Form}
 use Rattle.cas_base.specs.declared.kind.Kind.{Kind}
@@ -27,7 +26,7 @@ use Rattle.cas_read.specs.Frames.{Frame, Before, Right, InParens, InBrackets, Th
 use Rattle.cas_read.specs.Frames.{Control, WantExpr, HaveExpr, Given, Named, Taking, Opened, WantOutermost, WantValue, MaybeCall, WantArguments, WantKind, Signed, Unsigned, MayEndInt, HaveKind, Expect, WantTarget, AfterName, AfterStar, SteppedName, AfterTarget, HaveSimple, WantLocal, LocalName, LocalStar, LocalPointer, LocalLength, LocalArray, HaveLocal, WantStmt, HaveStmt, InList, ForFirst, ForSecond, ForThird, AfterReturn, LockName, UnlockName}
 use Rattle.cas_read.specs.Frames.{InItems, AfterExtern, GlobalLock, GlobalGuard, CellName, CellLength, CellArray, CellValue, CellNegative, WantCells, NegativeCells, HaveCells, MoreCells, CellsEnd, WantFunction, ReturnStar, FunctionName, WantParameters, WantParameter, ParameterStar, ParameterType, ParameterName, HaveParameter, AfterParameters, WantHeld, HaveHeld, AfterHead}
 use Rattle.cas_read.proofs.Valid.{Hole, AnExpr, CastWords, LocalWords, ItemWords, ASimple, ALocal, AStmt, AnEnd, receives, calls, Stands, on_before, on_right, on_parens, on_brackets, on_then, on_otherwise, on_target_index, on_target_behind, on_value, on_assigned, on_argument, on_if, on_while, on_do, on_for, on_return, on_print, on_cast, on_locals_kind, on_first_kind, on_return_kind, on_parameter_kind, on_cells_kind, on_simple, on_first_simple, on_after_simple, on_locals, on_first_local, on_if_then, on_if_else, on_while_body, on_do_body, on_for_body, on_next, on_block, on_body, kind_inside, is_inside, AwaitsKind, is_needed, Valid, is_items, Stays, Comes, Judged, goes_on, limited_here, left_out_here, const_inside, refused}
-use Rattle.cas_read.specs.Machine.{Outcome, at, snoc, wrong, begins_kind, assigning, is, reached, resulted, require, limited, next, stepped, local_started, parameter_ended, parameter_typed, function_named, return_kind, parameter_kind, cells_kind, cast_kind, down_kind, want_kind, after_signed, after_unsigned, may_end_int, changed_by, after_target, after_name, after_star, want_target, stepped_name, simple_started, local_name, local_star, local_pointer, local_length, local_array, started, list_closed, list_continued, in_list, is_else, is_while, down_stmt, for_first_started, for_first, for_second, for_third, after_return, lock_name}
+use Rattle.cas_read.specs.Machine.{Outcome, at, snoc, wrong, begins_kind, assigning, is, reached, resulted, require, limited, next, stepped, local_started, parameter_ended, parameter_typed, function_named, return_kind, parameter_kind, cells_kind, counted_in, cast_kind, down_kind, want_kind, after_signed, after_unsigned, may_end_int, changed_by, after_target, after_name, after_star, want_target, stepped_name, simple_started, local_name, local_star, local_pointer, local_length, local_array, started, list_closed, list_continued, in_list, is_else, is_while, down_stmt, for_first_started, for_first, for_second, for_third, after_return, lock_name}
 use Rattle.cas_read.proofs.ViableExpressions.{Fits, comes, wrong_fits, outside_fits, require_fits, needs, counted_fits, counted_in_fits, nested_fits, leave_fits, outermost_fits, ended_fits, local_ended_fits, reached_valid}
 
 -- a step outside a function's body
@@ -38,6 +37,20 @@ pub local_started_fits : (kd : Kind) (st : List Frame) (p : Place) (kind : Token
 local_started_fits kd st p (k.Name n) h = comes h
 local_started_fits kd st p (k.Sign sg.Star) h = comes h
 local_started_fits kd st p kind h = wrong_fits kind
+
+-- a token of a state that ends no item leaves it where it is, inside or outside
+pub stays_there : (i : Bool) (kind : TokenKind) (c : Control) (st : List Frame) → is_inside c st ≡ i → is_items c ≡ false → Stays i kind c st
+stays_there true kind c st i e = tt
+stays_there false kind c st i e = by_kind kind
+  where
+    by_kind : (kind : TokenKind) → Stays false kind c st
+    by_kind (k.Sign sg.OpenBrace) = tt
+    by_kind (k.Sign sg.CloseBrace) = (i, e)
+    by_kind _ = i
+
+awaits_next : (b : Option ℕ) (st : List Frame) → AwaitsKind b st → AwaitsKind (next b) st
+awaits_next None st h = h
+awaits_next (Some n) st h = h
 
 module _ (limits : Limits) where
   -- a token behind a parameter, behind its type, and behind the kind of that
@@ -91,10 +104,31 @@ module _ (limits : Limits) where
   down_kind_fits None kd st p kind (inr h) = item_down_fits h kd p kind
 
   -- a further word of a kind
+  further : (b : Option ℕ) (c : Control) (st : List Frame) (kind : TokenKind) → Valid c st → is_inside c st ≡ kind_inside st → is_items c ≡ false →
+      Fits (kind_inside st) kind (λ near leaves. counted_in limits near leaves b (Ok (c, st)))
+  further b c st kind v i e = counted_in_fits limits b (goes_on (c, st) (record { valid = v; stays = stays_there (kind_inside st) kind c st i e }))
 
-  cast_further : {st : List Frame} → Stands CastWords st → (c : Control) (kind : TokenKind) → Valid c st → Judged (kind_inside st) kind (Ok (c, st)) (Ok (c, st)) (Ok (c, st))
-  cast_further (on_cast l st f h) c kind v = comes v
+  pub want_kind_fits : (b : Option ℕ) (st : List Frame) (kind : TokenKind) → AwaitsKind b st → (begins_kind kind ≡ false → kind_inside st ≡ false) →
+      Fits (kind_inside st) kind (λ near leaves. want_kind limits near leaves b st kind)
+  want_kind_fits b st (k.Word w.Char) h e = further b (HaveKind (next b) I8) st (k.Word w.Char) (awaits_next b st h) refl refl
+  want_kind_fits b st (k.Word w.Short) h e = further b (MayEndInt (next b) I16) st (k.Word w.Short) (awaits_next b st h) refl refl
+  want_kind_fits b st (k.Word w.Int) h e = further b (HaveKind (next b) I32) st (k.Word w.Int) (awaits_next b st h) refl refl
+  want_kind_fits b st (k.Word w.Unsigned) h e = further b (Unsigned (next b)) st (k.Word w.Unsigned) (awaits_next b st h) refl refl
+  want_kind_fits b st (k.Word w.Signed) h e = further b (Signed (next b)) st (k.Word w.Signed) (awaits_next b st h) refl refl
+  want_kind_fits b st kind h e = refused (λ i _. let o : kind_inside st ≡ false = e refl in cc)
 
-  local_further : {st : List Frame} → Stands LocalWords st → (c : Control) (kind : TokenKind) → Valid c st → Judged (kind_inside st) kind (Ok (c, st)) (Ok (c, st)) (Ok (c, st))
-  local_further (on_locals_kind n bs st h) c kind v = comes v
-  local_further (on_first_kind n q st h) c kind v = comes v
+  pub after_signed_fits : (b : Option ℕ) (st : List Frame) (p : Place) (kind : TokenKind) → AwaitsKind b st → Fits (kind_inside st) kind (λ near leaves. after_signed limits near leaves b st p kind)
+  after_signed_fits b st p (k.Word w.Char) h = further b (HaveKind (next b) I8) st (k.Word w.Char) (awaits_next b st h) refl refl
+  after_signed_fits b st p (k.Word w.Short) h = further b (MayEndInt (next b) I16) st (k.Word w.Short) (awaits_next b st h) refl refl
+  after_signed_fits b st p (k.Word w.Int) h = further b (HaveKind (next b) I32) st (k.Word w.Int) (awaits_next b st h) refl refl
+  after_signed_fits b st p kind h = down_kind_fits b I32 st p kind h
+
+  pub after_unsigned_fits : (b : Option ℕ) (st : List Frame) (p : Place) (kind : TokenKind) → AwaitsKind b st → Fits (kind_inside st) kind (λ near leaves. after_unsigned limits near leaves b st p kind)
+  after_unsigned_fits b st p (k.Word w.Char) h = further b (HaveKind (next b) U8) st (k.Word w.Char) (awaits_next b st h) refl refl
+  after_unsigned_fits b st p (k.Word w.Short) h = further b (MayEndInt (next b) U16) st (k.Word w.Short) (awaits_next b st h) refl refl
+  after_unsigned_fits b st p (k.Word w.Int) h = further b (HaveKind (next b) U32) st (k.Word w.Int) (awaits_next b st h) refl refl
+  after_unsigned_fits b st p kind h = down_kind_fits b U32 st p kind h
+
+  pub may_end_int_fits : (b : Option ℕ) (kd : Kind) (st : List Frame) (p : Place) (kind : TokenKind) → AwaitsKind b st → Fits (kind_inside st) kind (λ near leaves. may_end_int limits near leaves b kd st p kind)
+  may_end_int_fits b kd st p (k.Word w.Int) h = further b (HaveKind (next b) kd) st (k.Word w.Int) (awaits_next b st h) refl refl
+  may_end_int_fits b kd st p kind h = down_kind_fits b kd st p kind h
