@@ -2,3 +2,4 @@ pub mod Valid
 pub mod ViableExpressions
 pub mod ViableKinds
 pub mod ViableStatements
+pub mod ViableSteps
