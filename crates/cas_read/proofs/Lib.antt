@@ -3,3 +3,4 @@ pub mod ViableExpressions
 pub mod ViableKinds
 pub mod ViableStatements
 pub mod ViableSteps
+pub mod ViableEnds

@@ -172,7 +172,11 @@ module _ (limits : Limits) where
   pub after_operand_name_fits : (b l : ℕ) (taken : Bool) (x : Ident) (st : List Frame) (kind : TokenKind) → 0 < l → Stands AnExpr st →
       Fits true kind (λ near leaves. after_operand_name limits near leaves b l taken x st kind)
   after_operand_name_fits b l taken x st (k.Sign sg.OpenBracket) f h = counted_fits limits b (comes (omega arith, on_brackets l taken x st f h))
-  after_operand_name_fits b l taken x st (k.Sign sg.OpenParen) f h = leave_fits limits (HaveExpr (b + 1) l (named taken x)) st (f, h) tt
+  after_operand_name_fits b l taken x st (k.Sign sg.OpenParen) f h = by_test (nat_lt b limits.tokens)
+    where
+      by_test : (t : Bool) → Judged true (k.Sign sg.OpenParen) (Err R7) (Err R7) (limited (t || true) (Ok (HaveExpr (b + 1) l (named taken x), st)))
+      by_test true = left_out_here (HaveExpr (b + 1) l (named taken x), st) (record { valid = (f, h); stays = tt })
+      by_test false = left_out_here (HaveExpr (b + 1) l (named taken x), st) (record { valid = (f, h); stays = tt })
   after_operand_name_fits b l taken x st kind f h = have_fits b l (named taken x) st kind f h
 
   pub taking_fits : (b l : ℕ) (st : List Frame) (p : Place) (kind : TokenKind) → 0 < l → Stands AnExpr st → Fits true kind (λ near leaves. taking limits near leaves b l st p kind)
