@@ -4,3 +4,4 @@ pub mod ViableKinds
 pub mod ViableStatements
 pub mod ViableSteps
 pub mod ViableEnds
+pub mod ViableFrames

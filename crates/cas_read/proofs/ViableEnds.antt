@@ -130,7 +130,7 @@ goes_down limits near leaves b l x st kind o f e =
     ap (λ (t : Bool). if t then counted limits near leaves b (risen limits near leaves b l x st (infix_of kind)) else o) not
 
 -- the ends of expressions
-abbrev EndsExpr : List Frame → Type 0
+abbrev pub EndsExpr : List Frame → Type 0
 EndsExpr st = (b l : ℕ) (x : ExprTree) → 0 < l → Ending true closes (HaveExpr b l x) st
 
 abbrev pub EndsSimple : List Frame → Type 0
@@ -142,17 +142,17 @@ EndsLocal st = (a : StmtTree) → Ending true closes (HaveLocal a) st
 abbrev pub EndsStmt : List Frame → Type 0
 EndsStmt st = (a : StmtTree) → Ending true follows_stmt (HaveStmt a) st
 
-abbrev EndsList : List Frame → Type 0
+abbrev pub EndsList : List Frame → Type 0
 EndsList st = (n : ℕ) (bs : StmtList) → Ending true follows_stmt (InList n bs) st
 
 -- a sign behind an expression
-expr_closes : {st : List Frame} {b l : ℕ} {x : ExprTree} (s : Sign) (n : Control × List Frame) → 0 < l → closes (k.Sign s) ≡ true → is_opening_brace (k.Sign s) ≡ false →
+pub expr_closes : {st : List Frame} {b l : ℕ} {x : ExprTree} (s : Sign) (n : Control × List Frame) → 0 < l → closes (k.Sign s) ≡ true → is_opening_brace (k.Sign s) ≡ false →
     ((limits : Limits) (leaves : Bool) → down limits true leaves b (k.Sign s) x st ≡ Ok n) → Completion true n.0 n.1 → Ending true closes (HaveExpr b l x) st
 expr_closes {st = st} {b = b} {l = l} {x = x} s n f e clear by r =
     begin (sign s here) n (λ limits leaves. goes_down limits true leaves b l x st (k.Sign s) (down limits true leaves b (k.Sign s) x st) f e ∙ by limits leaves) e (λ _. clear) r
 
 -- an expression that stands as another one where it is awaited
-expr_as : {c : Control} {st st' : List Frame} {b l : ℕ} {x : ExprTree} → 0 < l →
+pub expr_as : {c : Control} {st st' : List Frame} {b l : ℕ} {x : ExprTree} → 0 < l →
     ((limits : Limits) (near leaves : Bool) (t : Token) → down limits near leaves b t.kind x st ≡ shift limits near leaves t c st') → Ending true closes c st' → Ending true closes (HaveExpr b l x) st
 expr_as {st = st} {b = b} {l = l} {x = x} f by r =
     alike (λ limits near leaves t e. goes_down limits near leaves b l x st t.kind (down limits near leaves b t.kind x st) f e ∙ by limits near leaves t) r
