@@ -5,3 +5,5 @@ pub mod ViableStatements
 pub mod ViableSteps
 pub mod ViableEnds
 pub mod ViableFrames
+pub mod ViableParts
+pub mod ViableStates
