@@ -7,3 +7,4 @@ pub mod ViableEnds
 pub mod ViableFrames
 pub mod ViableParts
 pub mod ViableStates
+pub mod ViableWalks
