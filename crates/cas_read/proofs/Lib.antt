@@ -8,3 +8,5 @@ pub mod ViableFrames
 pub mod ViableParts
 pub mod ViableStates
 pub mod ViableWalks
+pub mod ViableBodies
+pub mod Faults

@@ -28,14 +28,14 @@ taken_by near leaves t c st = shift (within 0) near leaves t c st
 pub judged : (t : Token) (c : Control) (st : List Frame) → Valid c st → Judged (is_inside c st) t.kind (taken_by false false t c st) (taken_by true false t c st) (taken_by true true t c st)
 judged t c st v = shift_fits (within 0) t c st v
 
-comes_plain : {i : Bool} {kind : TokenKind} {o a b : Outcome} {n : Control × List Frame} → Judged i kind o a b → o ≡ Ok n → Comes i kind n × (a ≡ Ok n)
+pub comes_plain : {i : Bool} {kind : TokenKind} {o a b : Outcome} {n : Control × List Frame} → Judged i kind o a b → o ≡ Ok n → Comes i kind n × (a ≡ Ok n)
 comes_plain {i} {kind} (goes_on m c) e = let same : m ≡ _ = cc in (subst (λ (m : Control × List Frame). Comes i kind m) same c, e)
 comes_plain (limited_here m c) e = cc
 comes_plain (left_out_here m c) e = cc
 comes_plain (const_inside i j) e = cc
 comes_plain (refused f) e = cc
 
-comes_near : {i : Bool} {kind : TokenKind} {o a b : Outcome} {n : Control × List Frame} → Judged i kind o a b → a ≡ Ok n → Comes i kind n
+pub comes_near : {i : Bool} {kind : TokenKind} {o a b : Outcome} {n : Control × List Frame} → Judged i kind o a b → a ≡ Ok n → Comes i kind n
 comes_near {i} {kind} (goes_on m c) e = let same : m ≡ _ = cc in subst (λ (m : Control × List Frame). Comes i kind m) same c
 comes_near {i} {kind} (limited_here m c) e = let same : m ≡ _ = cc in subst (λ (m : Control × List Frame). Comes i kind m) same c
 comes_near (left_out_here m c) e = cc
