@@ -1,5 +1,5 @@
 -- A fault of the machine's run is the fault of the definition, and a text has one tree or one fault.
-use Rattle.std.proofs.Common.{◌≡◌, ℕ, ◌+◌, ◌≤◌, ◌<◌, ◌⊎◌, inl, inr, Bool, true, false, ◌||◌, if◌then◌else◌, nat_lt, nat_eq, List, [], ◌∷◌, ◌++◌, append_assoc, length, length-append, Option, Some, None, Ok, Err, Result, refl, ap, ◌∙◌, arith, sym, subst}
+use Rattle.std.proofs.Common.{◌≡◌, ℕ, ◌+◌, ◌≤◌, ◌<◌, ◌⊎◌, inl, inr, Bool, true, false, ◌||◌, if◌then◌else◌, nat_lt, nat_eq, List, [], ◌∷◌, ◌++◌, append_assoc, append-nil, length, length-append, Option, Some, None, Ok, Err, Result, refl, ap, ◌∙◌, arith, sym, subst}
 use Rattle.cas_base.specs.declared.place.Place.{Place}
 use Rattle.cas_lex.specs.declared.code.ReadCode.{ReadCode}
 use Rattle.cas_lex.specs.declared.code.ReadCode.TheVariants.{R5, R6, R7, R8}
@@ -60,6 +60,11 @@ stops_there : (on : Control → List Frame → Verdict) (behind : ℕ) (o : Outc
 stops_there on behind (Ok m) code items e h = cc
 stops_there on behind (Err c) code items e h = cc
 
+-- a run that ends too early fails at the end
+ends_unfinished : (c : Control) (f : Fault) → finish c ≡ Err f → record { code = R6; left = 0 } ≡ f
+ends_unfinished (InItems items) f e = cc
+ends_unfinished c f e = cc
+
 module _ (reads_module : (limits : Limits) (items : List ItemTree) (ts : List Token) → SpellsItems limits items ts [] → run limits ts (InItems []) [] ≡ Ok items)
     (run_sound : (limits : Limits) (items : List ItemTree) (ts : List Token) → run limits ts (InItems []) [] ≡ Ok items → SpellsItems limits items ts []) where
   pub accepted : (items : List ItemTree) (ts : List Token) → run (within 0) ts (InItems []) [] ≡ Ok items → IsModule items ts
@@ -113,3 +118,110 @@ module _ (reads_module : (limits : Limits) (items : List ItemTree) (ts : List To
       let read = reads_module (without count (Some place)) items ((front ++ t ∷ []) ++ others) text in
       let went = at_next count (Some place) front others t n true true (λ m le. grind arith) h (grind (arith, all)) (grind arith) in
       stops_there (run (without count (Some place)) others) (length others) _ code items e (sym went ∙ read)
+
+  -- inside a function's body, and outside
+
+  ends_in_body : (front : List Token) (n : Control × List Frame) → Leads front n → is_inside n.0 n.1 ≡ true → EndsInBody front
+  ends_in_body front n h i =
+      let r = completes n.0 n.1 (leads_valid front n h) in
+      let b = r.body i in
+      let tail : List Token = b.0 ++ sign sg.CloseBrace b.1 ∷ [] in
+      let tokens : List Token = (front ++ b.0) ++ sign sg.CloseBrace b.1 ∷ [] in
+      let limits = without (length tokens) None in
+      let joined : tokens ≡ front ++ tail = append_assoc front b.0 (sign sg.CloseBrace b.1 ∷ []) in
+      let count : length tokens ≡ length front + length tail = ap (λ (ts : List Token). length ts) joined ∙ length-append front tail in
+      let same : length r.others ≡ length tail = ap (λ (ts : List Token). length ts) b.3 in
+      (r.items, b.0, b.1, b.2, run_sound limits r.items tokens
+        (ap (λ (ts : List Token). run limits ts (InItems []) []) joined ∙ walk_run (length tokens) None tail front (InItems []) [] n (λ m le. refl) valid_start h
+        ∙ ap (λ (ts : List Token). run limits ts n.0 n.1) (sym b.3) ∙ r.ends limits (omega (arith, same, count))))
+
+  not_in_body : (front : List Token) (n : Control × List Frame) → Leads front n → is_inside n.0 n.1 ≡ false → EndsInBody front → ⊥
+  not_in_body front n h out (items, others, p, opens, text) =
+      let tail : List Token = others ++ sign sg.CloseBrace p ∷ [] in
+      let tokens : List Token = (front ++ others) ++ sign sg.CloseBrace p ∷ [] in
+      let limits = without (length tokens) None in
+      let joined : tokens ≡ front ++ tail = append_assoc front others (sign sg.CloseBrace p ∷ []) in
+      let count : length tokens ≡ length front + length tail = ap (λ (ts : List Token). length ts) joined ∙ length-append front tail in
+      let read = reads_module limits items tokens text in
+      let went = ap (λ (ts : List Token). run limits ts (InItems []) []) joined ∙ walk_run (length tokens) None tail front (InItems []) [] n (λ m le. refl) valid_start h in
+      outside_never (length tokens) others p n.0 n.1 items (leads_valid front n h) out opens (omega (arith, count)) (sym went ∙ read)
+
+  shows_nothing : (front : List Token) (t : Token) (n : Control × List Frame) → Leads front n → (is_inside n.0 n.1 ≡ true → t.kind ≡ k.Word w.Const → ⊥) → taken_by true true t n.0 n.1 ≡ Err R5 → ShowsLeftOut front t → ⊥
+  shows_nothing front t n h f e (inl b) = not_left_out front t n R5 h e b
+  shows_nothing front t n h f e (inr (const, body)) = by_inside (is_inside n.0 n.1) refl
+    where
+      by_inside : (i : Bool) → is_inside n.0 n.1 ≡ i → ⊥
+      by_inside true i = f i const
+      by_inside false i = not_in_body front n h i body
+
+  -- the code that the machine names is the code of the definition
+  pub explains : (front : List Token) (t : Token) (n : Control × List Frame) (code : ReadCode) → Leads front n → taken_by false false t n.0 n.1 ≡ Err code → IsWrong front t code
+  explains front t n code h fails = by_case (judged t n.0 n.1 (leads_valid front n h)) refl refl refl
+    where
+      named_so : (c : ReadCode) → taken_by false false t n.0 n.1 ≡ Err c → IsWrong front t c → IsWrong front t code
+      named_so c e wrong = let same : c ≡ code = cc in subst (λ (c : ReadCode). IsWrong front t c) same wrong
+
+      by_case : {o a b : Outcome} → Judged (is_inside n.0 n.1) t.kind o a b → taken_by false false t n.0 n.1 ≡ o → taken_by true false t n.0 n.1 ≡ a → taken_by true true t n.0 n.1 ≡ b → IsWrong front t code
+      by_case (goes_on m c) e e' e'' = cc
+      by_case (limited_here m c) e e' e'' = named_so R8 e (too_many (unlimited front t n m h e') (not_begins front t n R8 h e))
+      by_case (left_out_here m c) e e' e'' = named_so R7 e (left_out (inl (left_out_begins front t n m h e'' c.valid)) (not_unlimited front t n R7 h e'))
+      by_case (const_inside i const) e e' e'' = named_so R7 e (left_out (inr (const, ends_in_body front n h i)) (not_unlimited front t n R7 h e'))
+      by_case (refused f) e e' e'' = named_so R5 e (no_module (shows_nothing front t n h f e'') (not_unlimited front t n R5 h e'))
+
+  -- one code at most explains why a token can't stand
+
+  only_one : (front : List Token) (t : Token) (c c' : ReadCode) → IsWrong front t c → IsWrong front t c' → c ≡ c'
+  only_one front t c c' (too_many b n) (too_many b' n') = refl
+  only_one front t c c' (too_many b n) (left_out s n') = absurd (n' b)
+  only_one front t c c' (too_many b n) (no_module s n') = absurd (n' b)
+  only_one front t c c' (left_out s n) (too_many b n') = absurd (n b)
+  only_one front t c c' (left_out s n) (left_out s' n') = refl
+  only_one front t c c' (left_out s n) (no_module s' n') = absurd (s' s)
+  only_one front t c c' (no_module s n) (too_many b n') = absurd (n b)
+  only_one front t c c' (no_module s n) (left_out s' n') = absurd (s s')
+  only_one front t c c' (no_module s n) (no_module s' n') = refl
+
+  -- a token that is taken isn't wrong
+  takes_no_wrong : (front : List Token) (t : Token) (n m : Control × List Frame) (c : ReadCode) → Leads front n → taken_by false false t n.0 n.1 ≡ Ok m → IsWrong front t c → ⊥
+  takes_no_wrong front t n m c h e (too_many b none) = none (begins (front ++ t ∷ []) m (reach_snoc front t (InItems []) [] n m h e))
+  takes_no_wrong front t n m c h e (left_out s none) = none (unlimited front t n m h (comes_plain (judged t n.0 n.1 (leads_valid front n h)) e).1)
+  takes_no_wrong front t n m c h e (no_module s none) = none (unlimited front t n m h (comes_plain (judged t n.0 n.1 (leads_valid front n h)) e).1)
+
+  -- a wrong token stops the machine, with its code
+  wrong_stops : (front : List Token) (t : Token) (n : Control × List Frame) (c : ReadCode) → Leads front n → IsWrong front t c → taken_by false false t n.0 n.1 ≡ Err c
+  wrong_stops front t n c h wrong = by_step (taken_by false false t n.0 n.1) refl
+    where
+      by_step : (o : Outcome) → taken_by false false t n.0 n.1 ≡ o → taken_by false false t n.0 n.1 ≡ Err c
+      by_step (Ok m) e = absurd (takes_no_wrong front t n m c h e wrong)
+      by_step (Err code) e = e ∙ ap (λ (c : ReadCode). let o : Outcome = Err c in o) (only_one front t code c (explains front t n code h e) wrong)
+
+  -- what begins a module leads somewhere
+  leads : (front : List Token) → Begins front → (n : Control × List Frame) × Leads front n
+  leads front (items, others, text) = reached others front (InItems []) [] items (reads_module (within (length others)) items (front ++ others) text)
+
+  -- where a run ends
+  run_ends : (ts : List Token) (n : Control × List Frame) → Leads ts n → run (within 0) ts (InItems []) [] ≡ finish n.0
+  run_ends ts n h = ap (λ (us : List Token). run (within 0) us (InItems []) []) (sym (append-nil ts)) ∙ walk_run 0 None [] ts (InItems []) [] n (λ m le. refl) valid_start h
+
+  -- the run of a text that has a fault
+  pub record Fails (ts : List Token) (end : Place) (c : ReadCode) (p : Place) : Type 0 where
+    pub left : ℕ
+    pub fails : run (within 0) ts (InItems []) [] ≡ Err (record { code = c; left = left })
+    pub place : p ≡ place_left ts end left
+
+  pub fault_fails : {ts : List Token} {end : Place} {c : ReadCode} {p : Place} → HasSyntaxFault ts end c p → Fails ts end c p
+  fault_fails (at_token front rest t end code b wrong) = record { left = length rest + 1; fails = stopped; place = sym (place_left_token front rest t end) }
+    where
+      stopped : run (within 0) (front ++ t ∷ rest) (InItems []) [] ≡ Err (record { code = code; left = length rest + 1 })
+      stopped =
+          let r = leads front b in
+          walk_run 0 None (t ∷ rest) front (InItems []) [] r.0 (λ m le. refl) valid_start r.1 ∙ plain_step t rest r.0.0 r.0.1
+          ∙ ap (λ (o : Outcome). go (run (within 0) rest) (length rest) o) (wrong_stops front t r.0 code r.1 wrong)
+  fault_fails (at_end tokens end b none) = record { left = 0; fails = by_end (leads tokens b); place = sym (place_left_end tokens end) }
+    where
+      by_end : (n : Control × List Frame) × Leads tokens n → run (within 0) tokens (InItems []) [] ≡ Err (record { code = R6; left = 0 })
+      by_end (n, h) = by_control (finish n.0) refl
+        where
+          by_control : (v : Verdict) → finish n.0 ≡ v → run (within 0) tokens (InItems []) [] ≡ Err (record { code = R6; left = 0 })
+          by_control (Ok items) e = absurd (none items (accepted items tokens (run_ends tokens n h ∙ e)))
+          by_control (Err f) e = run_ends tokens n h ∙ e ∙ ap (λ (f : Fault). let v : Verdict = Err f in v) (sym (ends_unfinished n.0 f e))
