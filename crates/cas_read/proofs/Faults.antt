@@ -225,3 +225,50 @@ module _ (reads_module : (limits : Limits) (items : List ItemTree) (ts : List To
           by_control : (v : Verdict) → finish n.0 ≡ v → run (within 0) tokens (InItems []) [] ≡ Err (record { code = R6; left = 0 })
           by_control (Ok items) e = absurd (none items (accepted items tokens (run_ends tokens n h ∙ e)))
           by_control (Err f) e = run_ends tokens n h ∙ e ∙ ap (λ (f : Fault). let v : Verdict = Err f in v) (sym (ends_unfinished n.0 f e))
+
+  -- a run that fails, fails where the definition says, and as it says
+  pub faulty : (ts : List Token) (end : Place) (f : Fault) → run (within 0) ts (InItems []) [] ≡ Err f → HasSyntaxFault ts end f.code (place_left ts end f.left)
+  faulty ts end f h = by_cases (stops_or_ends ts (InItems []) [] f h)
+    where
+      by_cases : Stops ts (InItems []) [] f ⊎ Ends ts (InItems []) [] f → HasSyntaxFault ts end f.code (place_left ts end f.left)
+      by_cases (inl r) =
+          let tokens : List Token = r.front ++ r.t ∷ r.rest in
+          let there : place_left tokens end f.left ≡ r.t.place = ap (λ (left : ℕ). place_left tokens end left) r.left ∙ place_left_token r.front r.rest r.t end in
+          let wrong = explains r.front r.t r.next f.code r.reached r.fails in
+          let fault = at_token r.front r.rest r.t end f.code (begins r.front r.next r.reached) wrong in
+          subst (λ (us : List Token). HasSyntaxFault us end f.code (place_left us end f.left)) (sym r.whole) (subst (λ (p : Place). HasSyntaxFault tokens end f.code p) (sym there) fault)
+      by_cases (inr r) =
+          let same : record { code = R6; left = 0 } ≡ f = ends_unfinished r.next.0 f r.fails in
+          let fault = at_end ts end (begins ts r.next r.reached) (λ items text. refuses items (reads_module (within 0) items ts text)) in
+          subst (λ (g : Fault). HasSyntaxFault ts end g.code (place_left ts end g.left)) same (subst (λ (p : Place). HasSyntaxFault ts end R6 p) (sym (place_left_end ts end)) fault)
+        where
+          refuses : (items : List ItemTree) → run (within 0) ts (InItems []) [] ≡ Ok items → ⊥
+          refuses items read = cc
+
+  -- tokens have one tree or one fault, and not both
+
+  pub one_tree : (ts : List Token) (items others : List ItemTree) → IsModule items ts → IsModule others ts → items ≡ others
+  one_tree ts items others a b =
+      let one = reads_module (within 0) items ts a in
+      let other = reads_module (within 0) others ts b in
+      cc
+
+  pub one_fault : (ts : List Token) (end : Place) (c c' : ReadCode) (p p' : Place) → HasSyntaxFault ts end c p → HasSyntaxFault ts end c' p' → (c ≡ c') × (p ≡ p')
+  one_fault ts end c c' p p' a b =
+      let one = fault_fails a in
+      let other = fault_fails b in
+      let same : record { code = c; left = one.left } ≡ record { code = c'; left = other.left } = cc in
+      (ap (λ (f : Fault). f.code) same, one.place ∙ ap (λ (f : Fault). place_left ts end f.left) same ∙ sym other.place)
+
+  pub not_both : (ts : List Token) (items : List ItemTree) (end : Place) (c : ReadCode) (p : Place) → IsModule items ts → HasSyntaxFault ts end c p → ⊥
+  not_both ts items end c p a b =
+      let one = reads_module (within 0) items ts a in
+      let other = (fault_fails b).fails in
+      cc
+
+  pub tree_or_fault : (ts : List Token) (end : Place) → ((items : List ItemTree) × IsModule items ts) ⊎ ((c : ReadCode) × (p : Place) × HasSyntaxFault ts end c p)
+  tree_or_fault ts end = by_verdict (run (within 0) ts (InItems []) []) refl
+    where
+      by_verdict : (v : Verdict) → run (within 0) ts (InItems []) [] ≡ v → ((items : List ItemTree) × IsModule items ts) ⊎ ((c : ReadCode) × (p : Place) × HasSyntaxFault ts end c p)
+      by_verdict (Ok items) h = inl (items, accepted items ts h)
+      by_verdict (Err f) h = inr (f.code, place_left ts end f.left, faulty ts end f h)
