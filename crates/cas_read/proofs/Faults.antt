@@ -1,23 +1,21 @@
 -- A fault of the machine's run is the fault of the definition, and a text has one tree or one fault.
-use Rattle.std.proofs.Common.{◌≡◌, ℕ, ◌+◌, ◌≤◌, ◌<◌, ◌⊎◌, inl, inr, Bool, true, false, ◌||◌, if◌then◌else◌, nat_lt, nat_eq, List, [], ◌∷◌, ◌++◌, append_assoc, append-nil, length, length-append, Option, Some, None, Ok, Err, Result, refl, ap, ◌∙◌, arith, sym, subst}
+use Rattle.std.proofs.Common.{◌≡◌, ℕ, ◌+◌, ◌≤◌, ◌⊎◌, inl, inr, Bool, true, false, if◌then◌else◌, nat_lt, nat_eq, List, [], ◌∷◌, ◌++◌, append_assoc, append-nil, length, length-append, Option, Some, None, Ok, Err, refl, ap, ◌∙◌, arith, sym, subst}
 use Rattle.cas_base.specs.declared.place.Place.{Place}
 use Rattle.cas_lex.specs.declared.code.ReadCode.{ReadCode}
 use Rattle.cas_lex.specs.declared.code.ReadCode.TheVariants.{R5, R6, R7, R8}
 use Rattle.cas_lex.specs.declared.token.Token.{Token}
-use Rattle.cas_lex.specs.declared.token.TokenKind.{TokenKind}
 use Rattle.cas_lex.specs.declared.token.TokenKind.TheVariants as k
 use Rattle.cas_lex.specs.declared.token.Word.TheVariants as w
 use Rattle.cas_lex.specs.declared.token.Sign.TheVariants as sg
 use Rattle.cas_syntax.specs.Items.{SpellsItems}
 use Rattle.cas_syntax.specs.Limits.{Limits}
-use Rattle.cas_syntax.specs.Reading.{within, without, IsModule, Begins, BeginsUnlimited, BeginsLeftOut, OpensNothing, EndsInBody, ShowsLeftOut, IsWrong, too_many, left_out, no_module, HasSyntaxFault, at_token, at_end}
+use Rattle.cas_syntax.specs.Reading.{within, without, IsModule, Begins, BeginsUnlimited, BeginsLeftOut, EndsInBody, ShowsLeftOut, IsWrong, too_many, left_out, no_module, HasSyntaxFault, at_token, at_end}
 use Rattle.cas_syntax.specs.Tokens.{sign}
 use Rattle.cas_syntax.specs.Tree.{ItemTree}
 use Rattle.cas_read.specs.Frames.{Frame, Control, InItems}
 use Rattle.cas_read.specs.Machine.{Outcome, is_at, go, run, finish, Fault, Verdict}
-use Rattle.cas_read.proofs.Valid.{is_inside, Valid, valid_start, Comes, Judged, goes_on, limited_here, left_out_here, const_inside, refused}
+use Rattle.cas_read.proofs.Valid.{is_inside, Valid, valid_start, Judged, goes_on, limited_here, left_out_here, const_inside, refused}
 use Rattle.cas_read.proofs.ViableBodies.{outside_never}
-use Rattle.cas_read.proofs.ViableEnds.{Completion}
 use Rattle.cas_read.proofs.ViableStates.{completes}
 use Rattle.cas_read.proofs.ViableWalks.{taken_by, judged, comes_plain, comes_near, reach, reach_valid, reach_snoc, run_step, plain_step, walk_run, reached, Stops, Ends, stops_or_ends}
 
@@ -73,28 +71,37 @@ module _ (reads_module : (limits : Limits) (items : List ItemTree) (ts : List To
   -- what leads somewhere is the beginning of a module
   pub begins : (front : List Token) (n : Control × List Frame) → Leads front n → Begins front
   begins front n h =
-      let r = completes n.0 n.1 (leads_valid front n h) in
-      (r.items, r.others, run_sound (within (length r.others)) r.items (front ++ r.others)
-        (walk_run (length r.others) None r.others front (InItems []) [] n (λ m le. refl) valid_start h ∙ r.ends (within (length r.others)) (omega arith)))
+      let r = completes n.0 n.1 (leads_valid front n h) in (
+        r.items,
+        r.others,
+        run_sound (within (length r.others)) r.items (front ++ r.others)
+            (walk_run (length r.others) None r.others front (InItems []) [] n (λ m le. refl) valid_start h ∙ r.ends (within (length r.others)) (omega arith)),
+      )
 
   unlimited : (front : List Token) (t : Token) (n m : Control × List Frame) → Leads front n → taken_by true false t n.0 n.1 ≡ Ok m → BeginsUnlimited (front ++ t ∷ [])
   unlimited front t n m h e =
       let r = completes m.0 m.1 (comes_near (judged t n.0 n.1 (leads_valid front n h)) e).valid in
       let count = length ((front ++ t ∷ []) ++ r.others) in
-      let all : count ≡ length front + 1 + length r.others = omega (arith, length-append (front ++ t ∷ []) r.others, length-append front (t ∷ [])) in
-      (r.items, r.others, run_sound (without count None) r.items ((front ++ t ∷ []) ++ r.others)
-        (at_next count None front r.others t n true false (λ m le. refl) h (grind (arith, all)) refl
-        ∙ goes_through (run (without count None) r.others) (length r.others) _ m e ∙ r.ends (without count None) (omega (arith, all))))
+      let all : count ≡ length front + 1 + length r.others = omega (arith, length-append (front ++ t ∷ []) r.others, length-append front (t ∷ [])) in (
+        r.items,
+        r.others,
+        run_sound (without count None) r.items ((front ++ t ∷ []) ++ r.others)
+            (at_next count None front r.others t n true false (λ m le. refl) h (grind (arith, all)) refl
+            ∙ goes_through (run (without count None) r.others) (length r.others) _ m e ∙ r.ends (without count None) (omega (arith, all))),
+      )
 
   left_out_begins : (front : List Token) (t : Token) (n m : Control × List Frame) → Leads front n → taken_by true true t n.0 n.1 ≡ Ok m → Valid m.0 m.1 → BeginsLeftOut (front ++ t ∷ [])
   left_out_begins front t n m h e v =
       let r = completes m.0 m.1 v in
       let count = length ((front ++ t ∷ []) ++ r.others) in
       let place = length r.others in
-      let all : count ≡ length front + 1 + length r.others = omega (arith, length-append (front ++ t ∷ []) r.others, length-append front (t ∷ [])) in
-      (r.items, r.others, run_sound (without count (Some place)) r.items ((front ++ t ∷ []) ++ r.others)
-        (at_next count (Some place) front r.others t n true true (λ m le. grind arith) h (grind (arith, all)) (grind arith)
-        ∙ goes_through (run (without count (Some place)) r.others) (length r.others) _ m e ∙ r.ends (without count (Some place)) (omega (arith, all))))
+      let all : count ≡ length front + 1 + length r.others = omega (arith, length-append (front ++ t ∷ []) r.others, length-append front (t ∷ [])) in (
+        r.items,
+        r.others,
+        run_sound (without count (Some place)) r.items ((front ++ t ∷ []) ++ r.others)
+            (at_next count (Some place) front r.others t n true true (λ m le. grind arith) h (grind (arith, all)) (grind arith)
+            ∙ goes_through (run (without count (Some place)) r.others) (length r.others) _ m e ∙ r.ends (without count (Some place)) (omega (arith, all))),
+      )
 
   not_begins : (front : List Token) (t : Token) (n : Control × List Frame) (code : ReadCode) → Leads front n → taken_by false false t n.0 n.1 ≡ Err code → Begins (front ++ t ∷ []) → ⊥
   not_begins front t n code h e (items, others, text) =
@@ -130,10 +137,15 @@ module _ (reads_module : (limits : Limits) (items : List ItemTree) (ts : List To
       let limits = without (length tokens) None in
       let joined : tokens ≡ front ++ tail = append_assoc front b.0 (sign sg.CloseBrace b.1 ∷ []) in
       let count : length tokens ≡ length front + length tail = ap (λ (ts : List Token). length ts) joined ∙ length-append front tail in
-      let same : length r.others ≡ length tail = ap (λ (ts : List Token). length ts) b.3 in
-      (r.items, b.0, b.1, b.2, run_sound limits r.items tokens
-        (ap (λ (ts : List Token). run limits ts (InItems []) []) joined ∙ walk_run (length tokens) None tail front (InItems []) [] n (λ m le. refl) valid_start h
-        ∙ ap (λ (ts : List Token). run limits ts n.0 n.1) (sym b.3) ∙ r.ends limits (omega (arith, same, count))))
+      let same : length r.others ≡ length tail = ap (λ (ts : List Token). length ts) b.3 in (
+        r.items,
+        b.0,
+        b.1,
+        b.2,
+        run_sound limits r.items tokens
+            (ap (λ (ts : List Token). run limits ts (InItems []) []) joined ∙ walk_run (length tokens) None tail front (InItems []) [] n (λ m le. refl) valid_start h
+            ∙ ap (λ (ts : List Token). run limits ts n.0 n.1) (sym b.3) ∙ r.ends limits (omega (arith, same, count))),
+      )
 
   not_in_body : (front : List Token) (n : Control × List Frame) → Leads front n → is_inside n.0 n.1 ≡ false → EndsInBody front → ⊥
   not_in_body front n h out (items, others, p, opens, text) =

@@ -1,5 +1,5 @@
 -- Whether tokens end inside a function's body is whether the machine stands in one.
-use Rattle.std.proofs.Common.{◌≡◌, ℕ, ◌+◌, ◌≤◌, ◌<◌, Bool, true, false, ◌||◌, nat_lt, List, [], ◌∷◌, ◌++◌, length, length-append, Option, Some, None, Ok, Err, Result, refl, ap, ◌∙◌, arith, sym, subst}
+use Rattle.std.proofs.Common.{◌≡◌, ℕ, ◌≤◌, Bool, true, false, ◌||◌, List, [], ◌∷◌, ◌++◌, length, None, Ok, Err, refl, ◌∙◌, arith, sym, subst}
 use Rattle.cas_base.specs.declared.place.Place.{Place}
 use Rattle.cas_lex.specs.declared.token.Token.{Token}
 use Rattle.cas_lex.specs.declared.token.TokenKind.{TokenKind}
@@ -9,7 +9,7 @@ use Rattle.cas_syntax.specs.Reading.{without, is_opening_brace, OpensNothing}
 use Rattle.cas_syntax.specs.Tokens.{sign}
 use Rattle.cas_syntax.specs.Tree.{ItemTree}
 use Rattle.cas_read.specs.Frames.{Frame, Control, InItems}
-use Rattle.cas_read.specs.Machine.{Outcome, go, run, finish, Verdict}
+use Rattle.cas_read.specs.Machine.{Outcome, go, run, finish}
 use Rattle.cas_read.proofs.Valid.{is_inside, Valid, is_items, Stays, Comes}
 use Rattle.cas_read.proofs.ViableWalks.{taken_by, judged, comes_near, run_step}
 
@@ -44,7 +44,7 @@ outside_never cut (t ∷ ts) p c st items v out opens le h =
   where
     by_step : (o : Outcome) → taken_by true false t c st ≡ o → go (run (without cut None) (ts ++ sign sg.CloseBrace p ∷ [])) (length (ts ++ sign sg.CloseBrace p ∷ [])) o ≡ Ok items →
         ((c : Control) (st : List Frame) (items : List ItemTree) → Valid c st → is_inside c st ≡ false → OpensNothing ts → length (ts ++ sign sg.CloseBrace p ∷ []) ≤ cut →
-          run (without cut None) (ts ++ sign sg.CloseBrace p ∷ []) c st ≡ Ok items → ⊥) → ⊥
+        run (without cut None) (ts ++ sign sg.CloseBrace p ∷ []) c st ≡ Ok items → ⊥) → ⊥
     by_step (Ok m) e h recur =
         let came : Comes false t.kind m = subst (λ (i : Bool). Comes i t.kind m) out (comes_near (judged t c st v) e) in
         let both = neither (is_opening_brace t.kind) _ opens in

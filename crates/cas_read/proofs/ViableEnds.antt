@@ -1,34 +1,22 @@
 -- From each state that awaits a part of a function's body the text can be completed, where no limit is asked.
-use Rattle.std.proofs.Common.{◌≡◌, ℕ, ◌+◌, ◌≤◌, ◌<◌, ◌⊎◌, inl, inr, Bool, true, false, ◌||◌, if◌then◌else◌, nat_le, nat_lt, List, [], ◌∷◌, ◌++◌, length, Option, Some, None, Ok, Err, Result, refl, ap, ◌∙◌, arith}
+use Rattle.std.proofs.Common.{◌≡◌, ℕ, ◌+◌, ◌≤◌, ◌<◌, Bool, true, false, ◌||◌, if◌then◌else◌, nat_le, nat_lt, List, [], ◌∷◌, ◌++◌, length, Option, None, Ok, refl, ap, ◌∙◌, arith}
 use Rattle.cas_syntax.specs.Reading.{is_opening_brace, OpensNothing}
-use Rattle.cas_syntax.specs.Tokens.{word, sign, number}
-use Rattle.cas_base.specs.declared.decl.Form.{Form}
-use Rattle.cas_base.specs.declared.kind.Kind.{Kind}
-use Rattle.cas_base.specs.declared.kind.Kind.TheVariants.{I8, U8, I16, U16, I32, U32}
-use Rattle.cas_base.specs.declared.kind.Ty.{Ty}
-use Rattle.cas_base.specs.declared.kind.Ty.TheVariants.{Void, Int, Ptr, Array}
+use Rattle.cas_syntax.specs.Tokens.{sign, number}
+use Rattle.cas_base.specs.declared.kind.Kind.TheVariants.{I32}
 use Rattle.cas_base.specs.declared.place.Place.{Place}
-use Rattle.cas_lex.specs.declared.code.ReadCode.{ReadCode}
-use Rattle.cas_lex.specs.declared.code.ReadCode.TheVariants.{R5, R6, R7, R8}
 use Rattle.cas_lex.specs.declared.token.Token.{Token}
 use Rattle.cas_lex.specs.declared.token.TokenKind.{TokenKind}
 use Rattle.cas_lex.specs.declared.token.TokenKind.TheVariants as k
 use Rattle.cas_lex.specs.declared.token.Word.TheVariants as w
 use Rattle.cas_lex.specs.declared.token.Sign.{Sign}
 use Rattle.cas_lex.specs.declared.token.Sign.TheVariants as sg
-use Rattle.cas_syntax.specs.declared.tree.Ident.{Ident}
-use Rattle.cas_syntax.specs.declared.tree.UnaryOperator.TheVariants as u
-use Rattle.cas_syntax.specs.declared.tree.BinaryOperator.{BinaryOperator}
-use Rattle.cas_syntax.specs.declared.tree.BinaryOperator.TheVariants.{Add, Sub}
+use Rattle.cas_syntax.specs.declared.tree.BinaryOperator.TheVariants.{Add}
 use Rattle.cas_syntax.specs.Limits.{Limits}
-use Rattle.cas_syntax.specs.Operators.{Infix, always_both, logical_and, logical_or, joined, level}
-use Rattle.cas_syntax.specs.Tree.{ExprTree, literal, name, index, deref, address, address_index, unary, cast, conditional, TargetTree, to_name, to_index, to_deref, nothing, value, called, StmtTree, skip, declare, assign, call, block, if_, while_, do_, for_, break_, continue_, return_, lock, unlock, print, StmtOption, absent, present, StmtList, no_more, one_more, ItemTree, global, prototype, define}
-use Rattle.cas_read.specs.Frames.{Prefix, Operates, Points, Casts, Receiver, Assigned, Begun, Caller, Alone, Keeps, Use, Written, Stepped, Opening, Sort, Guarded, Constant, Data}
-use Rattle.cas_read.specs.Frames.{Frame, Before, Right, InParens, InBrackets, Then, Otherwise, TargetIndex, TargetBehind, ValueOf, AssignedTo, Argument, IfCondition, WhileCondition, DoCondition, ForCondition, ReturnValue, PrintValue, CastKind, LocalsKind, FirstKind, ReturnKind, ParameterKind, CellsKind, SimpleStmt, FirstSimple, AfterSimple, Locals, FirstLocal, IfThen, IfElse, WhileBody, DoBody, ForBody, NextStmt, BlockOf, BodyOf}
-use Rattle.cas_read.specs.Frames.{Control, WantExpr, HaveExpr, Given, Named, Taking, Opened, WantOutermost, WantValue, MaybeCall, WantArguments, WantKind, Signed, Unsigned, MayEndInt, HaveKind, Expect, WantTarget, AfterName, AfterStar, SteppedName, AfterTarget, HaveSimple, WantLocal, LocalName, LocalStar, LocalPointer, LocalLength, LocalArray, HaveLocal, WantStmt, HaveStmt, InList, ForFirst, ForSecond, ForThird, AfterReturn, LockName, UnlockName}
-use Rattle.cas_read.specs.Frames.{InItems, AfterExtern, GlobalLock, GlobalGuard, CellName, CellLength, CellArray, CellValue, CellNegative, WantCells, NegativeCells, HaveCells, MoreCells, CellsEnd, WantFunction, ReturnStar, FunctionName, WantParameters, WantParameter, ParameterStar, ParameterType, ParameterName, HaveParameter, AfterParameters, WantHeld, HaveHeld, AfterHead}
-use Rattle.cas_read.proofs.Valid.{Hole, AnExpr, CastWords, LocalWords, ItemWords, ASimple, ALocal, AStmt, AnEnd, receives, calls, Stands, on_before, on_right, on_parens, on_brackets, on_then, on_otherwise, on_target_index, on_target_behind, on_value, on_assigned, on_argument, on_if, on_while, on_do, on_for, on_return, on_print, on_cast, on_locals_kind, on_first_kind, on_return_kind, on_parameter_kind, on_cells_kind, on_simple, on_first_simple, on_after_simple, on_locals, on_first_local, on_if_then, on_if_else, on_while_body, on_do_body, on_for_body, on_next, on_block, on_body, kind_inside, is_inside, AwaitsKind, is_needed, Valid, is_items, Stays, Comes, Judged, goes_on, limited_here, left_out_here, const_inside, refused}
-use Rattle.cas_read.specs.Machine.{Outcome, at, snoc, named, bracketed, prefixed, reached, resulted, stepped, closing_of_function, limited, counted, operated, risen, infix_of, down, binds, is_at, is_else, down_stmt, shift, go, run, finish}
+use Rattle.cas_syntax.specs.Tree.{ExprTree, TargetTree, StmtTree, skip, for_, StmtOption, absent, StmtList, ItemTree}
+use Rattle.cas_read.specs.Frames.{Use, Written, Stepped}
+use Rattle.cas_read.specs.Frames.{Frame, ForBody}
+use Rattle.cas_read.specs.Frames.{Control, HaveExpr, Expect, HaveSimple, HaveLocal, WantStmt, HaveStmt, InList, ForSecond, ForThird}
+use Rattle.cas_read.specs.Machine.{Outcome, reached, stepped, limited, counted, operated, risen, infix_of, down, binds, is_at, shift, go, run}
 
 abbrev pub here : Place
 here = record { line = 1; col = 1 }
@@ -80,7 +68,10 @@ Takes t c st n = (limits : Limits) (leaves : Bool) → shift limits true leaves 
 pub begin : {i : Bool} {first_is : TokenKind → Bool} {c : Control} {st : List Frame} (t : Token) (n : Control × List Frame) → Takes t c st n → first_is t.kind ≡ true →
     (i ≡ true → is_opening_brace t.kind ≡ false) → Completion i n.0 n.1 → Ending i first_is c st
 begin {c = c} {st = st} t n by fits clear r = record {
-  first = t; rest = r.others; items = r.items; fits = fits;
+  first = t;
+  rest = r.others;
+  items = r.items;
+  fits = fits;
   ends = λ limits le. step limits t r.others c st n (by limits) le ∙ r.ends limits (omega arith);
   body = λ e. closes_more t r.others (clear e) (r.body e);
 }
@@ -92,7 +83,10 @@ more t n by clear r = whole (begin {first_is = λ kind. true} t n by refl clear 
 pub alike : {i : Bool} {first_is : TokenKind → Bool} {c c' : Control} {st st' : List Frame} → ((limits : Limits) (near leaves : Bool) (t : Token) → first_is t.kind ≡ true → shift limits near leaves t c st ≡ shift limits near leaves t c' st') →
     Ending i first_is c' st' → Ending i first_is c st
 alike by r = record {
-  first = r.first; rest = r.rest; items = r.items; fits = r.fits;
+  first = r.first;
+  rest = r.rest;
+  items = r.items;
+  fits = r.fits;
   ends = λ limits le. ap (λ (o : Outcome). go (run limits r.rest) (length r.rest) o) (by limits (nat_lt (length r.rest) limits.cut) (is_at limits.left_out (length r.rest)) r.first r.fits) ∙ r.ends limits le;
   body = r.body;
 }

@@ -1,32 +1,22 @@
 -- Each token of an expression leads to a valid state, and its fault is the one that the machine names.
-use Rattle.std.proofs.Common.{◌≡◌, ℕ, ◌+◌, ◌<◌, ◌⊎◌, inl, inr, Bool, true, false, ◌||◌, if◌then◌else◌, nat_le, nat_lt, List, [], ◌∷◌, ◌++◌, Option, Some, None, Ok, Err, Result, refl, arith}
-use Rattle.cas_base.specs.declared.decl.Form.{Form}
+use Rattle.std.proofs.Common.{ℕ, ◌+◌, ◌<◌, Bool, true, false, ◌||◌, if◌then◌else◌, nat_le, nat_lt, List, [], ◌∷◌, ◌++◌, Option, Some, None, Ok, Err, refl, arith}
 use Rattle.cas_base.specs.declared.kind.Kind.{Kind}
-use Rattle.cas_base.specs.declared.kind.Kind.TheVariants.{I8, U8, I16, U16, I32, U32}
-use Rattle.cas_base.specs.declared.kind.Ty.{Ty}
-use Rattle.cas_base.specs.declared.kind.Ty.TheVariants.{Void, Int, Ptr, Array}
 use Rattle.cas_base.specs.declared.place.Place.{Place}
-use Rattle.cas_lex.specs.declared.code.ReadCode.{ReadCode}
-use Rattle.cas_lex.specs.declared.code.ReadCode.TheVariants.{R5, R6, R7, R8}
-use Rattle.cas_lex.specs.declared.token.Token.{Token}
+use Rattle.cas_lex.specs.declared.code.ReadCode.TheVariants.{R5, R7}
 use Rattle.cas_lex.specs.declared.token.TokenKind.{TokenKind}
 use Rattle.cas_lex.specs.declared.token.TokenKind.TheVariants as k
 use Rattle.cas_lex.specs.declared.token.Word.TheVariants as w
 use Rattle.cas_lex.specs.declared.token.Sign.{Sign}
 use Rattle.cas_lex.specs.declared.token.Sign.TheVariants as sg
 use Rattle.cas_syntax.specs.declared.tree.Ident.{Ident}
-use Rattle.cas_syntax.specs.declared.tree.UnaryOperator.TheVariants as u
-use Rattle.cas_syntax.specs.declared.tree.BinaryOperator.{BinaryOperator}
-use Rattle.cas_syntax.specs.declared.tree.BinaryOperator.TheVariants.{Add, Sub}
 use Rattle.cas_syntax.specs.Limits.{Limits}
-use Rattle.cas_syntax.specs.Operators.{Infix, always_both, logical_and, logical_or, joined, level}
-use Rattle.cas_syntax.specs.Tree.{ExprTree, literal, name, index, deref, address, address_index, unary, cast, conditional, TargetTree, to_name, to_index, to_deref, nothing, value, called, StmtTree, skip, declare, assign, call, block, if_, while_, do_, for_, break_, continue_, return_, lock, unlock, print, StmtOption, absent, present, StmtList, no_more, one_more, ItemTree, global, prototype, define}
-use Rattle.cas_read.specs.Frames.{Prefix, Operates, Points, Casts, Receiver, Assigned, Begun, Caller, Alone, Keeps, Use, Written, Stepped, Opening, Sort, Guarded, Constant, Data}
-use Rattle.cas_read.specs.Frames.{Frame, Before, Right, InParens, InBrackets, Then, Otherwise, TargetIndex, TargetBehind, ValueOf, AssignedTo, Argument, IfCondition, WhileCondition, DoCondition, ForCondition, ReturnValue, PrintValue, CastKind, LocalsKind, FirstKind, ReturnKind, ParameterKind, CellsKind, SimpleStmt, FirstSimple, AfterSimple, Locals, FirstLocal, IfThen, IfElse, WhileBody, DoBody, ForBody, NextStmt, BlockOf, BodyOf}
-use Rattle.cas_read.specs.Frames.{Control, WantExpr, HaveExpr, Given, Named, Taking, Opened, WantOutermost, WantValue, MaybeCall, WantArguments, WantKind, Signed, Unsigned, MayEndInt, HaveKind, Expect, WantTarget, AfterName, AfterStar, SteppedName, AfterTarget, HaveSimple, WantLocal, LocalName, LocalStar, LocalPointer, LocalLength, LocalArray, HaveLocal, WantStmt, HaveStmt, InList, ForFirst, ForSecond, ForThird, AfterReturn, LockName, UnlockName}
-use Rattle.cas_read.specs.Frames.{InItems, AfterExtern, GlobalLock, GlobalGuard, CellName, CellLength, CellArray, CellValue, CellNegative, WantCells, NegativeCells, HaveCells, MoreCells, CellsEnd, WantFunction, ReturnStar, FunctionName, WantParameters, WantParameter, ParameterStar, ParameterType, ParameterName, HaveParameter, AfterParameters, WantHeld, HaveHeld, AfterHead}
-use Rattle.cas_read.proofs.Valid.{Hole, AnExpr, CastWords, LocalWords, ItemWords, ASimple, ALocal, AStmt, AnEnd, receives, calls, Stands, on_before, on_right, on_parens, on_brackets, on_then, on_otherwise, on_target_index, on_target_behind, on_value, on_assigned, on_argument, on_if, on_while, on_do, on_for, on_return, on_print, on_cast, on_locals_kind, on_first_kind, on_return_kind, on_parameter_kind, on_cells_kind, on_simple, on_first_simple, on_after_simple, on_locals, on_first_local, on_if_then, on_if_else, on_while_body, on_do_body, on_for_body, on_next, on_block, on_body, kind_inside, is_inside, AwaitsKind, is_needed, Valid, is_items, Stays, Comes, Judged, goes_on, limited_here, left_out_here, const_inside, refused}
-use Rattle.cas_read.specs.Machine.{Outcome, at, snoc, wrong, binds, infix_of, is, named, bracketed, prefixed, reached, resulted, require, ended, in_locals, local_ended, received, argued, local_started, limited, counted, counted_in, next, leave, operand, outermost, risen, operated, down, have, after_operand_name, taking, opened, value_started, maybe_call, arguments_started, want_kind, nested}
+use Rattle.cas_syntax.specs.Operators.{Infix, joined}
+use Rattle.cas_syntax.specs.Tree.{ExprTree, conditional, TargetTree, to_name, to_index, to_deref, value, StmtTree, declare, assign, do_, return_, print, present, StmtList}
+use Rattle.cas_read.specs.Frames.{Receiver, Assigned, Begun, Caller, Alone, Keeps, Use, Written, Stepped}
+use Rattle.cas_read.specs.Frames.{Frame, InParens, Otherwise, ValueOf, Argument, IfThen, WhileBody, ForBody}
+use Rattle.cas_read.specs.Frames.{Control, WantExpr, HaveExpr, Expect, WantStmt, HaveStmt, ForSecond, ForThird}
+use Rattle.cas_read.proofs.Valid.{AnExpr, ASimple, ALocal, AnEnd, receives, calls, Stands, on_before, on_right, on_parens, on_brackets, on_then, on_otherwise, on_target_index, on_target_behind, on_value, on_assigned, on_argument, on_if, on_while, on_do, on_for, on_return, on_print, on_cast, on_simple, on_first_simple, on_after_simple, on_locals, on_first_local, on_if_then, on_while_body, on_for_body, Valid, Stays, Judged, goes_on, limited_here, left_out_here, const_inside, refused}
+use Rattle.cas_read.specs.Machine.{Outcome, snoc, wrong, binds, infix_of, is, named, bracketed, prefixed, reached, resulted, require, ended, in_locals, local_ended, received, argued, limited, counted, counted_in, leave, operand, outermost, risen, operated, down, have, after_operand_name, taking, opened, value_started, maybe_call, arguments_started, nested}
 
 -- what an outcome is, by whether limits aren't asked, and whether a form that is left out may stand
 abbrev pub Fits : (inside : Bool) → TokenKind → (Bool → Bool → Outcome) → Type 0
@@ -100,8 +90,8 @@ module _ (limits : Limits) where
   operated_fits b l x st kind o a a' f h below = by_test (nat_le l (binds kind))
     where
       by_test : (t : Bool) → Judged true kind (if t then counted limits false false b (risen limits false false b l x st (infix_of kind)) else o)
-        (if t then counted limits true false b (risen limits true false b l x st (infix_of kind)) else a)
-        (if t then counted limits true true b (risen limits true true b l x st (infix_of kind)) else a')
+          (if t then counted limits true false b (risen limits true false b l x st (infix_of kind)) else a)
+          (if t then counted limits true true b (risen limits true true b l x st (infix_of kind)) else a')
       by_test true = counted_fits b (risen_fits b l x st (infix_of kind) kind f h)
       by_test false = below
 

@@ -1,34 +1,22 @@
 -- What each stack inside a function's body awaits can be followed by tokens that complete the text.
-use Rattle.std.proofs.Common.{◌≡◌, ℕ, ◌+◌, ◌≤◌, ◌<◌, Bool, true, false, ◌||◌, if◌then◌else◌, nat_le, nat_lt, List, [], ◌∷◌, ◌++◌, length, Option, Some, None, Ok, Err, Result, refl, ap, ◌∙◌, arith}
-use Rattle.cas_syntax.specs.Tokens.{word, sign, number}
-use Rattle.cas_base.specs.declared.decl.Form.{Form}
-use Rattle.cas_base.specs.declared.kind.Kind.{Kind}
-use Rattle.cas_base.specs.declared.kind.Kind.TheVariants.{I8, U8, I16, U16, I32, U32}
-use Rattle.cas_base.specs.declared.kind.Ty.{Ty}
-use Rattle.cas_base.specs.declared.kind.Ty.TheVariants.{Void, Int, Ptr, Array}
+use Rattle.std.proofs.Common.{◌≡◌, ℕ, ◌+◌, Bool, true, false, if◌then◌else◌, nat_lt, List, [], ◌∷◌, ◌++◌, Some, None, Ok, refl, ap, arith}
+use Rattle.cas_syntax.specs.Tokens.{word, sign}
+use Rattle.cas_base.specs.declared.kind.Kind.TheVariants.{I32}
 use Rattle.cas_base.specs.declared.place.Place.{Place}
-use Rattle.cas_lex.specs.declared.code.ReadCode.{ReadCode}
-use Rattle.cas_lex.specs.declared.code.ReadCode.TheVariants.{R5, R6, R7, R8}
 use Rattle.cas_lex.specs.declared.token.Token.{Token}
 use Rattle.cas_lex.specs.declared.token.TokenKind.{TokenKind}
 use Rattle.cas_lex.specs.declared.token.TokenKind.TheVariants as k
 use Rattle.cas_lex.specs.declared.token.Word.TheVariants as w
-use Rattle.cas_lex.specs.declared.token.Sign.{Sign}
 use Rattle.cas_lex.specs.declared.token.Sign.TheVariants as sg
-use Rattle.cas_syntax.specs.declared.tree.Ident.{Ident}
-use Rattle.cas_syntax.specs.declared.tree.UnaryOperator.TheVariants as u
-use Rattle.cas_syntax.specs.declared.tree.BinaryOperator.{BinaryOperator}
-use Rattle.cas_syntax.specs.declared.tree.BinaryOperator.TheVariants.{Add, Sub}
 use Rattle.cas_syntax.specs.Limits.{Limits}
-use Rattle.cas_syntax.specs.Operators.{Infix, always_both, logical_and, logical_or, joined, level}
-use Rattle.cas_syntax.specs.Tree.{ExprTree, literal, name, index, deref, address, address_index, unary, cast, conditional, TargetTree, to_name, to_index, to_deref, nothing, value, called, StmtTree, skip, declare, assign, call, block, if_, while_, do_, for_, break_, continue_, return_, lock, unlock, print, StmtOption, absent, present, StmtList, no_more, one_more, ItemTree, global, prototype, define}
-use Rattle.cas_read.specs.Frames.{Prefix, Operates, Points, Casts, Receiver, Assigned, Begun, Caller, Alone, Keeps, Use, Written, Stepped, Opening, Sort, Guarded, Constant, Data}
-use Rattle.cas_read.specs.Frames.{Frame, Before, Right, InParens, InBrackets, Then, Otherwise, TargetIndex, TargetBehind, ValueOf, AssignedTo, Argument, IfCondition, WhileCondition, DoCondition, ForCondition, ReturnValue, PrintValue, CastKind, LocalsKind, FirstKind, ReturnKind, ParameterKind, CellsKind, SimpleStmt, FirstSimple, AfterSimple, Locals, FirstLocal, IfThen, IfElse, WhileBody, DoBody, ForBody, NextStmt, BlockOf, BodyOf}
-use Rattle.cas_read.specs.Frames.{Control, WantExpr, HaveExpr, Given, Named, Taking, Opened, WantOutermost, WantValue, MaybeCall, WantArguments, WantKind, Signed, Unsigned, MayEndInt, HaveKind, Expect, WantTarget, AfterName, AfterStar, SteppedName, AfterTarget, HaveSimple, WantLocal, LocalName, LocalStar, LocalPointer, LocalLength, LocalArray, HaveLocal, WantStmt, HaveStmt, InList, ForFirst, ForSecond, ForThird, AfterReturn, LockName, UnlockName}
-use Rattle.cas_read.specs.Frames.{InItems, AfterExtern, GlobalLock, GlobalGuard, CellName, CellLength, CellArray, CellValue, CellNegative, WantCells, NegativeCells, HaveCells, MoreCells, CellsEnd, WantFunction, ReturnStar, FunctionName, WantParameters, WantParameter, ParameterStar, ParameterType, ParameterName, HaveParameter, AfterParameters, WantHeld, HaveHeld, AfterHead}
-use Rattle.cas_read.proofs.Valid.{Hole, AnExpr, CastWords, LocalWords, ItemWords, ASimple, ALocal, AStmt, AnEnd, receives, calls, Stands, on_before, on_right, on_parens, on_brackets, on_then, on_otherwise, on_target_index, on_target_behind, on_value, on_assigned, on_argument, on_if, on_while, on_do, on_for, on_return, on_print, on_cast, on_locals_kind, on_first_kind, on_return_kind, on_parameter_kind, on_cells_kind, on_simple, on_first_simple, on_after_simple, on_locals, on_first_local, on_if_then, on_if_else, on_while_body, on_do_body, on_for_body, on_next, on_block, on_body, kind_inside, is_inside, AwaitsKind, is_needed, Valid, is_items, Stays, Comes, Judged, goes_on, limited_here, left_out_here, const_inside, refused}
-use Rattle.cas_read.specs.Machine.{Outcome, at, snoc, named, bracketed, prefixed, reached, resulted, closing_of_function, counted, is_else, down_stmt, shift, run}
-use Rattle.cas_read.proofs.ViableEnds.{here, zero_literal, Completion, Ending, whole, begin, more, alike, closes, follows_stmt, limited_not, goes_down, EndsExpr, EndsSimple, EndsLocal, EndsStmt, EndsList, expr_closes, expr_as, empty_stmt, for_third_ends, for_second_ends, semicolon_ends, reached_ends}
+use Rattle.cas_syntax.specs.Operators.{joined}
+use Rattle.cas_syntax.specs.Tree.{ExprTree, literal, conditional, to_name, to_index, to_deref, value, called, StmtTree, skip, declare, assign, call, block, if_, while_, do_, for_, return_, print, absent, present}
+use Rattle.cas_read.specs.Frames.{Assigned, Begun, Alone, Keeps}
+use Rattle.cas_read.specs.Frames.{Frame, Otherwise, DoCondition, IfThen, IfElse, WhileBody, ForBody}
+use Rattle.cas_read.specs.Frames.{WantExpr, HaveExpr, WantOutermost, Expect, WantStmt, HaveStmt, InList, ForSecond, ForThird}
+use Rattle.cas_read.proofs.Valid.{AnExpr, ASimple, ALocal, AStmt, AnEnd, Stands, on_before, on_right, on_parens, on_brackets, on_then, on_otherwise, on_target_index, on_target_behind, on_value, on_assigned, on_argument, on_if, on_while, on_do, on_for, on_return, on_print, on_simple, on_first_simple, on_after_simple, on_locals, on_first_local, on_if_then, on_if_else, on_while_body, on_do_body, on_for_body, on_next, on_block, on_body}
+use Rattle.cas_read.specs.Machine.{snoc, bracketed, prefixed, reached, resulted, closing_of_function, is_else, down_stmt}
+use Rattle.cas_read.proofs.ViableEnds.{here, zero_literal, Completion, whole, begin, more, alike, follows_stmt, limited_not, EndsExpr, EndsSimple, EndsLocal, EndsStmt, EndsList, expr_closes, expr_as, empty_stmt, for_third_ends, for_second_ends, semicolon_ends, reached_ends}
 
 -- an `else` doesn't follow
 no_else : (limits : Limits) (near leaves : Bool) (n : ℕ) (p : Place) (c : ExprTree) (a : StmtTree) (st : List Frame) (t : Token) → follows_stmt t.kind ≡ true →
@@ -107,7 +95,10 @@ mutual
   pub list_ends : {st : List Frame} → Stands AnEnd st → EndsList st
   list_ends (on_block p st h) n bs = begin (sign sg.CloseBrace here) (HaveStmt (block p bs), st) (λ limits leaves. refl) refl (λ _. refl) (whole (stmt_ends h (block p bs)))
   list_ends (on_body x form xs held items) n bs = record {
-    first = sign sg.CloseBrace here; rest = []; items = items ++ closing_of_function x form xs held bs here ∷ []; fits = refl;
+    first = sign sg.CloseBrace here;
+    rest = [];
+    items = items ++ closing_of_function x form xs held bs here ∷ [];
+    fits = refl;
     ends = λ limits le. refl;
     body = λ e. ([], here, refl, refl);
   }

@@ -1,33 +1,24 @@
 -- Each token at the words of a kind leads to a valid state, and its fault is the one that the machine names.
-use Rattle.std.proofs.Common.{◌≡◌, ℕ, ◌+◌, ◌<◌, ◌⊎◌, inl, inr, Bool, true, false, ◌||◌, if◌then◌else◌, nat_le, nat_lt, List, [], ◌∷◌, ◌++◌, Option, Some, None, Ok, Err, Result, refl, arith}
-use Rattle.cas_base.specs.declared.decl.Form.{Form}
+use Rattle.std.proofs.Common.{◌≡◌, ℕ, inl, inr, Bool, true, false, List, [], ◌∷◌, ◌++◌, Option, Some, None, Ok, refl, arith}
 use Rattle.cas_base.specs.declared.kind.Kind.{Kind}
 use Rattle.cas_base.specs.declared.kind.Kind.TheVariants.{I8, U8, I16, U16, I32, U32}
 use Rattle.cas_base.specs.declared.kind.Ty.{Ty}
-use Rattle.cas_base.specs.declared.kind.Ty.TheVariants.{Void, Int, Ptr, Array}
+use Rattle.cas_base.specs.declared.kind.Ty.TheVariants.{Int}
 use Rattle.cas_base.specs.declared.place.Place.{Place}
-use Rattle.cas_lex.specs.declared.code.ReadCode.{ReadCode}
-use Rattle.cas_lex.specs.declared.code.ReadCode.TheVariants.{R5, R6, R7, R8}
-use Rattle.cas_lex.specs.declared.token.Token.{Token}
 use Rattle.cas_lex.specs.declared.token.TokenKind.{TokenKind}
 use Rattle.cas_lex.specs.declared.token.TokenKind.TheVariants as k
 use Rattle.cas_lex.specs.declared.token.Word.TheVariants as w
-use Rattle.cas_lex.specs.declared.token.Sign.{Sign}
 use Rattle.cas_lex.specs.declared.token.Sign.TheVariants as sg
 use Rattle.cas_syntax.specs.declared.tree.Ident.{Ident}
-use Rattle.cas_syntax.specs.declared.tree.UnaryOperator.TheVariants as u
-use Rattle.cas_syntax.specs.declared.tree.BinaryOperator.{BinaryOperator}
-use Rattle.cas_syntax.specs.declared.tree.BinaryOperator.TheVariants.{Add, Sub}
 use Rattle.cas_syntax.specs.Limits.{Limits}
-use Rattle.cas_syntax.specs.Operators.{Infix, always_both, logical_and, logical_or, joined, level}
-use Rattle.cas_syntax.specs.Tree.{ExprTree, literal, name, index, deref, address, address_index, unary, cast, conditional, TargetTree, to_name, to_index, to_deref, nothing, value, called, StmtTree, skip, declare, assign, call, block, if_, while_, do_, for_, break_, continue_, return_, lock, unlock, print, StmtOption, absent, present, StmtList, no_more, one_more, ItemTree, global, prototype, define}
-use Rattle.cas_read.specs.Frames.{Prefix, Operates, Points, Casts, Receiver, Assigned, Begun, Caller, Alone, Keeps, Use, Written, Stepped, Opening, Sort, Guarded, Constant, Data}
-use Rattle.cas_read.specs.Frames.{Frame, Before, Right, InParens, InBrackets, Then, Otherwise, TargetIndex, TargetBehind, ValueOf, AssignedTo, Argument, IfCondition, WhileCondition, DoCondition, ForCondition, ReturnValue, PrintValue, CastKind, LocalsKind, FirstKind, ReturnKind, ParameterKind, CellsKind, SimpleStmt, FirstSimple, AfterSimple, Locals, FirstLocal, IfThen, IfElse, WhileBody, DoBody, ForBody, NextStmt, BlockOf, BodyOf}
-use Rattle.cas_read.specs.Frames.{Control, WantExpr, HaveExpr, Given, Named, Taking, Opened, WantOutermost, WantValue, MaybeCall, WantArguments, WantKind, Signed, Unsigned, MayEndInt, HaveKind, Expect, WantTarget, AfterName, AfterStar, SteppedName, AfterTarget, HaveSimple, WantLocal, LocalName, LocalStar, LocalPointer, LocalLength, LocalArray, HaveLocal, WantStmt, HaveStmt, InList, ForFirst, ForSecond, ForThird, AfterReturn, LockName, UnlockName}
-use Rattle.cas_read.specs.Frames.{InItems, AfterExtern, GlobalLock, GlobalGuard, CellName, CellLength, CellArray, CellValue, CellNegative, WantCells, NegativeCells, HaveCells, MoreCells, CellsEnd, WantFunction, ReturnStar, FunctionName, WantParameters, WantParameter, ParameterStar, ParameterType, ParameterName, HaveParameter, AfterParameters, WantHeld, HaveHeld, AfterHead}
-use Rattle.cas_read.proofs.Valid.{Hole, AnExpr, CastWords, LocalWords, ItemWords, ASimple, ALocal, AStmt, AnEnd, receives, calls, Stands, on_before, on_right, on_parens, on_brackets, on_then, on_otherwise, on_target_index, on_target_behind, on_value, on_assigned, on_argument, on_if, on_while, on_do, on_for, on_return, on_print, on_cast, on_locals_kind, on_first_kind, on_return_kind, on_parameter_kind, on_cells_kind, on_simple, on_first_simple, on_after_simple, on_locals, on_first_local, on_if_then, on_if_else, on_while_body, on_do_body, on_for_body, on_next, on_block, on_body, kind_inside, is_inside, AwaitsKind, is_needed, Valid, is_items, Stays, Comes, Judged, goes_on, limited_here, left_out_here, const_inside, refused}
-use Rattle.cas_read.specs.Machine.{Outcome, at, snoc, wrong, begins_kind, assigning, is, reached, resulted, require, limited, next, stepped, local_started, parameter_ended, parameter_typed, function_named, return_kind, parameter_kind, cells_kind, counted_in, cast_kind, down_kind, want_kind, after_signed, after_unsigned, may_end_int, changed_by, after_target, after_name, after_star, want_target, stepped_name, simple_started, local_name, local_star, local_pointer, local_length, local_array, started, list_closed, list_continued, in_list, is_else, is_while, down_stmt, for_first_started, for_first, for_second, for_third, after_return, lock_name}
-use Rattle.cas_read.proofs.ViableExpressions.{Fits, comes, wrong_fits, outside_fits, require_fits, needs, counted_fits, counted_in_fits, nested_fits, leave_fits, outermost_fits, ended_fits, local_ended_fits, reached_valid}
+use Rattle.cas_syntax.specs.Tree.{ItemTree}
+use Rattle.cas_read.specs.Frames.{Casts, Opening, Data}
+use Rattle.cas_read.specs.Frames.{Frame, Locals, FirstLocal}
+use Rattle.cas_read.specs.Frames.{Control, Signed, Unsigned, MayEndInt, HaveKind}
+use Rattle.cas_read.specs.Frames.{HaveParameter}
+use Rattle.cas_read.proofs.Valid.{CastWords, LocalWords, ItemWords, ALocal, Stands, on_before, on_cast, on_locals_kind, on_first_kind, on_return_kind, on_parameter_kind, on_cells_kind, on_locals, on_first_local, kind_inside, is_inside, AwaitsKind, Valid, is_items, Stays, Judged, goes_on, refused}
+use Rattle.cas_read.specs.Machine.{begins_kind, next, local_started, parameter_ended, parameter_typed, function_named, return_kind, parameter_kind, cells_kind, counted_in, down_kind, want_kind, after_signed, after_unsigned, may_end_int}
+use Rattle.cas_read.proofs.ViableExpressions.{Fits, comes, wrong_fits, outside_fits, require_fits, counted_fits, counted_in_fits, leave_fits}
 
 -- a step outside a function's body
 pub goes : {kind : TokenKind} {o : Control × List Frame} → Valid o.0 o.1 → Stays false kind o.0 o.1 → Judged false kind (Ok o) (Ok o) (Ok o)

@@ -1,15 +1,12 @@
 -- Each token leads to a valid state, and its fault is the one that the machine names.
-use Rattle.std.proofs.Common.{◌≡◌, ℕ, ◌+◌, ◌<◌, ◌⊎◌, inl, inr, Bool, true, false, ◌||◌, if◌then◌else◌, nat_le, nat_lt, List, [], ◌∷◌, ◌++◌, Option, Some, None, Ok, Err, Result, refl, arith, sym, subst}
+use Rattle.std.proofs.Common.{◌≡◌, ℕ, inr, Bool, true, false, if◌then◌else◌, List, [], ◌∷◌, ◌++◌, Option, Some, None, Ok, Err, refl, sym, subst}
 use Rattle.cas_base.specs.declared.decl.Form.TheVariants as form
-use Rattle.cas_syntax.specs.Items.{declared, names_alone, places_alone}
 use Rattle.cas_base.specs.declared.decl.Form.{Form}
 use Rattle.cas_base.specs.declared.kind.Kind.{Kind}
-use Rattle.cas_base.specs.declared.kind.Kind.TheVariants.{I8, U8, I16, U16, I32, U32}
 use Rattle.cas_base.specs.declared.kind.Ty.{Ty}
-use Rattle.cas_base.specs.declared.kind.Ty.TheVariants.{Void, Int, Ptr, Array}
+use Rattle.cas_base.specs.declared.kind.Ty.TheVariants.{Int, Ptr, Array}
 use Rattle.cas_base.specs.declared.place.Place.{Place}
-use Rattle.cas_lex.specs.declared.code.ReadCode.{ReadCode}
-use Rattle.cas_lex.specs.declared.code.ReadCode.TheVariants.{R5, R6, R7, R8}
+use Rattle.cas_lex.specs.declared.code.ReadCode.TheVariants.{R5}
 use Rattle.cas_lex.specs.declared.token.Token.{Token}
 use Rattle.cas_lex.specs.declared.token.TokenKind.{TokenKind}
 use Rattle.cas_lex.specs.declared.token.TokenKind.TheVariants as k
@@ -17,18 +14,14 @@ use Rattle.cas_lex.specs.declared.token.Word.TheVariants as w
 use Rattle.cas_lex.specs.declared.token.Sign.{Sign}
 use Rattle.cas_lex.specs.declared.token.Sign.TheVariants as sg
 use Rattle.cas_syntax.specs.declared.tree.Ident.{Ident}
-use Rattle.cas_syntax.specs.declared.tree.UnaryOperator.TheVariants as u
-use Rattle.cas_syntax.specs.declared.tree.BinaryOperator.{BinaryOperator}
-use Rattle.cas_syntax.specs.declared.tree.BinaryOperator.TheVariants.{Add, Sub}
 use Rattle.cas_syntax.specs.Limits.{Limits}
-use Rattle.cas_syntax.specs.Operators.{Infix, always_both, logical_and, logical_or, joined, level}
-use Rattle.cas_syntax.specs.Tree.{ExprTree, literal, name, index, deref, address, address_index, unary, cast, conditional, TargetTree, to_name, to_index, to_deref, nothing, value, called, StmtTree, skip, declare, assign, call, block, if_, while_, do_, for_, break_, continue_, return_, lock, unlock, print, StmtOption, absent, present, StmtList, no_more, one_more, ItemTree, global, prototype, define}
-use Rattle.cas_read.specs.Frames.{Prefix, Operates, Points, Casts, Receiver, Assigned, Begun, Caller, Alone, Keeps, Use, Written, Stepped, Opening, Sort, Guarded, Constant, Data}
-use Rattle.cas_read.specs.Frames.{Frame, Before, Right, InParens, InBrackets, Then, Otherwise, TargetIndex, TargetBehind, ValueOf, AssignedTo, Argument, IfCondition, WhileCondition, DoCondition, ForCondition, ReturnValue, PrintValue, CastKind, LocalsKind, FirstKind, ReturnKind, ParameterKind, CellsKind, SimpleStmt, FirstSimple, AfterSimple, Locals, FirstLocal, IfThen, IfElse, WhileBody, DoBody, ForBody, NextStmt, BlockOf, BodyOf}
+use Rattle.cas_syntax.specs.Tree.{lock, unlock, ItemTree}
+use Rattle.cas_read.specs.Frames.{Opening, Constant, Data}
+use Rattle.cas_read.specs.Frames.{Frame, ReturnKind, ParameterKind}
 use Rattle.cas_read.specs.Frames.{Control, WantExpr, HaveExpr, Given, Named, Taking, Opened, WantOutermost, WantValue, MaybeCall, WantArguments, WantKind, Signed, Unsigned, MayEndInt, HaveKind, Expect, WantTarget, AfterName, AfterStar, SteppedName, AfterTarget, HaveSimple, WantLocal, LocalName, LocalStar, LocalPointer, LocalLength, LocalArray, HaveLocal, WantStmt, HaveStmt, InList, ForFirst, ForSecond, ForThird, AfterReturn, LockName, UnlockName}
 use Rattle.cas_read.specs.Frames.{InItems, AfterExtern, GlobalLock, GlobalGuard, CellName, CellLength, CellArray, CellValue, CellNegative, WantCells, NegativeCells, HaveCells, MoreCells, CellsEnd, WantFunction, ReturnStar, FunctionName, WantParameters, WantParameter, ParameterStar, ParameterType, ParameterName, HaveParameter, AfterParameters, WantHeld, HaveHeld, AfterHead}
-use Rattle.cas_read.proofs.Valid.{Hole, AnExpr, CastWords, LocalWords, ItemWords, ASimple, ALocal, AStmt, AnEnd, receives, calls, Stands, on_before, on_right, on_parens, on_brackets, on_then, on_otherwise, on_target_index, on_target_behind, on_value, on_assigned, on_argument, on_if, on_while, on_do, on_for, on_return, on_print, on_cast, on_locals_kind, on_first_kind, on_return_kind, on_parameter_kind, on_cells_kind, on_simple, on_first_simple, on_after_simple, on_locals, on_first_local, on_if_then, on_if_else, on_while_body, on_do_body, on_for_body, on_next, on_block, on_body, kind_inside, is_inside, AwaitsKind, is_needed, Valid, is_items, Stays, Comes, Judged, goes_on, limited_here, left_out_here, const_inside, refused}
-use Rattle.cas_read.specs.Machine.{Outcome, at, wrong, wrong_where, is, all_named, cells, item_started, in_items, global_lock, global_guard, cells_ended, if_defined, cell_name, cell_length, cell_array, cell_value, cell_negative, want_cells, negative_cells, have_cells, more_cells, return_star, plain_global, function_name, want_parameters, parameter_star, body_started, after_head, after_parameters, want_held, have_held, shift}
+use Rattle.cas_read.proofs.Valid.{ItemWords, Stands, on_return_kind, on_parameter_kind, on_cells_kind, on_body, kind_inside, is_inside, Valid, Stays}
+use Rattle.cas_read.specs.Machine.{wrong, is, all_named, item_started, in_items, global_lock, global_guard, cells_ended, if_defined, cell_name, cell_length, cell_array, cell_value, cell_negative, want_cells, negative_cells, have_cells, more_cells, return_star, function_name, want_parameters, parameter_star, body_started, after_head, after_parameters, want_held, have_held, shift}
 use Rattle.cas_read.proofs.ViableExpressions.{Fits, comes, wrong_fits, outside_fits, counted_fits, nested_fits, leave_fits, operand_fits, outermost_fits, have_fits, after_operand_name_fits, taking_fits, opened_fits, value_started_fits, maybe_call_fits, arguments_started_fits, ended_fits, local_ended_fits}
 use Rattle.cas_read.proofs.ViableKinds.{goes, local_started_fits, parameter_ended_fits, parameter_typed_fits, function_named_fits, down_kind_fits, want_kind_fits, after_signed_fits, after_unsigned_fits, may_end_int_fits}
 use Rattle.cas_read.proofs.ViableStatements.{after_target_fits, after_name_fits, after_star_fits, want_target_fits, stepped_name_fits, local_name_fits, local_star_fits, local_pointer_fits, local_length_fits, local_array_fits, started_fits, in_list_fits, down_stmt_fits, for_first_fits, for_second_fits, for_third_fits, after_return_fits, lock_name_fits}

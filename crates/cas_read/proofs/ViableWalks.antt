@@ -1,19 +1,12 @@
 -- What the machine comes to by the front of a text, whatever follows; and what a text that is refused shows.
-use Rattle.std.proofs.Common.{◌≡◌, ℕ, ◌+◌, ◌≤◌, ◌<◌, ◌⊎◌, inl, inr, Bool, true, false, ◌||◌, if◌then◌else◌, nat_lt, nat_eq, List, [], ◌∷◌, ◌++◌, length, length-append, Option, Some, None, Ok, Err, Result, refl, ap, ◌∙◌, arith, sym, subst}
-use Rattle.cas_base.specs.declared.place.Place.{Place}
-use Rattle.cas_lex.specs.declared.code.ReadCode.{ReadCode}
-use Rattle.cas_lex.specs.declared.code.ReadCode.TheVariants.{R5, R6, R7, R8}
+use Rattle.std.proofs.Common.{◌≡◌, ℕ, ◌+◌, ◌≤◌, ◌⊎◌, inl, inr, Bool, true, false, nat_lt, List, [], ◌∷◌, ◌++◌, length, length-append, Option, None, Ok, Err, refl, ap, ◌∙◌, arith, sym, subst}
 use Rattle.cas_lex.specs.declared.token.Token.{Token}
 use Rattle.cas_lex.specs.declared.token.TokenKind.{TokenKind}
-use Rattle.cas_lex.specs.declared.token.TokenKind.TheVariants as k
-use Rattle.cas_lex.specs.declared.token.Sign.TheVariants as sg
-use Rattle.cas_syntax.specs.Limits.{Limits}
-use Rattle.cas_syntax.specs.Reading.{within, without, depth_limit, token_limit, is_opening_brace, OpensNothing}
-use Rattle.cas_syntax.specs.Tokens.{sign}
+use Rattle.cas_syntax.specs.Reading.{within, without}
 use Rattle.cas_syntax.specs.Tree.{ItemTree}
-use Rattle.cas_read.specs.Frames.{Frame, Control, InItems}
-use Rattle.cas_read.specs.Machine.{Outcome, shift, is_at, go, run, finish, Fault, Verdict}
-use Rattle.cas_read.proofs.Valid.{is_inside, Valid, is_items, Stays, Comes, Judged, goes_on, limited_here, left_out_here, const_inside, refused}
+use Rattle.cas_read.specs.Frames.{Frame, Control}
+use Rattle.cas_read.specs.Machine.{Outcome, shift, is_at, go, run, finish, Fault}
+use Rattle.cas_read.proofs.Valid.{is_inside, Valid, Comes, Judged, goes_on, limited_here, left_out_here, const_inside, refused}
 use Rattle.cas_read.proofs.ViableSteps.{shift_fits}
 
 -- only the depth and the number of tokens are asked of limits
@@ -138,7 +131,7 @@ stops_or_ends [] c st f h = inr (record { next = (c, st); reached = refl; fails 
 stops_or_ends (t ∷ ts) c st f h = by_step (taken_by false false t c st) refl (sym (plain_step t ts c st) ∙ h) (stops_or_ends ts)
   where
     by_step : (o : Outcome) → taken_by false false t c st ≡ o → go (run (within 0) ts) (length ts) o ≡ Err f
-      → ((c : Control) (st : List Frame) (f : Fault) → run (within 0) ts c st ≡ Err f → Stops ts c st f ⊎ Ends ts c st f) → Stops (t ∷ ts) c st f ⊎ Ends (t ∷ ts) c st f
+        → ((c : Control) (st : List Frame) (f : Fault) → run (within 0) ts c st ≡ Err f → Stops ts c st f ⊎ Ends ts c st f) → Stops (t ∷ ts) c st f ⊎ Ends (t ∷ ts) c st f
     by_step (Err code) e h recur =
         let same : record { code = code; left = length ts + 1 } ≡ f = cc in
         inl (record { front = []; t = t; rest = ts; whole = refl; next = (c, st); reached = refl; fails = e ∙ ap (λ (g : Fault). let r : Outcome = Err g.code in r) same; left = sym (ap (λ (g : Fault). g.left) same) })
