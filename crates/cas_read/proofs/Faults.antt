@@ -1,5 +1,6 @@
 -- A fault of the machine's run is the fault of the definition, and a text has one tree or one fault.
-use Rattle.std.proofs.Common.{◌≡◌, ℕ, ◌+◌, ◌≤◌, ◌⊎◌, inl, inr, Bool, true, false, if◌then◌else◌, nat_lt, nat_eq, List, [], ◌∷◌, ◌++◌, append_assoc, append-nil, length, length-append, Option, Some, None, Ok, Err, refl, ap, ◌∙◌, arith, sym, subst}
+use Rattle.std.specs.List.{slice_get}
+use Rattle.std.proofs.Common.{◌≡◌, ℕ, suc, ◌-◌, ◌+◌, ◌≤◌, ◌<◌, ◌⊎◌, inl, inr, Bool, true, false, if◌then◌else◌, nat_lt, nat_eq, List, [], ◌∷◌, ◌++◌, append_assoc, append-nil, length, length-append, Option, Some, None, Ok, Err, refl, ap, ◌∙◌, arith, sym, subst}
 use Rattle.cas_base.specs.declared.place.Place.{Place}
 use Rattle.cas_lex.specs.declared.code.ReadCode.{ReadCode}
 use Rattle.cas_lex.specs.declared.code.ReadCode.TheVariants.{R5, R6, R7, R8}
@@ -33,6 +34,21 @@ place_left_token (u ∷ us) rest t end =
 pub place_left_end : (ts : List Token) (end : Place) → place_left ts end 0 ≡ end
 place_left_end [] end = refl
 place_left_end (t ∷ ts) end = let e : nat_eq 0 (length ts + 1) ≡ false = grind arith in rw e (place_left_end ts end)
+
+-- the token that stands at an index, which is counted from the first
+pub place_left_at : (ts : List Token) (end : Place) (left : ℕ) (t : Token) → 0 < left → left ≤ length ts → slice_get ts (length ts - left) ≡ Some t → place_left ts end left ≡ t.place
+place_left_at [] end left t more le found = cc
+place_left_at (u ∷ us) end left t more le found = by_test (nat_eq left (length us + 1)) refl (place_left_at us end left t more)
+  where
+    by_test : (b : Bool) → nat_eq left (length us + 1) ≡ b → (left ≤ length us → slice_get us (length us - left) ≡ Some t → place_left us end left ≡ t.place) → (if b then u.place else place_left us end left) ≡ t.place
+    by_test true e recur =
+        let first : length (u ∷ us) - left ≡ 0 = grind arith in
+        let same : slice_get (u ∷ us) (length (u ∷ us) - left) ≡ Some u = rw first refl in
+        cc
+    by_test false e recur =
+        let fewer : left ≤ length us = grind arith in
+        let later : length (u ∷ us) - left ≡ suc (length us - left) = omega (arith, fewer) in
+        recur fewer (sym (ap (λ (i : ℕ). slice_get (u ∷ us) i) later) ∙ found)
 
 -- where the machine is behind these tokens, the limits asked of each
 abbrev pub Leads : List Token → Control × List Frame → Type 0

@@ -10,3 +10,4 @@ pub mod ViableStates
 pub mod ViableWalks
 pub mod ViableBodies
 pub mod Faults
+pub mod Texts
