@@ -11,6 +11,7 @@ pub mod CompleteReturns
 pub mod CompleteSimple
 pub mod CompleteStarts
 pub mod CompleteStmts
+pub mod Faults
 pub mod Holds
 pub mod Sound
 pub mod SoundCells
@@ -20,3 +21,15 @@ pub mod SoundKinds
 pub mod SoundSimple
 pub mod SoundStmts
 pub mod SoundTargets
+pub mod Texts
+pub mod Valid
+pub mod ViableBodies
+pub mod ViableEnds
+pub mod ViableExpressions
+pub mod ViableFrames
+pub mod ViableKinds
+pub mod ViableParts
+pub mod ViableStatements
+pub mod ViableStates
+pub mod ViableSteps
+pub mod ViableWalks
