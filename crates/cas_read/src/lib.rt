@@ -23,3 +23,4 @@ pub fn read_module(_alloc: Global, bytes: &[u8]) -> Result<Module, ReadFault>
     let _ = bytes;
     Err(ReadFault::Memory)
 }
+pub mod laws;
