@@ -43,12 +43,13 @@ read_and_long held (w ∷ ws) (x ∷ xs) name h (inr k) = read_and_long held ws 
 one_form : (name : List ℕ) (m n : syntax.ModuleTree) (tree : ModuleTree) → m ≡ n → first_form name m ≡ Some tree → first_form name n ≡ None → ⊥
 one_form name m n tree same some none =
     let P : syntax.ModuleTree → Type 0 = λ x. first_form name x ≡ Some tree in
-    cc (subst P same some) none
+    let kept : first_form name n ≡ Some tree = subst P same some in
+    cc
 
 -- a text that prints lines isn't refused
 shown_and_refused : (r : Run) (text : List ℕ) (lines : List (List ℕ)) (line : List ℕ) → PrintsLines text r.thread lines → RefusesText r text line → ⊥
-shown_and_refused r text lines line (tree, (m, read, form), shown) (inl (code, p, fault, whole)) = no_module_and_fault text m code p read fault
-shown_and_refused r text lines line (tree, (m, read, form), shown) (inr (n, other, none, whole)) =
+shown_and_refused r text lines line (tree, (m, read, form), report, finished, whole) (inl (code, p, fault, same)) = no_module_and_fault text m code p read fault
+shown_and_refused r text lines line (tree, (m, read, form), report, finished, whole) (inr (n, other, none, same)) =
     one_form r.thread m n tree (one_module text m n read other) form none
 
 -- on the same texts a command doesn't come to both
