@@ -1,0 +1,9 @@
+pub mod Alike
+pub mod Expressions
+pub mod Items
+pub mod Limits
+pub mod Operators
+pub mod Reading
+pub mod Statements
+pub mod Tokens
+pub mod Tree
