@@ -1,6 +1,9 @@
 pub mod Counts
 pub mod Faults
+pub mod Modules
 pub mod Resolved
+pub mod Resolving
 pub mod Scopes
-pub mod Typing
 pub mod Types
+pub mod Typing
+pub mod Walk

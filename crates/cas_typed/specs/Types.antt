@@ -1,11 +1,11 @@
 -- Types of expressions: promotion, the common type, null, and the rows of operators.
-use Rattle.std.specs.Prelude.{ℕ, ◌==◌, Bool, false, Option, Some, None}
+use Rattle.std.specs.Prelude.{◌==◌, Bool, false, Option, Some, None}
 use Rattle.cas_base.specs.declared.decl.Form.{Form}
 use Rattle.cas_base.specs.declared.decl.Form.TheVariants.{Shared, Table}
 use Rattle.cas_base.specs.declared.kind.Kind.{Kind}
 use Rattle.cas_base.specs.declared.kind.Kind.TheVariants.{I32, U32}
 use Rattle.cas_base.specs.declared.kind.Ty.{Ty}
-use Rattle.cas_base.specs.declared.kind.Ty.TheVariants.{Void, Int, Ptr}
+use Rattle.cas_base.specs.declared.kind.Ty.TheVariants.{Int, Ptr}
 use Rattle.cas_syntax.specs.declared.tree.UnaryOperator.{UnaryOperator}
 use Rattle.cas_syntax.specs.declared.tree.UnaryOperator.TheVariants as un
 use Rattle.cas_syntax.specs.declared.tree.BinaryOperator.{BinaryOperator}

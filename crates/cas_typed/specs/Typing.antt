@@ -1,24 +1,19 @@
 -- The rules of types: which trees are typed, and what they are resolved to. (Clight's, in a profile with locks.)
-use Rattle.std.specs.Prelude.{◌≡◌, ◌≤◌, ◌<◌, ℕ, ◌+◌, ◌-◌, Bool, true, false, List, [], ◌∷◌, ◌++◌, length, map, replicate, if◌then◌else◌, Option, Some, None}
-use Rattle.std.specs.List.{list_any, list_all, zip}
-use Rattle.std.specs.Str.{bytes_eq}
-use Rattle.cas_base.specs.Decl.{agrees, is_lock, is_named, definitions}
+use Rattle.std.specs.Prelude.{◌≡◌, ◌<◌, ℕ, Bool, true, false, List, [], ◌∷◌, Option, Some, None}
 use Rattle.cas_base.specs.Ty.{words_of_ty}
-use Rattle.cas_base.specs.declared.decl.Decl.{Decl}
 use Rattle.cas_base.specs.declared.decl.Form.{Form}
-use Rattle.cas_base.specs.declared.decl.Form.TheVariants.{Lock, Shared, Table, Function}
+use Rattle.cas_base.specs.declared.decl.Form.TheVariants.{Lock, Shared, Function}
 use Rattle.cas_base.specs.declared.kind.Kind.{Kind}
 use Rattle.cas_base.specs.declared.kind.Kind.TheVariants.{I32}
 use Rattle.cas_base.specs.declared.kind.Ty.{Ty}
-use Rattle.cas_base.specs.declared.kind.Ty.TheVariants.{Void, Int, Ptr, Array}
+use Rattle.cas_base.specs.declared.kind.Ty.TheVariants.{Int, Ptr, Array}
 use Rattle.cas_base.specs.declared.place.Place.{Place}
 use Rattle.cas_syntax.specs.declared.tree.Ident.{Ident}
 use Rattle.cas_syntax.specs.declared.tree.UnaryOperator.{UnaryOperator}
 use Rattle.cas_syntax.specs.declared.tree.UnaryOperator.TheVariants as un
 use Rattle.cas_syntax.specs.declared.tree.BinaryOperator.{BinaryOperator}
 use Rattle.cas_syntax.specs.declared.tree.BinaryOperator.TheVariants as bin
-use Rattle.cas_syntax.specs.Tree.{ExprTree, literal, name, index, deref, address, address_index, unary, cast, binary, and_also, or_else, conditional, TargetTree, to_name, to_index, to_deref, InitTree, nothing, value, called, StmtTree, skip, declare, assign, call, block, if_, while_, do_, for_, break_, continue_, return_, lock, unlock, print, StmtOption, absent, present, StmtList, no_more, one_more, FunTree, ItemTree, global, prototype, define, ModuleTree}
-use Rattle.cas_typed.specs.declared.rows.Local.{Local}
+use Rattle.cas_syntax.specs.Tree.{ExprTree, literal, name, index, deref, address, address_index, unary, cast, binary, and_also, or_else, conditional, TargetTree, to_name, to_index, to_deref, nothing, value, called, StmtTree, skip, declare, assign, call, block, if_, while_, do_, for_, break_, continue_, return_, lock, unlock, print, StmtOption, absent, present, StmtList, no_more, one_more}
 use Rattle.cas_typed.specs.declared.tree.Destination.{Destination}
 use Rattle.cas_typed.specs.Resolved as t
 use Rattle.cas_typed.specs.Resolved.{TypedExprTree, TypedTargetTree, TypedStmtTree, TypedStmtOption, TypedStmtList, TypedFunTree, TypedModuleTree}
