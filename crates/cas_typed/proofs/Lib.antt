@@ -1,3 +1,4 @@
 pub mod Basics
-pub mod Expressions
+pub mod Complete
 mod Examples
+pub mod Expressions
