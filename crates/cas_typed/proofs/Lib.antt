@@ -2,3 +2,4 @@ pub mod Basics
 pub mod Complete
 mod Examples
 pub mod Expressions
+pub mod Statements
