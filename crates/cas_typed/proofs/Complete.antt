@@ -131,7 +131,7 @@ mutual
 -- names
 
 -- two parts without a fault
-neither_fault : {o p : Option Fault} → o ≡ None → p ≡ None → sooner o p ≡ None
+pub neither_fault : {o p : Option Fault} → o ≡ None → p ≡ None → sooner o p ≡ None
 neither_fault h h' = λ i. sooner (h i) (h' i)
 
 named_alone : (x : Ident) (g : ℕ) (form : Form) (k : Kind) → variable_type form ≡ Some (Int k) → fault_alone x (item g form) ≡ None
@@ -146,7 +146,7 @@ named_alone x g (Table Void) k of = refl
 named_alone x g Lock k of = refl
 named_alone x g (Function ret params holds) k of = refl
 
-named_behind : (x : Ident) (m : Meaning) (p : TypedExprTree) (k : Kind) → r.named m ≡ fits p (Ptr k) → (fault_of_name x m ≡ None) × (fault_of_element x m ≡ None)
+pub named_behind : (x : Ident) (m : Meaning) (p : TypedExprTree) (k : Kind) → r.named m ≡ fits p (Ptr k) → (fault_of_name x m ≡ None) × (fault_of_element x m ≡ None)
 named_behind x undeclared p k h = cc
 named_behind x (variable n ty) p k h = (refl, refl)
 named_behind x (item g form) p k h = absurd (no_pointer (variable_type form) h)

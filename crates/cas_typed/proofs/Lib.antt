@@ -3,3 +3,4 @@ pub mod Complete
 mod Examples
 pub mod Expressions
 pub mod Statements
+pub mod Typed_statements
