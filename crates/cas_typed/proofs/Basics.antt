@@ -51,6 +51,11 @@ pub Holds-found : {A : Type 0} (P : A → Type 0) (o : Option A) (f : Fault) →
 Holds-found P (Some a) f h = h
 Holds-found P None f h = tt
 
+-- what holds of an answer may be less
+pub Holds-map : {A : Type 0} (P Q : A → Type 0) (o : Result A Fault) → ((a : A) → P a → Q a) → Holds P o → Holds Q o
+Holds-map P Q (Ok a) f h = f a h
+Holds-map P Q (Err e) f h = tt
+
 -- the literal 0
 pub is_null-true : (a : ExprTree) → is_null a ≡ true → IsNull a
 is_null-true (literal n I32) h = let e : n ≡ 0 = grind arith in subst (λ m. IsNull (literal m I32)) (sym e) zero_literal

@@ -2,5 +2,6 @@ pub mod Basics
 pub mod Complete
 mod Examples
 pub mod Expressions
+pub mod Items
 pub mod Statements
 pub mod Typed_statements

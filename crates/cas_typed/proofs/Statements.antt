@@ -25,7 +25,7 @@ use Rattle.cas_typed.specs.Typing as y
 use Rattle.cas_typed.specs.Typing.{HasType, Tests, Gives, GivesEach, Writes, Assigns, Keeps, Calls, TestsOptional, IsStmt, IsPart, AreStmts, assigned}
 use Rattle.cas_typed.specs.Walk as w
 use Rattle.cas_typed.specs.Walk.{names_fault, walk_test, walk_value, walk_write, walk_assign, kept_in, walk_result, takes, takes_at, walk_callee, walk_call, walk_lock, walk_optional, walk_return, doubled, walk_declare, walk_leave, walk, walk_part, walk_list, misfit}
-use Rattle.cas_typed.proofs.Basics.{same_kind-true, is_null-true, Holds, HoldsOption, Holds-unless, Holds-then, Holds-found}
+use Rattle.cas_typed.proofs.Basics.{same_kind-true, is_null-true, Holds, HoldsOption, Holds-unless, Holds-then, Holds-found, Holds-map}
 use Rattle.cas_typed.proofs.Expressions.{IsRight, IsRightTest, resolved-right, tested-right}
 
 -- what was found under a test
@@ -193,11 +193,6 @@ new P s x next h = test (is_in_block s x) refl
     test : (c : Bool) → is_in_block s x ≡ c → Holds P (unless (if c then at_name T2 x else None) next)
     test true is = tt
     test false is = h is
-
--- weaker
-Holds-map : {A : Type 0} (P Q : A → Type 0) (o : Result A Fault) → ((a : A) → P a → Q a) → Holds P o → Holds Q o
-Holds-map P Q (Ok a) f h = f a h
-Holds-map P Q (Err e) f h = tt
 
 cells_right : (ret : Ty) (l : Bool) (s : Scope) (p : Place) (ty : Ty) (x : Ident) (c : Bool) → has_element (Some ty) ≡ c → is_in_block s x ≡ false →
     Holds (IsStmt ret l s (declare p ty x nothing)) (if c then Ok (t.skip p) else Err (misfit p))

@@ -26,10 +26,10 @@ use Rattle.cas_typed.proofs.Basics.{same_kind-refl}
 use Rattle.cas_typed.proofs.Complete.{HasType-resolved, Tests-tested, HasType-names, Tests-names, neither_fault, named_behind}
 
 -- a test without a fault, and an answer, go on
-no_fault : {A : Type 0} {o : Option Fault} (next : Result A Fault) → o ≡ None → unless o next ≡ next
+pub no_fault : {A : Type 0} {o : Option Fault} (next : Result A Fault) → o ≡ None → unless o next ≡ next
 no_fault next h = ap (λ o. unless o next) h
 
-goes_on : {A B : Type 0} {v : Result A Fault} {a : A} (next : A → Result B Fault) → v ≡ Ok a → then_ v next ≡ next a
+pub goes_on : {A B : Type 0} {v : Result A Fault} {a : A} (next : A → Result B Fault) → v ≡ Ok a → then_ v next ≡ next a
 goes_on next h = ap (λ v. then_ v next) h
 
 is_found : {A : Type 0} {o : Option A} {a : A} (f : Fault) → o ≡ Some a → found o f ≡ Ok a

@@ -2,6 +2,7 @@
 use Rattle.std.specs.Prelude.{ℕ, ◌+◌, Bool, List, [], ◌∷◌, ◌++◌, length, if◌then◌else◌}
 use Rattle.std.specs.List.{list_any}
 use Rattle.std.specs.Str.{bytes_eq}
+use Rattle.cas_base.specs.Decl.{is_named}
 use Rattle.cas_base.specs.declared.decl.Decl.{Decl}
 use Rattle.cas_base.specs.declared.decl.Form.{Form}
 use Rattle.cas_base.specs.declared.kind.Ty.{Ty}
@@ -31,7 +32,7 @@ pub data Meaning : Type 0 where
 -- the meaning of a name among declarations that are counted from this number on: the first of them
 abbrev pub item_named : (number : ℕ) → List Decl → List ℕ → Meaning
 item_named n [] name = undeclared
-item_named n (d ∷ ds) name = if bytes_eq d.name name then item n d.form else item_named (n + 1) ds name
+item_named n (d ∷ ds) name = if is_named name d then item n d.form else item_named (n + 1) ds name
 
 -- the meaning of a name among locals, or else another
 abbrev pub local_named : List Bound → List ℕ → Meaning → Meaning
