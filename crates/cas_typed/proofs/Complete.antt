@@ -81,21 +81,22 @@ sides : (s : Scope) (op : BinaryOperator) (a b : ExprTree) {f g : Found} → res
 sides s op a b h h' = λ i. r.binary_found op (is_null a) (is_null b) (h i) (h' i)
 
 -- a name that is a pointer is a local
-element_by_name : (m : Meaning) (p : TypedExprTree) (k : Kind) (f : Found) → r.named m ≡ fits p (Ptr k) → r.indexed m f ≡ r.element_behind (fits p (Ptr k)) f
-element_by_name undeclared p k f h = cc
-element_by_name (variable n ty) p k f h = ap (λ g. r.element_behind g f) h
-element_by_name (item g form) p k f h = absurd (no_pointer (variable_type form) h)
-  where
-    no_pointer : (o : Option Ty) → r.global_named g o ≡ fits p (Ptr k) → ⊥
-    no_pointer (Some (Int j)) h = cc
-    no_pointer _ h = cc
+
+pub no_pointer : (x : Ident) (g : ℕ) (o : Option Ty) (p : TypedExprTree) (k : Kind) → r.global_named x g o ≡ fits p (Ptr k) → ⊥
+no_pointer x g (Some (Int j)) p k h = cc
+no_pointer x g _ p k h = cc
+
+element_by_name : (x : Ident) (m : Meaning) (p : TypedExprTree) (k : Kind) (f : Found) → r.named x m ≡ fits p (Ptr k) → r.indexed x m f ≡ r.element_behind (fits p (Ptr k)) f
+element_by_name x undeclared p k f h = cc
+element_by_name x (variable n ty) p k f h = ap (λ g. r.element_behind g f) h
+element_by_name x (item g form) p k f h = absurd (no_pointer x g (variable_type form) p k h)
 
 mutual
   pub HasType-resolved : {s : Scope} {a : ExprTree} {e : TypedExprTree} {ty : Ty} → HasType s a e ty → resolved s a ≡ fits e ty
   HasType-resolved (a_literal n k) = refl
-  HasType-resolved (a_local x n k is) = ap r.named is
-  HasType-resolved (a_local_pointer x n k is) = ap r.named is
-  HasType-resolved (a_global x g form k is of) = ap r.named is ∙ ap (r.global_named g) of
+  HasType-resolved (a_local x n k is) = ap (r.named x) is
+  HasType-resolved (a_local_pointer x n k is) = ap (r.named x) is
+  HasType-resolved (a_global x g form k is of) = ap (r.named x) is ∙ ap (r.global_named x g) of
   HasType-resolved {s} (arithmetic op a b a' b' j k is h h') = sides s op a b (HasType-resolved h) (HasType-resolved h') ∙ arithmetic_found is (is_null a) (is_null b) a' b' j k
   HasType-resolved {s} (pointer_plus a b p e j k h h') = sides s bin.Add a b (HasType-resolved h) (HasType-resolved h')
   HasType-resolved {s} (plus_pointer a b e p j k h h') = sides s bin.Add a b (HasType-resolved h) (HasType-resolved h')
@@ -118,11 +119,11 @@ mutual
   HasType-resolved (signed op a a' k is h) = ap (r.unary_found op) (HasType-resolved h) ∙ signed_found is a' k
   HasType-resolved (converted k a a' j h) = ap (r.converted k) (HasType-resolved h)
   HasType-resolved (cell_behind a p k h) = ap r.cell_behind (HasType-resolved h)
-  HasType-resolved {s} (element_behind x a p e j k h h') = element_by_name (meaning s x) p k (resolved s a) (HasType-resolved h) ∙ ap (r.element_behind (fits p (Ptr k))) (HasType-resolved h')
-  HasType-resolved (element_of_global x a e g n form j k is of h) = (λ i. r.indexed (is i) (HasType-resolved h i)) ∙ ap (λ o. r.element_of g o (fits e (Int j))) of
+  HasType-resolved {s} (element_behind x a p e j k h h') = element_by_name x (meaning s x) p k (resolved s a) (HasType-resolved h) ∙ ap (r.element_behind (fits p (Ptr k))) (HasType-resolved h')
+  HasType-resolved (element_of_global x a e g n form j k is of h) = (λ i. r.indexed x (is i) (HasType-resolved h i)) ∙ ap (λ o. r.element_of x g o (fits e (Int j))) of
   HasType-resolved (pointer_to_local x n k is) = ap r.pointer_to is
   HasType-resolved (pointer_to_element x a p e j k h h') = λ i. r.pointer_to_element (HasType-resolved h i) (HasType-resolved h' i)
-  HasType-resolved (first_element x n len k is) = ap r.named is
+  HasType-resolved (first_element x n len k is) = ap (r.named x) is
 
   pub Tests-tested : {s : Scope} {a : ExprTree} {c : TypedExprTree} → Tests s a c → tested (resolved s a) ≡ Some c
   Tests-tested (an_integer_test a e k h) = ap tested (HasType-resolved h)
@@ -146,14 +147,10 @@ named_alone x g (Table Void) k of = refl
 named_alone x g Lock k of = refl
 named_alone x g (Function ret params holds) k of = refl
 
-pub named_behind : (x : Ident) (m : Meaning) (p : TypedExprTree) (k : Kind) → r.named m ≡ fits p (Ptr k) → (fault_of_name x m ≡ None) × (fault_of_element x m ≡ None)
+pub named_behind : (x : Ident) (m : Meaning) (p : TypedExprTree) (k : Kind) → r.named x m ≡ fits p (Ptr k) → (fault_of_name x m ≡ None) × (fault_of_element x m ≡ None)
 named_behind x undeclared p k h = cc
 named_behind x (variable n ty) p k h = (refl, refl)
-named_behind x (item g form) p k h = absurd (no_pointer (variable_type form) h)
-  where
-    no_pointer : (o : Option Ty) → r.global_named g o ≡ fits p (Ptr k) → ⊥
-    no_pointer (Some (Int j)) h = cc
-    no_pointer _ h = cc
+named_behind x (item g form) p k h = absurd (no_pointer x g (variable_type form) p k h)
 
 mutual
   pub HasType-names : {s : Scope} {a : ExprTree} {e : TypedExprTree} {ty : Ty} → HasType s a e ty → names_fault s a ≡ None

@@ -137,11 +137,11 @@ right_choice s c a b (Some d) (fits e (Int j)) (fits q (Ptr k)) hc h h' =
     on_test s (conditional c a b) (is_null a) (t.choose d t.null q) (Ptr k) (λ null. null_or_choice c a b d q k hc (is_null-true a null) h')
 right_choice s c a b _ _ _ hc h h' = tt
 
-right_global : (s : Scope) (x : Ident) (g : ℕ) (form : Form) (o : Option Ty) → meaning s x ≡ item g form → variable_type form ≡ o → IsRight s (name x) (r.global_named g o)
+right_global : (s : Scope) (x : Ident) (g : ℕ) (form : Form) (o : Option Ty) → meaning s x ≡ item g form → variable_type form ≡ o → IsRight s (name x) (r.global_named x g o)
 right_global s x g form (Some (Int k)) is of = a_global x g form k is of
 right_global s x g form _ is of = tt
 
-pub right_named : (s : Scope) (x : Ident) (m : Meaning) → meaning s x ≡ m → IsRight s (name x) (r.named m)
+pub right_named : (s : Scope) (x : Ident) (m : Meaning) → meaning s x ≡ m → IsRight s (name x) (r.named x m)
 right_named s x undeclared is = tt
 right_named s x (variable n (Int k)) is = a_local x n k is
 right_named s x (variable n (Ptr k)) is = a_local_pointer x n k is
@@ -149,7 +149,7 @@ right_named s x (variable n (Array k len)) is = first_element x n len k is
 right_named s x (variable n Void) is = tt
 right_named s x (item g form) is = right_global s x g form (variable_type form) is refl
 
-right_element : (s : Scope) (x : Ident) (a : ExprTree) (g : ℕ) (form : Form) (o : Option Ty) (f : Found) → meaning s x ≡ item g form → variable_type form ≡ o → IsRight s a f → IsRight s (index x a) (r.element_of g o f)
+right_element : (s : Scope) (x : Ident) (a : ExprTree) (g : ℕ) (form : Form) (o : Option Ty) (f : Found) → meaning s x ≡ item g form → variable_type form ≡ o → IsRight s a f → IsRight s (index x a) (r.element_of x g o f)
 right_element s x a g form (Some (Array k n)) (fits e (Int j)) is of h = element_of_global x a e g n form j k is of h
 right_element s x a g form _ _ is of h = tt
 
@@ -157,10 +157,10 @@ right_element_behind : (s : Scope) (x : Ident) (a : ExprTree) (f g : Found) → 
 right_element_behind s x a (fits p (Ptr k)) (fits e (Int j)) h h' = element_behind x a p e j k h h'
 right_element_behind s x a _ _ h h' = tt
 
-right_indexed : (s : Scope) (x : Ident) (a : ExprTree) (m : Meaning) (f : Found) → meaning s x ≡ m → IsRight s a f → IsRight s (index x a) (r.indexed m f)
+right_indexed : (s : Scope) (x : Ident) (a : ExprTree) (m : Meaning) (f : Found) → meaning s x ≡ m → IsRight s a f → IsRight s (index x a) (r.indexed x m f)
 right_indexed s x a (item g form) f is h = right_element s x a g form (variable_type form) f is refl h
 right_indexed s x a undeclared f is h = tt
-right_indexed s x a (variable n ty) f is h = right_element_behind s x a (r.named (variable n ty)) f (right_named s x (variable n ty) is) h
+right_indexed s x a (variable n ty) f is h = right_element_behind s x a (r.named x (variable n ty)) f (right_named s x (variable n ty) is) h
 
 right_pointer_to : (s : Scope) (x : Ident) (m : Meaning) → meaning s x ≡ m → IsRight s (address x) (r.pointer_to m)
 right_pointer_to s x (variable n (Int k)) is = pointer_to_local x n k is
@@ -181,7 +181,7 @@ resolved-right s (name x) = right_named s x (meaning s x) refl
 resolved-right s (index x a) = right_indexed s x a (meaning s x) (resolved s a) refl (resolved-right s a)
 resolved-right s (deref a) = right_cell s a (resolved s a) (resolved-right s a)
 resolved-right s (address x) = right_pointer_to s x (meaning s x) refl
-resolved-right s (address_index x a) = right_pointer_to_element s x a (r.named (meaning s x)) (resolved s a) (right_named s x (meaning s x) refl) (resolved-right s a)
+resolved-right s (address_index x a) = right_pointer_to_element s x a (r.named x (meaning s x)) (resolved s a) (right_named s x (meaning s x) refl) (resolved-right s a)
 resolved-right s (unary op a) = right_unary s op a (resolved s a) (resolved-right s a)
 resolved-right s (cast k a) = right_converted s k a (resolved s a) (resolved-right s a)
 resolved-right s (binary op a b) = right_binary s op a b (resolved s a) (resolved s b) (resolved-right s a) (resolved-right s b)

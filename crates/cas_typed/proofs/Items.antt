@@ -133,7 +133,7 @@ counts_fault f = sooner (above most_cells f.place Cells (cells_of f)) (above mos
 
 -- a function with this body
 abbrev with_body : List Decl → FunTree → TypedStmtList → TypedFunTree
-with_body before f body = record { item = length before; locals = locals_in body 0 (local_types f); body = body }
+with_body before f body = record { item = length before; locals = locals_in body 0 0 (local_types f); body = body }
 
 function_right : (before : List Decl) (f : FunTree) → Holds (IsFunction before f) (walk_function before f)
 function_right before f =

@@ -10,7 +10,7 @@ use Rattle.cas_base.specs.declared.kind.Ty.TheVariants.{Int, Ptr, Array}
 use Rattle.cas_base.specs.declared.place.Place.{Place}
 use Rattle.cas_syntax.specs.declared.tree.Ident.{Ident}
 use Rattle.cas_syntax.specs.declared.tree.BinaryOperator.{BinaryOperator}
-use Rattle.cas_syntax.specs.Tree.{ExprTree, TargetTree, to_name, to_index, to_deref, InitTree, nothing, value, called, StmtTree, skip, declare, assign, call, block, if_, while_, do_, for_, break_, continue_, return_, lock, unlock, print, StmtOption, absent, present, StmtList, no_more, one_more}
+use Rattle.cas_syntax.specs.Tree.{ExprTree, name, TargetTree, to_name, to_index, to_deref, InitTree, nothing, value, called, StmtTree, skip, declare, assign, call, block, if_, while_, do_, for_, break_, continue_, return_, lock, unlock, print, StmtOption, absent, present, StmtList, no_more, one_more}
 use Rattle.cas_typed.specs.declared.fault.TypeCode.TheVariants.{T2, T4, T5}
 use Rattle.cas_typed.specs.declared.tree.Destination.{Destination}
 use Rattle.cas_typed.specs.Faults.{Fault, fault, at_name, sooner, unless, then_, found}
@@ -18,15 +18,15 @@ use Rattle.cas_typed.specs.Modules.{has_element}
 use Rattle.cas_typed.specs.Resolved as t
 use Rattle.cas_typed.specs.Resolved.{TypedExprTree, TypedTargetTree, TypedStmtTree, TypedStmtOption, TypedStmtList}
 use Rattle.cas_typed.specs.Resolving as r
-use Rattle.cas_typed.specs.Resolving.{Found, unfit, fits, resolved, tested, Written, unwritable, ill_indexed, written}
-use Rattle.cas_typed.specs.Scopes.{Scope, Meaning, meaning, variable, item, is_in_block, declaring, inside, past, past_option, after, after_option}
+use Rattle.cas_typed.specs.Resolving.{Found, unfit, fits, resolved, tested, Written, unwritable, written}
+use Rattle.cas_typed.specs.Scopes.{Scope, Meaning, meaning, undeclared, variable, item, is_in_block, declaring, inside, past, past_option, after, after_option}
 use Rattle.cas_typed.specs.Types.{is_null}
 use Rattle.cas_typed.specs.Typing as y
 use Rattle.cas_typed.specs.Typing.{HasType, Tests, Gives, GivesEach, Writes, Assigns, Keeps, Calls, TestsOptional, IsStmt, IsPart, AreStmts, assigned}
 use Rattle.cas_typed.specs.Walk as w
 use Rattle.cas_typed.specs.Walk.{names_fault, walk_test, walk_value, walk_write, walk_assign, kept_in, walk_result, takes, takes_at, walk_callee, walk_call, walk_lock, walk_optional, walk_return, doubled, walk_declare, walk_leave, walk, walk_part, walk_list, misfit}
 use Rattle.cas_typed.proofs.Basics.{same_kind-true, is_null-true, Holds, HoldsOption, Holds-unless, Holds-then, Holds-found, Holds-map}
-use Rattle.cas_typed.proofs.Expressions.{IsRight, IsRightTest, resolved-right, tested-right}
+use Rattle.cas_typed.proofs.Expressions.{IsRight, IsRightTest, right_named, resolved-right, tested-right}
 
 -- what was found under a test
 under : {A : Type 0} (P : A → Type 0) (c : Bool) (e : A) → (c ≡ true → P e) → HoldsOption P (if c then Some e else None)
@@ -73,28 +73,27 @@ values-right s (a ∷ args) (ty ∷ tys) = joined_right s a args ty tys (r.value
 
 abbrev IsRightWrite : Scope → TargetTree → Written → Type 0
 IsRightWrite s target unwritable = Unit {0}
-IsRightWrite s target ill_indexed = Unit {0}
 IsRightWrite s target (written target' ty) = Writes s target target' ty
 
-write_named_right : (s : Scope) (x : Ident) (m : Meaning) → meaning s x ≡ m → IsRightWrite s (to_name x) (r.write_named m)
+write_named_right : (s : Scope) (x : Ident) (m : Meaning) → meaning s x ≡ m → IsRightWrite s (to_name x) (r.write_named x m)
 write_named_right s x (variable n (Int k)) is = y.writes_local x n k is
 write_named_right s x (variable n (Ptr k)) is = y.writes_pointer x n k is
 write_named_right s x (item g (Shared (Int k) guard)) is = y.writes_shared x g k guard is
 write_named_right s x _ is = tt
 
-write_behind_element_right : (s : Scope) (x : Ident) (a : ExprTree) (p : TypedExprTree) (k : Kind) (f : Found) → HasType s (y.cell_of (to_name x)) p (Ptr k) → IsRight s a f → IsRightWrite s (to_index x a) (r.write_behind_element p k f)
-write_behind_element_right s x a p k (fits e (Int j)) h h' = y.writes_element_behind x a p e j k h h'
-write_behind_element_right s x a p k _ h h' = tt
+write_element_behind_right : (s : Scope) (x : Ident) (a : ExprTree) (f g : Found) → IsRight s (name x) f → IsRight s a g → IsRightWrite s (to_index x a) (r.write_element_behind f g)
+write_element_behind_right s x a (fits p (Ptr k)) (fits e (Int j)) h h' = y.writes_element_behind x a p e j k h h'
+write_element_behind_right s x a _ _ h h' = tt
 
-write_element_right : (s : Scope) (x : Ident) (a : ExprTree) (g n : ℕ) (k : Kind) (guard : List ℕ) (f : Found) → meaning s x ≡ item g (Shared (Array k n) guard) → IsRight s a f → IsRightWrite s (to_index x a) (r.write_element g k f)
+write_element_right : (s : Scope) (x : Ident) (a : ExprTree) (g n : ℕ) (k : Kind) (guard : List ℕ) (f : Found) → meaning s x ≡ item g (Shared (Array k n) guard) → IsRight s a f → IsRightWrite s (to_index x a) (r.write_element x g k f)
 write_element_right s x a g n k guard (fits e (Int j)) is h = y.writes_shared_element x a e g n j k guard is h
 write_element_right s x a g n k guard _ is h = tt
 
-write_indexed_right : (s : Scope) (x : Ident) (a : ExprTree) (m : Meaning) (f : Found) → meaning s x ≡ m → IsRight s a f → IsRightWrite s (to_index x a) (r.write_indexed m f)
-write_indexed_right s x a (variable n (Ptr k)) f is h = write_behind_element_right s x a (t.local n) k f (y.a_local_pointer x n k is) h
-write_indexed_right s x a (variable n (Array k len)) f is h = write_behind_element_right s x a (t.place_of n) k f (y.first_element x n len k is) h
+write_indexed_right : (s : Scope) (x : Ident) (a : ExprTree) (m : Meaning) (f : Found) → meaning s x ≡ m → IsRight s a f → IsRightWrite s (to_index x a) (r.write_indexed x m f)
 write_indexed_right s x a (item g (Shared (Array k n) guard)) f is h = write_element_right s x a g n k guard f is h
-write_indexed_right s x a _ f is h = tt
+write_indexed_right s x a (item g form) f is h = tt
+write_indexed_right s x a undeclared f is h = tt
+write_indexed_right s x a (variable n ty) f is h = write_element_behind_right s x a (r.named x (variable n ty)) f (right_named s x (variable n ty) is) h
 
 write_behind_right : (s : Scope) (a : ExprTree) (f : Found) → IsRight s a f → IsRightWrite s (to_deref a) (r.write_behind f)
 write_behind_right s a (fits p (Ptr k)) h = y.writes_behind a p k h
@@ -110,7 +109,6 @@ target-right s (to_deref a) = write_behind_right s a (resolved s a) (resolved-ri
 write_right : (s : Scope) (p : Place) (target : TargetTree) (op : Option BinaryOperator) (a : ExprTree) (v : Written) → IsRightWrite s target v →
     Holds (Assigns s p target op a) (walk_write p v (λ ty. r.value_of s (assigned target op a) ty))
 write_right s p target op a unwritable h = tt
-write_right s p target op a ill_indexed h = tt
 write_right s p target op a (written target' ty) h =
     Holds-then (Gives s (assigned target op a) ty) (Assigns s p target op a) (found (r.value_of s (assigned target op a) ty) (misfit p)) (λ e. Ok (t.assign p target' e))
     (Holds-found (Gives s (assigned target op a) ty) (r.value_of s (assigned target op a) ty) (misfit p) (value-right s (assigned target op a) ty))
@@ -155,12 +153,12 @@ callee_right : (s : Scope) (p : Place) (result : Option Ident) (kept : Option De
 callee_right s p result kept f args (item g (Function ret tys holds)) is h =
     tested_first (Calls s p result f args) (length args == length tys) (fault T4 f.place (Some f.name)) (unless (if takes kept ret then None else Some (misfit p)) last) (λ len.
     tested_first (Calls s p result f args) (takes kept ret) (misfit p) last (λ fit.
-    Holds-then (GivesEach s args tys) (Calls s p result f args) (found (r.values_of s args tys) (misfit p)) (λ es. Ok (t.call p kept g es))
+    Holds-then (GivesEach s args tys) (Calls s p result f args) (found (r.values_of s args tys) (misfit p)) (λ es. Ok (t.call p kept g f.place es))
     (Holds-found (GivesEach s args tys) (r.values_of s args tys) (misfit p) (values-right s args tys))
     (λ es each. y.calls p result f args g ret tys holds kept es is (h ret fit) each)))
   where
     last : Result TypedStmtTree Fault
-    last = then_ (found (r.values_of s args tys) (misfit p)) (λ es. Ok (t.call p kept g es))
+    last = then_ (found (r.values_of s args tys) (misfit p)) (λ es. Ok (t.call p kept g f.place es))
 callee_right s p result kept f args _ is h = tt
 
 walk_call-right : (s : Scope) (p : Place) (result : Option Ident) (f : Ident) (args : List ExprTree) → Holds (Calls s p result f args) (walk_call s p result f args)

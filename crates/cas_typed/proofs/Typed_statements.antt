@@ -4,7 +4,7 @@ use Rattle.std.specs.Prelude.{nat_lt}
 use Rattle.cas_base.specs.Ty.{words_of_ty}
 use Rattle.cas_base.specs.declared.kind.Kind.{Kind}
 use Rattle.cas_base.specs.declared.kind.Ty.{Ty}
-use Rattle.cas_base.specs.declared.kind.Ty.TheVariants.{Void, Int, Ptr, Array}
+use Rattle.cas_base.specs.declared.kind.Ty.TheVariants.{Int, Ptr}
 use Rattle.cas_base.specs.declared.place.Place.{Place}
 use Rattle.cas_syntax.specs.declared.tree.Ident.{Ident}
 use Rattle.cas_syntax.specs.declared.tree.BinaryOperator.{BinaryOperator}
@@ -16,14 +16,14 @@ use Rattle.cas_typed.specs.Modules.{has_element}
 use Rattle.cas_typed.specs.Resolved as t
 use Rattle.cas_typed.specs.Resolved.{TypedExprTree, TypedTargetTree, TypedStmtTree, TypedStmtOption, TypedStmtList}
 use Rattle.cas_typed.specs.Resolving as r
-use Rattle.cas_typed.specs.Resolving.{Found, unfit, fits, resolved, tested, Written, unwritable, ill_indexed, written}
+use Rattle.cas_typed.specs.Resolving.{Found, unfit, fits, resolved, tested, Written, unwritable, written}
 use Rattle.cas_typed.specs.Scopes.{Scope, Meaning, meaning, undeclared, variable, item, is_in_block, declaring, inside, past, past_option, after, after_option}
-use Rattle.cas_typed.specs.Types.{zero_literal, is_null}
+use Rattle.cas_typed.specs.Types.{variable_type, zero_literal, is_null}
 use Rattle.cas_typed.specs.Typing.{Tests, Gives, an_integer, a_pointer, a_null, GivesEach, no_argument, an_argument, Writes, writes_local, writes_pointer, writes_shared, writes_element_behind, writes_shared_element, writes_behind, Assigns, assigns, Keeps, drops, keeps_integer, keeps_pointer, Calls, calls, TestsOptional, no_condition, a_condition, IsStmt, skips, declares, declares_value, declares_result, assignment, call_of, blocks, ifs, whiles, dos, fors, breaks, continues, returns, returns_value, locks, unlocks, prints, IsPart, no_part, a_part, AreStmts, no_stmt, a_stmt, cell_of, assigned}
 use Rattle.cas_typed.specs.Walk as w
 use Rattle.cas_typed.specs.Walk.{names_fault, target_fault, result_fault, arguments_fault, fault_alone, fault_of_name, walk_test, walk_value, walk_write, walk_assign, walk_result, takes, walk_callee, walk_call, walk_lock, walk_optional, doubled, walk, walk_part, walk_list, misfit}
 use Rattle.cas_typed.proofs.Basics.{same_kind-refl}
-use Rattle.cas_typed.proofs.Complete.{HasType-resolved, Tests-tested, HasType-names, Tests-names, neither_fault, named_behind}
+use Rattle.cas_typed.proofs.Complete.{HasType-resolved, Tests-tested, HasType-names, Tests-names, neither_fault, no_pointer, named_behind}
 
 -- a test without a fault, and an answer, go on
 pub no_fault : {A : Type 0} {o : Option Fault} (next : Result A Fault) → o ≡ None → unless o next ≡ next
@@ -68,24 +68,17 @@ values-many (an_argument a args ty tys e es h hs) = ap suc (values-many hs)
 -- targets
 
 -- an element by the name of a local
-by_name : (m : Meaning) (p : TypedExprTree) (k : Kind) (f : Found) → r.named m ≡ fits p (Ptr k) → r.write_indexed m f ≡ r.write_behind_element p k f
-by_name undeclared p k f h = cc
-by_name (variable n (Int j)) p k f h = cc
-by_name (variable n (Ptr j)) p k f h = let e : t.local n ≡ p = cc in let same : j ≡ k = cc in λ i. r.write_behind_element (e i) (same i) f
-by_name (variable n (Array j len)) p k f h = let e : t.place_of n ≡ p = cc in let same : j ≡ k = cc in λ i. r.write_behind_element (e i) (same i) f
-by_name (variable n Void) p k f h = cc
-by_name (item g form) p k f h = absurd (no_pointer _ h)
-  where
-    no_pointer : (o : Option Ty) → r.global_named g o ≡ fits p (Ptr k) → ⊥
-    no_pointer (Some (Int j)) h = cc
-    no_pointer _ h = cc
+by_name : (x : Ident) (m : Meaning) (p : TypedExprTree) (k : Kind) (f : Found) → r.named x m ≡ fits p (Ptr k) → r.write_indexed x m f ≡ r.write_element_behind (fits p (Ptr k)) f
+by_name x undeclared p k f h = cc
+by_name x (variable n ty) p k f h = ap (λ g. r.write_element_behind g f) h
+by_name x (item g form) p k f h = absurd (no_pointer x g (variable_type form) p k h)
 
 target-typed : {s : Scope} {target : TargetTree} {target' : TypedTargetTree} {ty : Ty} → Writes s target target' ty → r.target_of s target ≡ written target' ty
-target-typed (writes_local x n k is) = ap r.write_named is
-target-typed (writes_pointer x n k is) = ap r.write_named is
-target-typed (writes_shared x g k guard is) = ap r.write_named is
-target-typed {s} (writes_element_behind x a p e j k h h') = by_name (meaning s x) p k (resolved s a) (HasType-resolved h) ∙ ap (r.write_behind_element p k) (HasType-resolved h')
-target-typed (writes_shared_element x a e g n j k guard is h) = λ i. r.write_indexed (is i) (HasType-resolved h i)
+target-typed (writes_local x n k is) = ap (r.write_named x) is
+target-typed (writes_pointer x n k is) = ap (r.write_named x) is
+target-typed (writes_shared x g k guard is) = ap (r.write_named x) is
+target-typed {s} (writes_element_behind x a p e j k h h') = by_name x (meaning s x) p k (resolved s a) (HasType-resolved h) ∙ ap (r.write_element_behind (fits p (Ptr k))) (HasType-resolved h')
+target-typed (writes_shared_element x a e g n j k guard is h) = λ i. r.write_indexed x (is i) (HasType-resolved h i)
 target-typed (writes_behind a p k h) = ap r.write_behind (HasType-resolved h)
 
 target-names : {s : Scope} {target : TargetTree} {target' : TypedTargetTree} {ty : Ty} → Writes s target target' ty → target_fault s target ≡ None
@@ -138,10 +131,10 @@ walk_call-typed {s} (calls p result f args g ret tys holds kept es is keeps each
     ∙ ap (walk_callee s p kept f args) is
     ∙ no_fault (unless (if takes kept ret then None else Some (misfit p)) last) (ap (λ c. if c then None else at_name T4 f) (same_length (length args) (length tys) (values-many each)))
     ∙ no_fault last (ap (λ c. if c then None else Some (misfit p)) (result-taken keeps))
-    ∙ goes_on (λ es. Ok (t.call p kept g es)) (is_found (misfit p) (values-typed each))
+    ∙ goes_on (λ es. Ok (t.call p kept g f.place es)) (is_found (misfit p) (values-typed each))
   where
     last : Result TypedStmtTree Fault
-    last = then_ (found (r.values_of s args tys) (misfit p)) (λ es. Ok (t.call p kept g es))
+    last = then_ (found (r.values_of s args tys) (misfit p)) (λ es. Ok (t.call p kept g f.place es))
 
 -- statements
 

@@ -115,10 +115,11 @@ pub record IsItem (before : List Decl) (a : ItemTree) : Type 0 where
   pub functions : function_count (before ++ decl_of a ∷ []) ≤ most_functions
   pub words : word_count (before ++ decl_of a ∷ []) ≤ most_words
 
--- locals of these types, counted from this number on, in a function with this body
-abbrev pub locals_in : TypedStmtList → (number : ℕ) → List Ty → List Local
-locals_in body n [] = []
-locals_in body n (ty ∷ tys) = record { ty = ty; addressed = list_makes_pointer n body } ∷ locals_in body (n + 1) tys
+-- locals of these types in a function with this body, counted from this number on, behind so many cells
+abbrev pub locals_in : TypedStmtList → (number first : ℕ) → List Ty → List Local
+locals_in body n first [] = []
+locals_in body n first (ty ∷ tys) =
+    record { ty = ty; first = first; addressed = list_makes_pointer n body } ∷ locals_in body (n + 1) (first + words_of_ty ty) tys
 
 -- what is visible at the beginning of a function's body: its own name too
 abbrev pub scope_in : List Decl → FunTree → Scope
@@ -127,7 +128,7 @@ scope_in before f = body_scope (before ++ f.decl ∷ []) f.params (parameter_typ
 -- A function with a body is resolved so behind these declarations; its item's number is how many they are.
 pub record IsFunction (before : List Decl) (f : FunTree) (r : TypedFunTree) : Type 0 where
   pub item : r.item ≡ length before
-  pub locals : r.locals ≡ locals_in r.body 0 (local_types f)
+  pub locals : r.locals ≡ locals_in r.body 0 0 (local_types f)
   pub body : AreStmts (return_type f.decl.form) false (scope_in before f) f.body r.body
   pub cells : cells_of f ≤ most_cells
   pub nodes : nodes_of f ≤ most_nodes

@@ -1,5 +1,6 @@
 -- The resolved trees as plain data: what definitions and contracts speak of. A local is a number of its function,
--- parameters first; a global, a lock and a function is the number of the first item that declares it.
+-- parameters first; a global, a lock and a function is the number of the first item that declares it, with the place of
+-- its name.
 use Rattle.std.specs.Prelude.{ℕ, ◌==◌, Bool, false, ◌||◌, List, Option, Some, None}
 use Rattle.std.specs.List.{list_any}
 use Rattle.cas_base.specs.declared.kind.Kind.{Kind}
@@ -19,8 +20,8 @@ pub data TypedExprTree : Type 0 where
   literal : (word : ℕ) → TypedExprTree
   null : TypedExprTree
   local : (number : ℕ) → TypedExprTree
-  global : (item : ℕ) → TypedExprTree
-  element : (item : ℕ) → Signedness → (index : TypedExprTree) → TypedExprTree
+  global : (item : ℕ) → Place → TypedExprTree
+  element : (item : ℕ) → Place → Signedness → (index : TypedExprTree) → TypedExprTree
   place_of : (local : ℕ) → TypedExprTree
   behind : Kind → (pointer : TypedExprTree) → TypedExprTree
   pointer_plus : Signedness → (pointer number : TypedExprTree) → TypedExprTree
@@ -38,16 +39,16 @@ pub data TypedExprTree : Type 0 where
 -- the cell that an assignment writes
 pub data TypedTargetTree : Type 0 where
   to_local : (number : ℕ) → TypedTargetTree
-  to_global : (item : ℕ) → TypedTargetTree
-  to_element : (item : ℕ) → Signedness → (index : TypedExprTree) → TypedTargetTree
-  to_behind : (pointer : TypedExprTree) → TypedTargetTree
+  to_global : (item : ℕ) → Place → TypedTargetTree
+  to_element : (item : ℕ) → Place → Signedness → (index : TypedExprTree) → TypedTargetTree
+  to_behind : Kind → (pointer : TypedExprTree) → TypedTargetTree
 
 mutual
   -- a statement, at its place
   pub data TypedStmtTree : Type 0 where
     skip : Place → TypedStmtTree
     assign : Place → TypedTargetTree → TypedExprTree → TypedStmtTree
-    call : Place → Option Destination → (item : ℕ) → List TypedExprTree → TypedStmtTree
+    call : Place → Option Destination → (item : ℕ) → Place → List TypedExprTree → TypedStmtTree
     block : Place → TypedStmtList → TypedStmtTree
     if_ : Place → TypedExprTree → TypedStmtTree → (otherwise : TypedStmtOption) → TypedStmtTree
     while_ : Place → TypedExprTree → TypedStmtTree → TypedStmtTree
@@ -87,8 +88,8 @@ abbrev pub typed_expr_tree : TypedExpr → TypedExprTree
 typed_expr_tree (Literal n) = literal n
 typed_expr_tree Null = null
 typed_expr_tree (OfLocal n) = local n
-typed_expr_tree (Global g) = global g
-typed_expr_tree (Element' g s p a) = element g s (typed_expr_tree a)
+typed_expr_tree (Global g at) = global g at
+typed_expr_tree (Element' g at s p a) = element g at s (typed_expr_tree a)
 typed_expr_tree (PlaceOf n) = place_of n
 typed_expr_tree (Behind' k p a) = behind k (typed_expr_tree a)
 typed_expr_tree (PointerPlus' s p a q b) = pointer_plus s (typed_expr_tree a) (typed_expr_tree b)
@@ -105,9 +106,9 @@ typed_expr_tree (Choose' p a q b r c) = choose (typed_expr_tree a) (typed_expr_t
 
 abbrev pub typed_target_tree : TypedTarget → TypedTargetTree
 typed_target_tree (to.Local n) = to_local n
-typed_target_tree (to.Global g) = to_global g
-typed_target_tree (to.Element g s a) = to_element g s (typed_expr_tree a)
-typed_target_tree (to.Behind a) = to_behind (typed_expr_tree a)
+typed_target_tree (to.Global g at) = to_global g at
+typed_target_tree (to.Element g at s a) = to_element g at s (typed_expr_tree a)
+typed_target_tree (to.Behind k a) = to_behind k (typed_expr_tree a)
 
 -- whether a pointer to the local is made here
 
@@ -115,8 +116,8 @@ abbrev pub makes_pointer : (number : ℕ) → TypedExprTree → Bool
 makes_pointer n (literal w) = false
 makes_pointer n null = false
 makes_pointer n (local m) = false
-makes_pointer n (global g) = false
-makes_pointer n (element g s a) = makes_pointer n a
+makes_pointer n (global g at) = false
+makes_pointer n (element g at s a) = makes_pointer n a
 makes_pointer n (place_of m) = m == n
 makes_pointer n (behind k a) = makes_pointer n a
 makes_pointer n (pointer_plus s a b) = makes_pointer n a || makes_pointer n b
@@ -133,9 +134,9 @@ makes_pointer n (choose c a b) = makes_pointer n c || (makes_pointer n a || make
 
 abbrev pub target_makes_pointer : (number : ℕ) → TypedTargetTree → Bool
 target_makes_pointer n (to_local m) = false
-target_makes_pointer n (to_global g) = false
-target_makes_pointer n (to_element g s a) = makes_pointer n a
-target_makes_pointer n (to_behind a) = makes_pointer n a
+target_makes_pointer n (to_global g at) = false
+target_makes_pointer n (to_element g at s a) = makes_pointer n a
+target_makes_pointer n (to_behind k a) = makes_pointer n a
 
 abbrev pub option_makes_pointer : (number : ℕ) → Option TypedExprTree → Bool
 option_makes_pointer n None = false
@@ -145,7 +146,7 @@ abbrev mutual
   pub stmt_makes_pointer : (number : ℕ) → TypedStmtTree → Bool
   stmt_makes_pointer n (skip p) = false
   stmt_makes_pointer n (assign p t a) = target_makes_pointer n t || makes_pointer n a
-  stmt_makes_pointer n (call p d g args) = list_any (makes_pointer n) args
+  stmt_makes_pointer n (call p d g at args) = list_any (makes_pointer n) args
   stmt_makes_pointer n (block p bs) = list_makes_pointer n bs
   stmt_makes_pointer n (if_ p c a b) = makes_pointer n c || (stmt_makes_pointer n a || part_makes_pointer n b)
   stmt_makes_pointer n (while_ p c a) = makes_pointer n c || stmt_makes_pointer n a

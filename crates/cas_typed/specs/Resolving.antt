@@ -6,6 +6,7 @@ use Rattle.cas_base.specs.declared.kind.Kind.{Kind}
 use Rattle.cas_base.specs.declared.kind.Kind.TheVariants.{I32}
 use Rattle.cas_base.specs.declared.kind.Ty.{Ty}
 use Rattle.cas_base.specs.declared.kind.Ty.TheVariants.{Int, Ptr, Array}
+use Rattle.cas_syntax.specs.declared.tree.Ident.{Ident}
 use Rattle.cas_syntax.specs.declared.tree.UnaryOperator.{UnaryOperator}
 use Rattle.cas_syntax.specs.declared.tree.UnaryOperator.TheVariants as un
 use Rattle.cas_syntax.specs.declared.tree.BinaryOperator.{BinaryOperator}
@@ -22,29 +23,29 @@ pub data Found : Type 0 where
   fits : TypedExprTree → Ty → Found
 
 -- of a name alone
-abbrev pub global_named : (number : ℕ) → Option Ty → Found
-global_named g (Some (Int k)) = fits (t.global g) (Int k)
-global_named g _ = unfit
+abbrev pub global_named : Ident → (number : ℕ) → Option Ty → Found
+global_named x g (Some (Int k)) = fits (t.global g x.place) (Int k)
+global_named x g _ = unfit
 
-abbrev pub named : Meaning → Found
-named (variable n (Int k)) = fits (t.local n) (Int k)
-named (variable n (Ptr k)) = fits (t.local n) (Ptr k)
-named (variable n (Array k len)) = fits (t.place_of n) (Ptr k)
-named (item g form) = global_named g (variable_type form)
-named _ = unfit
+abbrev pub named : Ident → Meaning → Found
+named x (variable n (Int k)) = fits (t.local n) (Int k)
+named x (variable n (Ptr k)) = fits (t.local n) (Ptr k)
+named x (variable n (Array k len)) = fits (t.place_of n) (Ptr k)
+named x (item g form) = global_named x g (variable_type form)
+named x _ = unfit
 
 -- of x[e], of a global and of a local
-abbrev pub element_of : (number : ℕ) → Option Ty → Found → Found
-element_of g (Some (Array k n)) (fits e (Int j)) = fits (t.element g (reading j) e) (Int k)
-element_of g _ _ = unfit
+abbrev pub element_of : Ident → (number : ℕ) → Option Ty → Found → Found
+element_of x g (Some (Array k n)) (fits e (Int j)) = fits (t.element g x.place (reading j) e) (Int k)
+element_of x g _ _ = unfit
 
 abbrev pub element_behind : Found → Found → Found
 element_behind (fits p (Ptr k)) (fits e (Int j)) = fits (t.behind k (t.pointer_plus (reading j) p e)) (Int k)
 element_behind _ _ = unfit
 
-abbrev pub indexed : Meaning → Found → Found
-indexed (item g form) e = element_of g (variable_type form) e
-indexed m e = element_behind (named m) e
+abbrev pub indexed : Ident → Meaning → Found → Found
+indexed x (item g form) e = element_of x g (variable_type form) e
+indexed x m e = element_behind (named x m) e
 
 -- of *p, &x and &x[e]
 abbrev pub cell_behind : Found → Found
@@ -151,11 +152,11 @@ choice _ l r _ _ = unfit
 -- of an expression
 abbrev pub resolved : Scope → ExprTree → Found
 resolved s (literal n k) = fits (t.literal n) (Int k)
-resolved s (name x) = named (meaning s x)
-resolved s (index x a) = indexed (meaning s x) (resolved s a)
+resolved s (name x) = named x (meaning s x)
+resolved s (index x a) = indexed x (meaning s x) (resolved s a)
 resolved s (deref a) = cell_behind (resolved s a)
 resolved s (address x) = pointer_to (meaning s x)
-resolved s (address_index x a) = pointer_to_element (named (meaning s x)) (resolved s a)
+resolved s (address_index x a) = pointer_to_element (named x (meaning s x)) (resolved s a)
 resolved s (unary op a) = unary_found op (resolved s a)
 resolved s (cast k a) = converted k (resolved s a)
 resolved s (binary op a b) = binary_found op (is_null a) (is_null b) (resolved s a) (resolved s b)
@@ -183,37 +184,35 @@ values_of s [] [] = Some []
 values_of s (a ∷ args) (ty ∷ tys) = joined (value_of s a ty) (values_of s args tys)
 values_of s _ _ = None
 
--- what was found of a target: no cell that may be written, an index that is no integer, or a cell of this type
+-- what was found of a target: no cell that may be written, or a cell of this type
 pub data Written : Type 0 where
   unwritable : Written
-  ill_indexed : Written
   written : TypedTargetTree → Ty → Written
 
-abbrev pub write_named : Meaning → Written
-write_named (variable n (Int k)) = written (t.to_local n) (Int k)
-write_named (variable n (Ptr k)) = written (t.to_local n) (Ptr k)
-write_named (item g (Shared (Int k) guard)) = written (t.to_global g) (Int k)
-write_named _ = unwritable
+abbrev pub write_named : Ident → Meaning → Written
+write_named x (variable n (Int k)) = written (t.to_local n) (Int k)
+write_named x (variable n (Ptr k)) = written (t.to_local n) (Ptr k)
+write_named x (item g (Shared (Int k) guard)) = written (t.to_global g x.place) (Int k)
+write_named x _ = unwritable
 
-abbrev pub write_element : (number : ℕ) → Kind → Found → Written
-write_element g k (fits e (Int j)) = written (t.to_element g (reading j) e) (Int k)
-write_element g k _ = ill_indexed
+abbrev pub write_element : Ident → (number : ℕ) → Kind → Found → Written
+write_element x g k (fits e (Int j)) = written (t.to_element g x.place (reading j) e) (Int k)
+write_element x g k _ = unwritable
 
-abbrev pub write_behind_element : TypedExprTree → Kind → Found → Written
-write_behind_element p k (fits e (Int j)) = written (t.to_behind (t.pointer_plus (reading j) p e)) (Int k)
-write_behind_element p k _ = ill_indexed
+abbrev pub write_element_behind : Found → Found → Written
+write_element_behind (fits p (Ptr k)) (fits e (Int j)) = written (t.to_behind k (t.pointer_plus (reading j) p e)) (Int k)
+write_element_behind _ _ = unwritable
 
-abbrev pub write_indexed : Meaning → Found → Written
-write_indexed (variable n (Ptr k)) e = write_behind_element (t.local n) k e
-write_indexed (variable n (Array k len)) e = write_behind_element (t.place_of n) k e
-write_indexed (item g (Shared (Array k n) guard)) e = write_element g k e
-write_indexed _ e = unwritable
+abbrev pub write_indexed : Ident → Meaning → Found → Written
+write_indexed x (item g (Shared (Array k n) guard)) e = write_element x g k e
+write_indexed x (item g form) e = unwritable
+write_indexed x m e = write_element_behind (named x m) e
 
 abbrev pub write_behind : Found → Written
-write_behind (fits p (Ptr k)) = written (t.to_behind p) (Int k)
+write_behind (fits p (Ptr k)) = written (t.to_behind k p) (Int k)
 write_behind _ = unwritable
 
 abbrev pub target_of : Scope → TargetTree → Written
-target_of s (to_name x) = write_named (meaning s x)
-target_of s (to_index x a) = write_indexed (meaning s x) (resolved s a)
+target_of s (to_name x) = write_named x (meaning s x)
+target_of s (to_index x a) = write_indexed x (meaning s x) (resolved s a)
 target_of s (to_deref a) = write_behind (resolved s a)

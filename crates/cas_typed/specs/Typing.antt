@@ -27,7 +27,7 @@ mutual
     a_local : (x : Ident) (n : ℕ) (k : Kind) → meaning s x ≡ variable n (Int k) → HasType s (name x) (t.local n) (Int k)
     a_local_pointer : (x : Ident) (n : ℕ) (k : Kind) → meaning s x ≡ variable n (Ptr k) → HasType s (name x) (t.local n) (Ptr k)
     a_global : (x : Ident) (g : ℕ) (form : Form) (k : Kind) → meaning s x ≡ item g form → variable_type form ≡ Some (Int k) →
-        HasType s (name x) (t.global g) (Int k)
+        HasType s (name x) (t.global g x.place) (Int k)
     -- a + b, a - b, a * b, a / b, a % b, a & b, a ^ b, a | b
     arithmetic : (op : BinaryOperator) (a b : ExprTree) (a' b' : TypedExprTree) (j k : Kind) → IsArithmetic op →
         HasType s a a' (Int j) → HasType s b b' (Int k) →
@@ -82,7 +82,7 @@ mutual
     element_behind : (x : Ident) (a : ExprTree) (p e : TypedExprTree) (j k : Kind) → HasType s (name x) p (Ptr k) → HasType s a e (Int j) →
         HasType s (index x a) (t.behind k (t.pointer_plus (reading j) p e)) (Int k)
     element_of_global : (x : Ident) (a : ExprTree) (e : TypedExprTree) (g n : ℕ) (form : Form) (j k : Kind) → meaning s x ≡ item g form →
-        variable_type form ≡ Some (Array k n) → HasType s a e (Int j) → HasType s (index x a) (t.element g (reading j) e) (Int k)
+        variable_type form ≡ Some (Array k n) → HasType s a e (Int j) → HasType s (index x a) (t.element g x.place (reading j) e) (Int k)
     -- &x, &x[e]
     pointer_to_local : (x : Ident) (n : ℕ) (k : Kind) → meaning s x ≡ variable n (Int k) → HasType s (address x) (t.place_of n) (Ptr k)
     pointer_to_element : (x : Ident) (a : ExprTree) (p e : TypedExprTree) (j k : Kind) → HasType s (name x) p (Ptr k) → HasType s a e (Int j) →
@@ -113,13 +113,13 @@ pub data Writes (s : Scope) : TargetTree → TypedTargetTree → Ty → Type 0 w
   writes_local : (x : Ident) (n : ℕ) (k : Kind) → meaning s x ≡ variable n (Int k) → Writes s (to_name x) (t.to_local n) (Int k)
   writes_pointer : (x : Ident) (n : ℕ) (k : Kind) → meaning s x ≡ variable n (Ptr k) → Writes s (to_name x) (t.to_local n) (Ptr k)
   writes_shared : (x : Ident) (g : ℕ) (k : Kind) (guard : List ℕ) → meaning s x ≡ item g (Shared (Int k) guard) →
-      Writes s (to_name x) (t.to_global g) (Int k)
+      Writes s (to_name x) (t.to_global g x.place) (Int k)
   writes_element_behind : (x : Ident) (a : ExprTree) (p e : TypedExprTree) (j k : Kind) → HasType s (name x) p (Ptr k) →
-      HasType s a e (Int j) → Writes s (to_index x a) (t.to_behind (t.pointer_plus (reading j) p e)) (Int k)
+      HasType s a e (Int j) → Writes s (to_index x a) (t.to_behind k (t.pointer_plus (reading j) p e)) (Int k)
   writes_shared_element : (x : Ident) (a : ExprTree) (e : TypedExprTree) (g n : ℕ) (j k : Kind) (guard : List ℕ) →
       meaning s x ≡ item g (Shared (Array k n) guard) → HasType s a e (Int j) →
-      Writes s (to_index x a) (t.to_element g (reading j) e) (Int k)
-  writes_behind : (a : ExprTree) (p : TypedExprTree) (k : Kind) → HasType s a p (Ptr k) → Writes s (to_deref a) (t.to_behind p) (Int k)
+      Writes s (to_index x a) (t.to_element g x.place (reading j) e) (Int k)
+  writes_behind : (a : ExprTree) (p : TypedExprTree) (k : Kind) → HasType s a p (Ptr k) → Writes s (to_deref a) (t.to_behind k p) (Int k)
 
 -- the cell of a target, as an expression
 abbrev pub cell_of : TargetTree → ExprTree
@@ -149,7 +149,7 @@ pub data Keeps (s : Scope) : Option Ident → (ret : Ty) → Option Destination 
 pub data Calls (s : Scope) : Place → Option Ident → Ident → List ExprTree → TypedStmtTree → Type 0 where
   calls : (p : Place) (result : Option Ident) (f : Ident) (args : List ExprTree) (g : ℕ) (ret : Ty) (tys : List Ty) (holds : List (List ℕ))
       (kept : Option Destination) (es : List TypedExprTree) → meaning s f ≡ item g (Function ret tys holds) → Keeps s result ret kept →
-      GivesEach s args tys es → Calls s p result f args (t.call p kept g es)
+      GivesEach s args tys es → Calls s p result f args (t.call p kept g f.place es)
 
 -- an expression that may be missing, as a condition
 pub data TestsOptional (s : Scope) : Option ExprTree → Option TypedExprTree → Type 0 where

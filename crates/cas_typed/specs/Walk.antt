@@ -18,7 +18,7 @@ use Rattle.cas_typed.specs.Faults.{Fault, fault, at_name, above, sooner, unless,
 use Rattle.cas_typed.specs.Modules.{decl_of, place_of, values_of, parameter_names, held_names, undeclared_in, repeated, are_locks, is_defined_again, agrees_with, elements_of, has_element, return_type, locals_in, scope_in, filled_module}
 use Rattle.cas_typed.specs.Resolved as t
 use Rattle.cas_typed.specs.Resolved.{TypedExprTree, TypedTargetTree, TypedStmtTree, TypedStmtOption, TypedStmtList, TypedFunTree, TypedModuleTree}
-use Rattle.cas_typed.specs.Resolving.{tested, resolved, value_of, values_of as argument_values, Written, unwritable, ill_indexed, written, target_of}
+use Rattle.cas_typed.specs.Resolving.{tested, resolved, value_of, values_of as argument_values, Written, unwritable, written, target_of}
 use Rattle.cas_typed.specs.Scopes.{Scope, Meaning, meaning, undeclared, variable, item, item_named, is_in_block, declaring, inside, past, past_option, after, after_option}
 use Rattle.cas_typed.specs.Types.{no_value, variable_type}
 use Rattle.cas_typed.specs.Typing.{assigned}
@@ -97,7 +97,6 @@ walk_value s p a ty = unless (names_fault s a) (found (value_of s a ty) (misfit 
 -- a target with the value that it takes at each type
 abbrev pub walk_write : Place → Written → (Ty → Option TypedExprTree) → Result TypedStmtTree Fault
 walk_write p unwritable taken = Err (fault T5 p None)
-walk_write p ill_indexed taken = Err (misfit p)
 walk_write p (written target ty) taken = then_ (found (taken ty) (misfit p)) (λ e. Ok (t.assign p target e))
 
 abbrev pub walk_assign : Scope → Place → TargetTree → Option BinaryOperator → ExprTree → Result TypedStmtTree Fault
@@ -130,7 +129,7 @@ abbrev pub walk_callee : Scope → Place → Option Destination → Ident → Li
 walk_callee s p kept f args (item g (Function ret tys holds)) =
     unless (if length args == length tys then None else at_name T4 f)
     (unless (if takes kept ret then None else Some (misfit p))
-    (then_ (found (argument_values s args tys) (misfit p)) (λ es. Ok (t.call p kept g es))))
+    (then_ (found (argument_values s args tys) (misfit p)) (λ es. Ok (t.call p kept g f.place es))))
 walk_callee s p kept f args _ = Err (misfit p)
 
 abbrev pub walk_call : Scope → Place → Option Ident → Ident → List ExprTree → Result TypedStmtTree Fault
@@ -229,7 +228,7 @@ abbrev pub walk_function : List Decl → FunTree → Result TypedFunTree Fault
 walk_function before f =
     then_ (walk_list (return_type f.decl.form) false (scope_in before f) f.body) (λ body.
     unless (sooner (above most_cells f.place Cells (cells_of f)) (above most_nodes f.place Nodes (nodes_of f)))
-    (Ok (record { item = length before; locals = locals_in body 0 (local_types f); body = body })))
+    (Ok (record { item = length before; locals = locals_in body 0 0 (local_types f); body = body })))
 
 -- items behind these declarations
 abbrev pub walk_items : List Decl → List ItemTree → Result (List TypedFunTree) Fault

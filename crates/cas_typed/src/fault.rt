@@ -12,7 +12,8 @@ pub enum TypeCode {
     T3,
     /// A call has a wrong number of arguments.
     T4,
-    /// What is assigned can't be written.
+    /// What is assigned is no integer cell or pointer variable that may be written, or what takes a call's result is no
+    /// local integer or pointer.
     T5,
     /// The address of a global or of a pointer variable is taken, or a global array stands without an index.
     T6,

@@ -8,6 +8,8 @@ use cas_base::{Place, Seq, Ty};
 #[derive(Clone, Copy, Debug, PartialEq, Eq, Hash)]
 pub struct Local {
     pub ty: Ty,
+    /// How many cells the locals before it have.
+    pub first: u32,
     /// Whether a pointer to it is made: by `&`, or, of an array, by its name.
     pub addressed: bool,
 }
@@ -24,8 +26,8 @@ pub struct StmtRow {
 pub enum StmtRowForm {
     Skip,
     Assign(TypedTarget, TypedExpr),
-    /// A call of the function with this number.
-    Call(Option<Destination>, u32, Seq<TypedExpr>),
+    /// A call of the function with this number, which is named at this place.
+    Call(Option<Destination>, u32, Place, Seq<TypedExpr>),
     Block(Seq<u32>),
     If(TypedExpr, u32, Option<u32>),
     While(TypedExpr, u32),

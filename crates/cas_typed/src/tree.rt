@@ -1,8 +1,9 @@
 //! Resolved expressions. A local is named by its number in its function, parameters first; a global, a lock and a
-//! function by the number of the first item of the module that declares it. Each operator says how it reads its words,
-//! and each conversion that can change a word stands as an expression of its own.
+//! function by the number of the first item of the module that declares it, with the place where the text has its name.
+//! Each operator says how it reads its words, and each conversion that can change a word stands as an expression of its
+//! own.
 
-use cas_base::{Kind, Ty};
+use cas_base::{Kind, Place, Ty};
 use cas_syntax::{BinaryOperator, UnaryOperator};
 
 /// How a word is read as a number.
@@ -22,9 +23,9 @@ pub enum TypedExpr {
     /// The cell of a local integer or pointer.
     Local(u32),
     /// The cell of a global integer.
-    Global(u32),
+    Global(u32, Place),
     /// An element of a global array, by its index.
-    Element(u32, Signedness, Box<TypedExpr>),
+    Element(u32, Place, Signedness, Box<TypedExpr>),
     /// A pointer to a local integer, or to the first element of a local array.
     PlaceOf(u32),
     /// The cell behind a pointer, of this kind.
@@ -59,11 +60,11 @@ pub enum TypedTarget {
     /// The cell of a local integer or pointer.
     Local(u32),
     /// The cell of a shared integer.
-    Global(u32),
+    Global(u32, Place),
     /// An element of a shared array, by its index.
-    Element(u32, Signedness, TypedExpr),
-    /// The cell behind a pointer.
-    Behind(TypedExpr),
+    Element(u32, Place, Signedness, TypedExpr),
+    /// The cell behind a pointer, of this kind.
+    Behind(Kind, TypedExpr),
 }
 
 /// The local that takes what a function returns, and its type: an integer is narrowed to it.
