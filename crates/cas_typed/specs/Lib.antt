@@ -1,6 +1,7 @@
 pub mod Counts
 pub mod Faults
 pub mod Modules
+pub mod Numbered
 pub mod Resolved
 pub mod Resolving
 pub mod Scopes
