@@ -1,5 +1,5 @@
 -- The rows of a function's statements: they are numbered in order of text, a statement before its parts.
-use Rattle.std.specs.Prelude.{◌≡◌, ⊤, ◌<◌, ℕ, ◌+◌, List, [], ◌∷◌, length, map, Option, Some, None, slice_get}
+use Rattle.std.specs.Prelude.{◌≡◌, ⊤, ℕ, ◌+◌, List, [], ◌∷◌, length, map, Option, Some, None, slice_get}
 use Rattle.cas_base.specs.declared.place.Place.{Place}
 use Rattle.cas_typed.specs.declared.rows.StmtRow.{StmtRow}
 use Rattle.cas_typed.specs.declared.rows.StmtRowForm.{StmtRowForm}
