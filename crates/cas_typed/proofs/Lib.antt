@@ -8,3 +8,4 @@ pub mod Later
 pub mod Modules
 pub mod Statements
 pub mod Typed_statements
+mod Types_table
