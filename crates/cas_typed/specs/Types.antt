@@ -40,9 +40,9 @@ abbrev pub is_null : ExprTree → Bool
 is_null (literal n I32) = n == 0
 is_null _ = false
 
--- what a function of this type returns where no value is given
+-- what a function of this type returns where no value is given: the literal 0, null, or nothing
 abbrev pub no_value : Ty → Option TypedExprTree
-no_value (Int k) = Some (t.literal 0)
+no_value (Int k) = Some (t.narrow k (t.literal 0))
 no_value (Ptr k) = Some t.null
 no_value _ = None
 
