@@ -1,0 +1,11 @@
+pub mod Basics
+pub mod Complete
+mod Examples
+pub mod Expressions
+pub mod Filled
+pub mod Items
+pub mod Later
+pub mod Modules
+pub mod Statements
+pub mod Typed_statements
+mod Types_table
