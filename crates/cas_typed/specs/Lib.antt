@@ -5,6 +5,7 @@ pub mod Numbered
 pub mod Resolved
 pub mod Resolving
 pub mod Scopes
+pub mod Sorts
 pub mod Types
 pub mod Typing
 pub mod Walk

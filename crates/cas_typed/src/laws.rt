@@ -7,6 +7,7 @@ ghost use Rattle.cas_typed.specs.Faults.{Fault};
 ghost use Rattle.cas_typed.specs.Modules.{IsTyped};
 ghost use Rattle.cas_typed.specs.Numbered.{IsRow, parts_of};
 ghost use Rattle.cas_typed.specs.Resolved.{TypedModuleTree, TypedStmtTree};
+ghost use Rattle.cas_typed.specs.Sorts.{IsSortedModule};
 ghost use Rattle.cas_typed.specs.declared.rows.StmtRow.{StmtRow};
 ghost use Rattle.cas_typed.specs.declared.rows.StmtRowForm.{StmtRowForm};
 ghost use Rattle.cas_typed.specs.Walk.{walk_module, HasTypeFault};
@@ -30,4 +31,11 @@ pub fn typed_modules_are_filled()
 pub fn parts_of_rows_are_later()
     ensures { (rows : List StmtRow) (n : ℕ) (a : TypedStmtTree) (p : Place) (form : StmtRowForm) → IsRow rows n a p form
         → All (λ i. n < i) (parts_of form) }
+{}
+
+/// The functions of a typed module are well sorted: locals and items are there and of the wanted types, operators have
+/// words or pointers as they want them, each value that is written, given or returned has the type that it goes to, and
+/// `break` and `continue` stand in loops.
+pub fn typed_functions_are_sorted()
+    ensures { (m : ModuleTree) (r : TypedModuleTree) → IsTyped m r → IsSortedModule r }
 {}
