@@ -4,7 +4,7 @@ use Rattle.cas_runs.specs.Label.{NameBytes, RunLabel, Lock, Unlock, Out, Done, E
 use Rattle.cas_runs.specs.Edge.{Edge}
 use Rattle.cas_runs.specs.Outside.{MayBring}
 use Rattle.cas_runs.specs.Machine.{Act, Quiet, Says, Crosses, Locks, Hears, Bad, Stops, Halt, Ended, Taken, Full, Saying, Unlocks, Prints, Ends, Machine, label_of, CanCross, Leads, Block, begun, Run, starts, quiet, labelled}
-use Rattle.cas_runs.specs.Refines.{HaltsToo, Subsequence, done, keep, skip, Within, EachWithin, none, more, HasRun, BadBefore, Kept, NamedAs, IsCrossing, Refines, NamesAlone, EachKept}
+use Rattle.cas_runs.specs.Refines.{HaltsToo, Subsequence, done, keep, skip, Within, EachWithin, none, more, HasRun, BadBefore, Kept, CrossesAs, IsCrossing, Refines, NamesAlone, EachKept}
 use Rattle.cas_runs.proofs.Refining.{IsQuiet, leads_not_quiet, one_state, bad_longer, Before, before_label, has_before, has_shorter, crossing_or_not, bad_or_fine}
 use Rattle.cas_runs.specs.Rules.{Proceeds}
 
@@ -80,7 +80,7 @@ module _ {T S R : Type 0} (edge : Edge) (t : Machine T) (s : Machine S) (r : Mac
   either ls has (inl b) = inl (bad_both edge s r k ls has b)
   either ls has (inr x) = inr x
 
-  has_named : (l : RunLabel) (ls : List RunLabel) → HasRun edge r (l ∷ ls) → (next : RunLabel → Option T) → NamedAs edge s ls next → BadBefore edge r ls ⊎ HasRun edge s (l ∷ ls)
+  has_named : (l : RunLabel) (ls : List RunLabel) → HasRun edge r (l ∷ ls) → (next : RunLabel → Option T) → CrossesAs edge s ls next → BadBefore edge r ls ⊎ HasRun edge s (l ∷ ls)
   has_named l ls has next n =
       ⊎_elim inl
       (λ m.
@@ -88,7 +88,7 @@ module _ {T S R : Type 0} (edge : Edge) (t : Machine T) (s : Machine S) (r : Mac
       let leads = at_crossing edge r l ls before m.run m.s_next m.crosses in
       let to = m.each l before.to leads.0 leads.1 in
       inr (record { blocks = n.block ∷ n.blocks; block = begun s to.0; at = to.0; run = labelled l to.0 n.run (subst (λ (v : Act S). Leads edge ls v l to.0) (sym n.crosses) (leads.0, to.1)) }))
-      (k.names ls n.blocks n.block n.at n.run (has_before edge r l ls has) n.s_next n.crosses)
+      (k.crosses ls n.blocks n.block n.at n.run (has_before edge r l ls has) n.s_next n.crosses)
 
   -- the middle has the labels that both have
   middle : {ls : List RunLabel} {bs : List Block} {b : Block} {x : T} → Run edge t ls bs b x → HasRun edge r ls → BadBefore edge r ls ⊎ HasRun edge s ls
@@ -98,7 +98,7 @@ module _ {T S R : Type 0} (edge : Edge) (t : Machine T) (s : Machine S) (r : Mac
       let shorter : HasRun edge r ls = has_before edge r l ls has in
       ⊎_elim (λ d. inl (bad_longer edge r l ls d))
       (λ m. ⊎_elim
-      (λ n. ⊎_elim (λ d. inl (bad_longer edge r l ls d)) (λ o. ⊎_elim (λ d. inl (bad_longer edge r l ls d)) inr (has_named l ls has n.0 o)) (either ls shorter (h.names ls bs b x run m n.0 n.1)))
+      (λ n. ⊎_elim (λ d. inl (bad_longer edge r l ls d)) (λ o. ⊎_elim (λ d. inl (bad_longer edge r l ls d)) inr (has_named l ls has n.0 o)) (either ls shorter (h.crosses ls bs b x run m n.0 n.1)))
       (λ n. ⊎_elim (λ d. inl (bad_longer edge r l ls d)) inr (either ls shorter (h.follows ls bs b x run m n l x' e)))
       (crossing_or_not (t.act x)))
       (middle run shorter)
@@ -109,11 +109,11 @@ module _ {T S R : Type 0} (edge : Edge) (t : Machine T) (s : Machine S) (r : Mac
       (λ d. inr (record { s_blocks = d.s_blocks; s_block = d.s_block; s_at = d.s_at; run = d.run; fine = m.fine; costs = m.costs; within = each_both m.within d.within; within_now = within_both b m.s_block d.s_block m.within_now d.within_now; opened = sub_both m.opened d.opened }))
       (k.kept ls m.s_blocks m.s_block m.s_at m.run has)
 
-  named_both : (ls : List RunLabel) (next : RunLabel → Option T) → HasRun edge r ls → NamedAs edge s ls next → BadBefore edge r ls ⊎ NamedAs edge r ls next
+  named_both : (ls : List RunLabel) (next : RunLabel → Option T) → HasRun edge r ls → CrossesAs edge s ls next → BadBefore edge r ls ⊎ CrossesAs edge r ls next
   named_both ls next has n =
       ⊎_elim inl
-      (λ m. inr (record { blocks = m.blocks; block = m.block; at = m.at; run = m.run; s_next = m.s_next; crosses = m.crosses; some_label = m.some_label; some_next = m.some_next; can_cross = m.can_cross; names = m.names; each = λ l y v e. let o = m.each l y v e in n.each l o.0 v o.1 }))
-      (k.names ls n.blocks n.block n.at n.run has n.s_next n.crosses)
+      (λ m. inr (record { blocks = m.blocks; block = m.block; at = m.at; run = m.run; s_next = m.s_next; crosses = m.crosses; some_label = m.some_label; some_next = m.some_next; can_cross = m.can_cross; has_label = m.has_label; each = λ l y v e. let o = m.each l y v e in n.each l o.0 v o.1 }))
+      (k.crosses ls n.blocks n.block n.at n.run has n.s_next n.crosses)
 
   -- the source has a further label of the middle's
   follows_both : (ls : List RunLabel) → HasRun edge r ls → (l : RunLabel) → (CanCross l → ⊥) → HasRun edge s (l ∷ ls) → BadBefore edge r ls ⊎ HasRun edge r (l ∷ ls)
@@ -130,19 +130,19 @@ module _ {T S R : Type 0} (edge : Edge) (t : Machine T) (s : Machine S) (r : Mac
   refines_both = record {
     kept = λ ls bs b x run has. ⊎_elim inl (λ m. ⊎_elim inl (kept_both ls bs b x has) (either ls has (h.kept ls bs b x run m))) (middle run has);
     follows = λ ls bs b x run has n l x' e. ⊎_elim inl (λ m. ⊎_elim inl (λ o. follows_both ls has l (not_crossing edge ls (t.act x) l x' e n) o) (either ls has (h.follows ls bs b x run m n l x' e))) (middle run has);
-    names = λ ls bs b x run has next e. ⊎_elim inl (λ m. ⊎_elim inl (named_both ls next has) (either ls has (h.names ls bs b x run m next e))) (middle run has);
+    crosses = λ ls bs b x run has next e. ⊎_elim inl (λ m. ⊎_elim inl (named_both ls next has) (either ls has (h.crosses ls bs b x run m next e))) (middle run has);
     halts = λ ls bs b x run has why e. ⊎_elim inl (λ m. ⊎_elim inl (halts_both ls has why) (either ls has (h.halts ls bs b x run m why e))) (middle run has);
   }
 
 -- Where each Call and Leave of the target has one label, each of its runs is kept.
 
 module _ {T S : Type 0} (edge : Edge) (t : Machine T) (s : Machine S) (h : Refines edge t s) (alone : NamesAlone t) where
-  has_label : (ls : List RunLabel) (x : T) (next : RunLabel → Option T) → t.act x ≡ Crosses next → NamedAs edge s ls next → (l : RunLabel) (x' : T) → Leads edge ls (t.act x) l x' → HasRun edge s (l ∷ ls)
+  has_label : (ls : List RunLabel) (x : T) (next : RunLabel → Option T) → t.act x ≡ Crosses next → CrossesAs edge s ls next → (l : RunLabel) (x' : T) → Leads edge ls (t.act x) l x' → HasRun edge s (l ∷ ls)
   has_label ls x next e n l x' leads =
       let there : CanCross l × (next l ≡ Some x') = subst (λ (v : Act T). Leads edge ls v l x') e leads in
-      let to = n.each n.some_label n.some_next n.can_cross n.names in
+      let to = n.each n.some_label n.some_next n.can_cross n.has_label in
       let same : n.some_label ≡ l = alone.alone x next e n.some_label l to.0 x' n.can_cross to.1 there.0 there.1 in
-      let run : HasRun edge s (n.some_label ∷ ls) = record { blocks = n.block ∷ n.blocks; block = begun s n.some_next; at = n.some_next; run = labelled n.some_label n.some_next n.run (subst (λ (v : Act S). Leads edge ls v n.some_label n.some_next) (sym n.crosses) (n.can_cross, n.names)) } in
+      let run : HasRun edge s (n.some_label ∷ ls) = record { blocks = n.block ∷ n.blocks; block = begun s n.some_next; at = n.some_next; run = labelled n.some_label n.some_next n.run (subst (λ (v : Act S). Leads edge ls v n.some_label n.some_next) (sym n.crosses) (n.can_cross, n.has_label)) } in
       subst (λ v. HasRun edge s (v ∷ ls)) same run
 
   has_each : {ls : List RunLabel} {bs : List Block} {b : Block} {x : T} → Run edge t ls bs b x → BadBefore edge s ls ⊎ HasRun edge s ls
@@ -151,7 +151,7 @@ module _ {T S : Type 0} (edge : Edge) (t : Machine T) (s : Machine S) (h : Refin
   has_each (labelled {ls = ls} {bs = bs} {b = b} {x = x} l x' run e) =
       ⊎_elim (λ d. inl (bad_longer edge s l ls d))
       (λ m. ⊎_elim
-      (λ n. ⊎_elim (λ d. inl (bad_longer edge s l ls d)) (λ o. inr (has_label ls x n.0 n.1 o l x' e)) (h.names ls bs b x run m n.0 n.1))
+      (λ n. ⊎_elim (λ d. inl (bad_longer edge s l ls d)) (λ o. inr (has_label ls x n.0 n.1 o l x' e)) (h.crosses ls bs b x run m n.0 n.1))
       (λ n. ⊎_elim (λ d. inl (bad_longer edge s l ls d)) inr (h.follows ls bs b x run m n l x' e))
       (crossing_or_not (t.act x)))
       (has_each run)
@@ -189,8 +189,8 @@ module _ {S : Type 0} (edge : Edge) (m : Machine S) (rules : Proceeds m) where
   refines_itself = record {
     kept = λ ls bs b x run has. kept_same ls bs b x run;
     follows = λ ls bs b x run has n l y e. inr (record { blocks = b ∷ bs; block = begun m y; at = y; run = labelled l y run e });
-    names = λ ls bs b x run has next e.
+    crosses = λ ls bs b x run has next e.
         let some = rules.named x next e in
-        inr (record { blocks = bs; block = b; at = x; run = run; s_next = next; crosses = e; some_label = some.0; some_next = some.1; can_cross = some.2; names = some.3; each = λ l y v h. (y, h) });
+        inr (record { blocks = bs; block = b; at = x; run = run; s_next = next; crosses = e; some_label = some.0; some_next = some.1; can_cross = some.2; has_label = some.3; each = λ l y v h. (y, h) });
     halts = λ ls bs b x run has why e. inr (halts_itself ls bs b x run why e);
   }

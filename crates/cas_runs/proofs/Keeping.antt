@@ -3,10 +3,10 @@ use Rattle.std.specs.Prelude.{slice_get}
 use Rattle.std.proofs.Common.{◌≡◌, ℕ, ◌≤◌, List, [], ◌∷◌, Option, Some, None, refl, sym, ap, subst}
 use Rattle.cas_base.specs.declared.kind.Kind.TheVariants.{U32}
 use Rattle.cas_runs.specs.Label.{RunLabel, Lock, Unlock, Out, Done}
-use Rattle.cas_runs.specs.Edge.{LockWord, AreGuarded, IsOfKind}
+use Rattle.cas_runs.specs.Edge.{LockWord, AreGuarded, AreUnder, IsOfKind}
 use Rattle.cas_runs.specs.Outside.{IsAmong, first, later}
 use Rattle.cas_runs.specs.Machine.{Quiet, Says, Crosses, Locks, Stops, Halt, Ended, Taken, Saying, Unlocks, Prints, Ends, label_of, Leads, Block, Run, starts, quiet, labelled}
-use Rattle.cas_runs.specs.Rules.{and_lock, without_lock, locks_after, IsShared, MaySay, HasEnded, MayHalt, KeepsRules}
+use Rattle.cas_runs.specs.Rules.{and_lock, without_lock, locks_after, IsShared, MaySay, HasEnded, MayHalt, KeepsRules, AreInKind, KeepsKinds}
 use Rattle.cas_runs.specs.Sections.{Instruction, Take, Give, Load, Store, Print, Spin, Standing, At, Over, one_lock, first_of_words, act_of, act_at, footprint_at, sections, StoresWords}
 
 -- what holds where the program stands, after these labels
@@ -108,20 +108,39 @@ says_allowed ls x (free {rest = Take ∷ rest} s r k) saying y e = absurd (cc e)
 says_allowed ls x (free {rest = Give ∷ rest} s r k) saying y e = absurd (cc e)
 says_allowed ls x (free {rest = Load ∷ rest} s r k) saying y e = absurd (cc e)
 says_allowed ls x (free {rest = Store w ∷ rest} s r k) saying y e = absurd (cc e)
-says_allowed ls x (free {rest = Print ∷ rest} {register = register} s r k) saying y e = subst (λ v. MaySay one_lock ls (label_of v)) (let same : Prints register ≡ saying = cc e in same) r
+says_allowed ls x (free {rest = Print ∷ rest} {register = register} s r k) saying y e = subst (λ v. MaySay one_lock ls (label_of v)) (let same : Prints register ≡ saying = cc e in same) tt
 says_allowed ls x (free {rest = Spin ∷ rest} s r k) saying y e = absurd (cc e)
 says_allowed ls x (taken {rest = []} s r v k) saying y e = subst (λ v. MaySay one_lock ls (label_of v)) (let same : Ends ≡ saying = cc e in same) tt
 says_allowed ls x (taken {rest = Take ∷ rest} s r v k) saying y e = absurd (cc e)
 says_allowed ls x (taken {rest = Give ∷ rest} {w = w} s r v k) saying y e =
     let same : Unlocks 0 (w ∷ []) ≡ saying = cc e in
     let held : IsAmong 0 (locks_after ls) = subst (λ v. IsAmong 0 v) (sym k) first in
-    let words : AreGuarded one_lock 0 (w ∷ []) = record { is_lock = refl; kinds = (v, tt) } in
+    let words : AreUnder one_lock 0 (w ∷ []) = record { is_lock = refl; count = refl } in
     subst (λ v. MaySay one_lock ls (label_of v)) same (held, words)
 says_allowed ls x (taken {rest = Load ∷ rest} s r v k) saying y e = absurd (cc e)
 says_allowed ls x (taken {rest = Store w ∷ rest} s r v k) saying y e = absurd (cc e)
-says_allowed ls x (taken {rest = Print ∷ rest} {register = register} s r v k) saying y e = subst (λ v. MaySay one_lock ls (label_of v)) (let same : Prints register ≡ saying = cc e in same) r
+says_allowed ls x (taken {rest = Print ∷ rest} {register = register} s r v k) saying y e = subst (λ v. MaySay one_lock ls (label_of v)) (let same : Prints register ≡ saying = cc e in same) tt
 says_allowed ls x (taken {rest = Spin ∷ rest} s r v k) saying y e = absurd (cc e)
 says_allowed ls x (over h) saying y e = absurd (cc e)
+
+says_kinds : (ls : List RunLabel) (x : Standing) → Holds ls x → (saying : Saying) (y : Standing) → act_at x ≡ Says saying y → AreInKind one_lock (label_of saying)
+says_kinds ls x (free {rest = []} s r k) saying y e = subst (λ v. AreInKind one_lock (label_of v)) (let same : Ends ≡ saying = cc e in same) tt
+says_kinds ls x (free {rest = Take ∷ rest} s r k) saying y e = absurd (cc e)
+says_kinds ls x (free {rest = Give ∷ rest} s r k) saying y e = absurd (cc e)
+says_kinds ls x (free {rest = Load ∷ rest} s r k) saying y e = absurd (cc e)
+says_kinds ls x (free {rest = Store w ∷ rest} s r k) saying y e = absurd (cc e)
+says_kinds ls x (free {rest = Print ∷ rest} {register = register} s r k) saying y e = subst (λ v. AreInKind one_lock (label_of v)) (let same : Prints register ≡ saying = cc e in same) r
+says_kinds ls x (free {rest = Spin ∷ rest} s r k) saying y e = absurd (cc e)
+says_kinds ls x (taken {rest = []} s r v k) saying y e = subst (λ v. AreInKind one_lock (label_of v)) (let same : Ends ≡ saying = cc e in same) tt
+says_kinds ls x (taken {rest = Take ∷ rest} s r v k) saying y e = absurd (cc e)
+says_kinds ls x (taken {rest = Give ∷ rest} {w = w} s r v k) saying y e =
+    let same : Unlocks 0 (w ∷ []) ≡ saying = cc e in
+    subst (λ v. AreInKind one_lock (label_of v)) same (v, tt)
+says_kinds ls x (taken {rest = Load ∷ rest} s r v k) saying y e = absurd (cc e)
+says_kinds ls x (taken {rest = Store w ∷ rest} s r v k) saying y e = absurd (cc e)
+says_kinds ls x (taken {rest = Print ∷ rest} {register = register} s r v k) saying y e = subst (λ v. AreInKind one_lock (label_of v)) (let same : Prints register ≡ saying = cc e in same) r
+says_kinds ls x (taken {rest = Spin ∷ rest} s r v k) saying y e = absurd (cc e)
+says_kinds ls x (over h) saying y e = absurd (cc e)
 
 no_lock : (l : ℕ) → IsAmong l [] → ⊥
 no_lock l h = elim h [ ]
@@ -206,4 +225,10 @@ sections_keep price program p words = record {
   locks = λ ls bs b x r lock next e. (takes_lock x lock next e, locks_free ls x (holds_at price program words r) lock next e);
   crosses = λ ls bs b x r next e. absurd (not_crossing price program words x next e);
   halts = λ ls bs b x r. halts_allowed ls x (holds_at price program words r);
+}
+
+pub sections_in_kind : (price : ℕ) (program : List Instruction) → StoresWords program → KeepsKinds one_lock (sections price program)
+sections_in_kind price program words = record {
+  says = λ ls bs b x r. says_kinds ls x (holds_at price program words r);
+  crosses = λ ls bs b x r next e. absurd (not_crossing price program words x next e);
 }

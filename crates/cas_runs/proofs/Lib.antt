@@ -1,7 +1,16 @@
+pub mod Bringing
+pub mod Cells
 pub mod Composing
 pub mod Determined
-pub mod Joining
 pub mod Keeping
+pub mod Lifted
+pub mod Lifting
+pub mod Performing
+pub mod Placing
 pub mod Refining
 pub mod Sanity
+pub mod Showing
+pub mod Stepping
+pub mod Tests
 pub mod Units
+pub mod Unmoved

@@ -4,8 +4,8 @@ use Rattle.cas_runs.specs.Label.{RunLabel, Lock}
 use Rattle.cas_runs.specs.Edge.{Edge}
 use Rattle.cas_runs.specs.Outside.{IsAmong, first, later}
 use Rattle.cas_runs.specs.Machine.{Act, Quiet, Says, Crosses, Locks, Hears, Bad, Stops, Halt, Ended, Taken, Full, Machine, label_of, CanCross, Leads, IsBad, Block, begun, onward, Run, starts, quiet, labelled}
-use Rattle.cas_runs.specs.Refines.{Halted, HaltsToo, Within, EachWithin, none, more, HasRun, BadBefore, Kept, NamedAs, IsCrossing, Refines}
-use Rattle.cas_runs.specs.Simulation.{HaltsSoon, halts, fails_halting, step_halting, StopsToo, BadSoon, now, soon, Follows, related, fails, step, FollowsBy, by, fails_before, step_before, NamesEach, FollowsNamed, named, fails_naming, step_naming, Answers, Fine, Simulates}
+use Rattle.cas_runs.specs.Refines.{Halted, HaltsToo, Within, EachWithin, none, more, HasRun, BadBefore, Kept, CrossesAs, IsCrossing, Refines}
+use Rattle.cas_runs.specs.Simulation.{HaltsSoon, halts, fails_halting, step_halting, StopsToo, BadSoon, now, soon, Follows, related, fails, step, FollowsBy, by, fails_before, step_before, CrossesEach, FollowsCrossing, crosses, fails_crossing, step_crossing, Answers, Fine, Simulates}
 
 pub among_front : (w : ℕ) (xs ys : List ℕ) → IsAmong w xs → IsAmong w (xs ++ ys)
 among_front w xs ys first = first
@@ -211,19 +211,19 @@ module _ {T S : Type 0} (edge : Edge) (t : Machine T) (s : Machine S) (Related :
     crosses : s.act at ≡ Crosses s_next
     some_label : RunLabel
     some_next : S
-    names : s_next some_label ≡ Some some_next
+    has_label : s_next some_label ≡ Some some_next
     can_cross : CanCross some_label
-    each : NamesEach edge t s Related ls next s_next
+    each : CrossesEach edge t s Related ls next s_next
 
-  naming_of : (ls : List RunLabel) (bs cs : List Block) (b : Block) (next : RunLabel → Option T) (c : Block) (y : S) → Run edge s ls cs c y → EachWithin bs cs → Within b c → FollowsNamed edge t s Related ls next y → BadBefore edge s ls ⊎ Naming ls bs b next
-  naming_of ls bs cs b next c y r w h (named s_next e l z v n each) = inr (record { blocks = cs; block = c; at = y; run = r; within = w; within_now = h; s_next = s_next; crosses = e; some_label = l; some_next = z; names = n; can_cross = v; each = each })
-  naming_of ls bs cs b next c y r w h (fails_naming e) = inl (bad_before edge s ls cs c y r (now e))
-  naming_of ls bs cs b next c y r w h (step_naming y' e f) = naming_of ls bs cs b next (onward s c y') y' (quiet y' r e) w (within_more s y' b c h) f
+  naming_of : (ls : List RunLabel) (bs cs : List Block) (b : Block) (next : RunLabel → Option T) (c : Block) (y : S) → Run edge s ls cs c y → EachWithin bs cs → Within b c → FollowsCrossing edge t s Related ls next y → BadBefore edge s ls ⊎ Naming ls bs b next
+  naming_of ls bs cs b next c y r w h (crosses s_next e l z v n each) = inr (record { blocks = cs; block = c; at = y; run = r; within = w; within_now = h; s_next = s_next; crosses = e; some_label = l; some_next = z; has_label = n; can_cross = v; each = each })
+  naming_of ls bs cs b next c y r w h (fails_crossing e) = inl (bad_before edge s ls cs c y r (now e))
+  naming_of ls bs cs b next c y r w h (step_crossing y' e f) = naming_of ls bs cs b next (onward s c y') y' (quiet y' r e) w (within_more s y' b c h) f
 
   follows_quiet : (ls : List RunLabel) (a : Act T) (x' : T) (b : Block) (y : S) (c : Block) → Answers edge t s Related ls a b y c → a ≡ Quiet x' → Follows edge t s Related ls x' (onward t b x') y c
   follows_quiet ls a x' b y c h e = let P : Act T → Type 0 = λ v. Answers edge t s Related ls v b y c in subst P e h
 
-  follows_crossing : (ls : List RunLabel) (a : Act T) (next : RunLabel → Option T) (b : Block) (y : S) (c : Block) → Answers edge t s Related ls a b y c → a ≡ Crosses next → FollowsNamed edge t s Related ls next y
+  follows_crossing : (ls : List RunLabel) (a : Act T) (next : RunLabel → Option T) (b : Block) (y : S) (c : Block) → Answers edge t s Related ls a b y c → a ≡ Crosses next → FollowsCrossing edge t s Related ls next y
   follows_crossing ls a next b y c h e = let P : Act T → Type 0 = λ v. Answers edge t s Related ls v b y c in subst P e h
 
   follows_label : (ls : List RunLabel) (a : Act T) (l : RunLabel) (x' : T) (b : Block) (y : S) (c : Block) → Answers edge t s Related ls a b y c → (IsCrossing a → ⊥) → Leads edge ls a l x' → FollowsBy edge t s Related ls l x' y
@@ -267,7 +267,7 @@ module _ {T S : Type 0} (edge : Edge) (t : Machine T) (s : Machine S) (Related :
         (crossing_or_not (t.act x))
 
     linked : {ls : List RunLabel} {bs : List Block} {b : Block} {x : T} → Run edge t ls bs b x → HasRun edge s ls → BadBefore edge s ls ⊎ Linked ls bs b x
-    linked starts has = inr (record { blocks = []; block = begun s s.start; at = s.start; run = starts; within = none; related = sim.starts })
+    linked starts has = follows_on [] [] [] (begun t t.start) t.start (begun s s.start) s.start starts none sim.starts
     linked (quiet {ls = ls} {bs = bs} {b = b} {x = x} x' r e) has =
         ⊎_elim inl (λ k. follows_on ls bs k.blocks (onward t b x') x' k.block k.at k.run k.within (follows_quiet ls (t.act x) x' b k.at k.block (sim.answers ls x b k.at k.block k.related) e)) (linked r has)
     linked (labelled {ls = ls} {bs = bs} {b = b} {x = x} l x' r e) has =
@@ -285,13 +285,13 @@ module _ {T S : Type 0} (edge : Edge) (t : Machine T) (s : Machine S) (Related :
         (bad_or_fine (t.act x)))
         (sim.fine ls x b k.at k.block k.related)
 
-    named_of : (ls : List RunLabel) (bs : List Block) (b : Block) (next : RunLabel → Option T) → Naming ls bs b next → NamedAs edge s ls next
-    named_of ls bs b next n = record { blocks = n.blocks; block = n.block; at = n.at; run = n.run; s_next = n.s_next; crosses = n.crosses; some_label = n.some_label; some_next = n.some_next; can_cross = n.can_cross; names = n.names; each = λ l y v e. let h = n.each l y v e in (h.0, h.1) }
+    crossing_of : (ls : List RunLabel) (bs : List Block) (b : Block) (next : RunLabel → Option T) → Naming ls bs b next → CrossesAs edge s ls next
+    crossing_of ls bs b next n = record { blocks = n.blocks; block = n.block; at = n.at; run = n.run; s_next = n.s_next; crosses = n.crosses; some_label = n.some_label; some_next = n.some_next; can_cross = n.can_cross; has_label = n.has_label; each = λ l y v e. let h = n.each l y v e in (h.0, h.1) }
 
-    names_of : (ls : List RunLabel) (bs : List Block) (b : Block) (x : T) (next : RunLabel → Option T) → t.act x ≡ Crosses next → Linked ls bs b x → BadBefore edge s ls ⊎ NamedAs edge s ls next
-    names_of ls bs b x next e k =
+    crosses_of : (ls : List RunLabel) (bs : List Block) (b : Block) (x : T) (next : RunLabel → Option T) → t.act x ≡ Crosses next → Linked ls bs b x → BadBefore edge s ls ⊎ CrossesAs edge s ls next
+    crosses_of ls bs b x next e k =
         ⊎_elim (λ h. inl (bad_before edge s ls k.blocks k.block k.at k.run h))
-        (λ f. ⊎_elim inl (λ n. inr (named_of ls bs b next n))
+        (λ f. ⊎_elim inl (λ n. inr (crossing_of ls bs b next n))
         (naming_of ls bs k.blocks b next k.block k.at k.run k.within f.within (follows_crossing ls (t.act x) next b k.at k.block (sim.answers ls x b k.at k.block k.related) e)))
         (sim.fine ls x b k.at k.block k.related)
 
@@ -304,6 +304,6 @@ module _ {T S : Type 0} (edge : Edge) (t : Machine T) (s : Machine S) (Related :
     steps_refine = record {
       kept = λ ls bs b x r has. ⊎_elim inl (kept_of ls bs b x) (linked r has);
       follows = λ ls bs b x r has n l x' e. ⊎_elim inl (λ k. has_by l ls k.blocks x' k.block k.at k.run (follows_label ls (t.act x) l x' b k.at k.block (sim.answers ls x b k.at k.block k.related) n e)) (linked r has);
-      names = λ ls bs b x r has next e. ⊎_elim inl (names_of ls bs b x next e) (linked r has);
+      crosses = λ ls bs b x r has next e. ⊎_elim inl (crosses_of ls bs b x next e) (linked r has);
       halts = λ ls bs b x r has why e. ⊎_elim inl (halts_of ls bs b x why e) (linked r has);
     }

@@ -3,7 +3,9 @@ use Rattle.std.proofs.Common.{ℕ, List, sym, ◌∙◌, subst}
 use Rattle.cas_base.specs.declared.decl.Unit.{Unit as UnitOf}
 use Rattle.cas_runs.specs.Label.{NameBytes}
 use Rattle.cas_runs.specs.Edge.{Edge}
-use Rattle.cas_runs.specs.Unit.{FirstWord, laid_out, Language, FitsUnit, FitsFunction, UnitRefines, FunctionRefines, ThreadRefines}
+use Rattle.cas_base.specs.declared.decl.Decl.{Decl}
+use Rattle.cas_runs.specs.Access.{Words}
+use Rattle.cas_runs.specs.Unit.{laid_out, Language, FitsUnit, UnitRefines, FunctionRefines, ThreadRefines}
 use Rattle.cas_runs.proofs.Composing.{refines_both}
 
 module _ {F G H T S R : Type 0} (lt : Language F T) (ls : Language G S) (lr : Language H R) where
@@ -14,29 +16,29 @@ module _ {F G H T S R : Type 0} (lt : Language F T) (ls : Language G S) (lr : La
     naming = λ l. h.naming (k.naming l);
     laid_out_too = λ l p. h.laid_out_too (k.naming l) (k.laid_out_too l p);
     refines = λ setting fits laid.
-        let middle : FitsUnit setting.edge setting.first_word s.decls s.globals = subst (λ g. FitsUnit setting.edge setting.first_word s.decls g) (sym k.globals) (subst (λ d. FitsUnit setting.edge setting.first_word d r.globals) (sym k.decls) fits) in
+        let middle : FitsUnit setting.edge setting.words s.decls s.globals = subst (λ g. FitsUnit setting.edge setting.words s.decls g) (sym k.globals) (subst (λ d. FitsUnit setting.edge setting.words d r.globals) (sym k.decls) fits) in
         refines_both setting.edge (lt.unit (laid_out setting (h.naming (k.naming setting.layout))) t.funs) (ls.unit (laid_out setting (k.naming setting.layout)) s.funs) (lr.unit setting r.funs)
         (h.refines (laid_out setting (k.naming setting.layout)) middle (k.laid_out_too setting.layout laid)) (k.refines setting fits laid);
   }
 
-  pub functions_both : (t : F) (s : G) (r : H) → FunctionRefines lt ls t s → FunctionRefines ls lr s r → FunctionRefines lt lr t r
-  functions_both t s r h k = record {
-    decl = h.decl ∙ k.decl;
+  pub functions_both : (decl : Decl) (t : F) (s : G) (r : H) → FunctionRefines lt ls decl t s → FunctionRefines ls lr decl s r → FunctionRefines lt lr decl t r
+  functions_both decl t s r h k = record {
+    target_name = h.target_name;
+    source_name = k.source_name;
     naming = λ l. h.naming (k.naming l);
     laid_out_too = λ l p. h.laid_out_too (k.naming l) (k.laid_out_too l p);
     refines = λ setting fits laid.
-        let middle : FitsFunction setting.edge setting.first_word (ls.decl s) = subst (λ d. FitsFunction setting.edge setting.first_word d) (sym k.decl) fits in
         refines_both setting.edge (lt.alone (laid_out setting (h.naming (k.naming setting.layout))) t) (ls.alone (laid_out setting (k.naming setting.layout)) s) (lr.alone setting r)
-        (h.refines (laid_out setting (k.naming setting.layout)) middle (k.laid_out_too setting.layout laid)) (k.refines setting fits laid);
+        (h.refines (laid_out setting (k.naming setting.layout)) fits (k.laid_out_too setting.layout laid)) (k.refines setting fits laid);
   }
 
-  pub threads_both : (edge : Edge) (first : FirstWord) (ts : List F) (ss : List G) (rs : List H) (entry : NameBytes) (thread : ℕ) → ThreadRefines lt ls edge first ts ss entry thread → ThreadRefines ls lr edge first ss rs entry thread → ThreadRefines lt lr edge first ts rs entry thread
-  threads_both edge first ts ss rs entry thread h k = record {
+  pub threads_both : (edge : Edge) (words : Words) (ts : List F) (ss : List G) (rs : List H) (entry : NameBytes) (thread : ℕ) → ThreadRefines lt ls edge words ts ss entry thread → ThreadRefines ls lr edge words ss rs entry thread → ThreadRefines lt lr edge words ts rs entry thread
+  threads_both edge words ts ss rs entry thread h k = record {
     naming = λ l. h.naming (k.naming l);
     laid_out_too = λ l p. h.laid_out_too (k.naming l) (k.laid_out_too l p);
     refines = λ layout unknown laid. refines_both edge
-        (lt.thread (record { edge = edge; first_word = first; layout = h.naming (k.naming layout); unknown = unknown }) ts entry thread)
-        (ls.thread (record { edge = edge; first_word = first; layout = k.naming layout; unknown = unknown }) ss entry thread)
-        (lr.thread (record { edge = edge; first_word = first; layout = layout; unknown = unknown }) rs entry thread)
+        (lt.thread (record { edge = edge; words = words; layout = h.naming (k.naming layout); unknown = unknown }) ts entry thread)
+        (ls.thread (record { edge = edge; words = words; layout = k.naming layout; unknown = unknown }) ss entry thread)
+        (lr.thread (record { edge = edge; words = words; layout = layout; unknown = unknown }) rs entry thread)
         (h.refines (k.naming layout) unknown (k.laid_out_too layout laid)) (k.refines layout unknown laid);
   }

@@ -1,10 +1,10 @@
 -- What stands at the edge of a unit: the words by number, and the functions by name.
-use Rattle.std.specs.Prelude.{◌≡◌, ℕ, ◌<◌, ◌≤◌, nat_eq, Bool, true, false, IsTrue, List, [], ◌∷◌, Option, Some, None, slice_get, if◌then◌else◌}
+use Rattle.std.specs.Prelude.{◌≡◌, ℕ, ◌<◌, ◌≤◌, nat_eq, Bool, IsTrue, List, [], ◌∷◌, length, Option, Some, None, slice_get, if◌then◌else◌}
 use Rattle.cas_base.specs.Kind.{is_of_kind}
 use Rattle.cas_base.specs.declared.kind.Kind.{Kind}
 use Rattle.cas_base.specs.declared.kind.Ty.{Ty}
 use Rattle.cas_base.specs.declared.kind.Ty.TheVariants.{Void, Int, Ptr, Array}
-use Rattle.cas_runs.specs.Label.{NameBytes, Shown, Word, Place, Object, Share}
+use Rattle.cas_runs.specs.Label.{NameBytes, same_name, Shown, Word, Place, Object, Share}
 
 -- what a word is: a lock, a shared word with its kind and the lock that guards it, if its guard is a lock, or a word of a table of constants
 pub data Cell : Type 0 where
@@ -60,10 +60,20 @@ pub record AreGuarded (edge : Edge) (lock : ℕ) (words : List ℕ) : Type 0 whe
   pub is_lock : slice_get edge.cells lock ≡ Some LockWord
   pub kinds : AreOfKinds words (guarded lock edge.cells)
 
+-- the words are as many as the lock guards
+pub record AreUnder (edge : Edge) (lock : ℕ) (words : List ℕ) : Type 0 where
+  pub is_lock : slice_get edge.cells lock ≡ Some LockWord
+  pub count : length words ≡ length (guarded lock edge.cells)
+
 -- all locks of the share are greater than this one
 abbrev pub AreAbove : ℕ → Share → Type 0
 AreAbove lock [] = Unit {0}
 AreAbove lock (h ∷ hs) = (lock < h.lock) × AreAbove lock hs
+
+-- the share is in order, and has as many words as its locks guard
+abbrev pub IsOrdered : Edge → Share → Type 0
+IsOrdered edge [] = Unit {0}
+IsOrdered edge (h ∷ hs) = AreUnder edge h.lock h.words × AreAbove h.lock hs × IsOrdered edge hs
 
 -- the share is in order, and its words are such as its locks can guard
 abbrev pub IsShare : Edge → Share → Type 0
@@ -100,12 +110,14 @@ returned (Ptr kind) = Ptr kind ∷ []
 returned (Array kind size) = []
 
 -- the function of this name
-abbrev pub named : List ℕ → List ℕ → Bool
-named [] [] = true
-named [] (b ∷ bs) = false
-named (a ∷ as') [] = false
-named (a ∷ as') (b ∷ bs) = if nat_eq a b then named as' bs else false
-
 abbrev pub signature_of : List Signature → NameBytes → Option Signature
 signature_of [] name = None
-signature_of (f ∷ fs) name = if named f.name name then Some f else signature_of fs name
+signature_of (f ∷ fs) name = if same_name f.name name then Some f else signature_of fs name
+
+-- the most words of globals and locks that a program has
+abbrev pub most_words : ℕ
+most_words = 65536
+
+-- the most cells that an object has: those of all locals of a function
+abbrev pub most_cells : ℕ
+most_cells = 4096

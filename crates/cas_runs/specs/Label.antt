@@ -1,6 +1,8 @@
 -- Labels of a run: what a unit and its outside show to each other.
-use Rattle.std.specs.Prelude.{ℕ, List, [], ◌∷◌, Option}
+use Rattle.std.specs.Prelude.{ℕ, nat_eq, Bool, true, false, List, [], ◌∷◌, Option, Some, None, if◌then◌else◌}
 use Rattle.cas_base.specs.declared.kind.Kind.{Kind}
+use Rattle.cas_base.specs.declared.label.Label.{Label}
+use Rattle.cas_base.specs.declared.label.Label.TheVariants as plain
 
 -- a name, by its bytes
 abbrev pub NameBytes : Type 0
@@ -16,12 +18,13 @@ pub data Owner : Type 0 where
   Inside : Owner
   Outside : Owner
 
--- an object that has crossed: its cells are of this kind, and it is dead where it has no contents any more
+-- an object that has crossed: how many cells it has, and of which kind. It is dead where it has no contents any more. A cell's content is its
+-- word, or none where it is a pointer, as no object of the source has
 pub record Object : Type 0 where
   pub owner : Owner
   pub kind : Kind
   pub size : ℕ
-  pub contents : Option (List Shown)
+  pub contents : Option (List (Option ℕ))
 
 -- a lock that is held, with the values of the words that it guards, in their order
 pub record Held : Type 0 where
@@ -48,6 +51,33 @@ pub data RunLabel : Type 0 where
   Back : (crossing : Crossing) → RunLabel
   Call : (function : NameBytes) (crossing : Crossing) → RunLabel
   Leave : (crossing : Crossing) → RunLabel
+
+-- what the label is where runs of threads are put together: the crossing labels don't occur there
+abbrev pub plain_label : RunLabel → Option Label
+plain_label (Lock lock words) = Some (plain.Lock lock)
+plain_label (Unlock lock words) = Some (plain.Unlock lock)
+plain_label (Out word) = Some (plain.Out word)
+plain_label Done = Some plain.Done
+plain_label (Enter function crossing) = None
+plain_label (Back crossing) = None
+plain_label (Call function crossing) = None
+plain_label (Leave crossing) = None
+
+abbrev pub and_plain : Option Label → List Label → List Label
+and_plain None labels = labels
+and_plain (Some label) labels = label ∷ labels
+
+-- the plain labels of a run, in its order
+abbrev pub plain_labels : List RunLabel → List Label
+plain_labels [] = []
+plain_labels (l ∷ ls) = and_plain (plain_label l) (plain_labels ls)
+
+-- the same name
+abbrev pub same_name : NameBytes → NameBytes → Bool
+same_name [] [] = true
+same_name [] (b ∷ bs) = false
+same_name (a ∷ rest) [] = false
+same_name (a ∷ rest) (b ∷ bs) = if nat_eq a b then same_name rest bs else false
 
 -- the locks of a share, in ascending order
 abbrev pub locks_of : Share → List ℕ

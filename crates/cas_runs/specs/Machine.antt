@@ -97,9 +97,13 @@ and_step b price foot = record { price = b.price + price; reads = b.reads ++ foo
 abbrev pub onward : {S : Type 0} → Machine S → Block → S → Block
 onward m b x = and_step b (m.price x) (m.footprint x)
 
+-- a block without a step
+abbrev pub nothing : Block
+nothing = record { price = 0; reads = []; writes = [] }
+
 -- a block that begins at a state
 abbrev pub begun : {S : Type 0} → Machine S → S → Block
-begun m x = record { price = m.price x; reads = (m.footprint x).reads; writes = (m.footprint x).writes }
+begun m x = onward m nothing x
 
 -- a run from the start: its labels and the blocks that they ended, the newest first, the block in which it is, and where it stands
 pub data Run {S : Type 0} (edge : Edge) (m : Machine S) : List RunLabel → List Block → Block → S → Type 0 where

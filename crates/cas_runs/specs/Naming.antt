@@ -1,12 +1,13 @@
 -- Namings: which places of a machine's memory are the objects that have crossed.
-use Rattle.std.specs.Prelude.{ℕ, zero, suc, ◌+◌, ◌-◌, ◌≤◌, nat_eq, nat_lt, nat_le, Bool, true, false, not, ◌&&◌, List, [], ◌∷◌, ◌++◌, length, Option, Some, None, slice_get, if◌then◌else◌}
+use Rattle.std.specs.Prelude.{ℕ, zero, suc, ◌+◌, ◌≤◌, nat_eq, nat_lt, nat_le, Bool, true, false, ◌&&◌, List, [], ◌∷◌, ◌++◌, length, Option, Some, None, slice_get, if◌then◌else◌}
 use Rattle.cas_base.specs.declared.kind.Kind.{Kind}
 use Rattle.cas_base.specs.declared.kind.Kind.TheVariants.{I8, U8, I16, U16, I32, U32}
-use Rattle.cas_runs.specs.Label.{NameBytes, Shown, Word, Place, Owner, Inside, Outside, Object}
+use Rattle.cas_runs.specs.Label.{NameBytes, same_name, Shown, Word, Place, Owner, Inside, Outside, Object}
 
--- a block of memory: of an activation, by its serial number and the place of the block among the function's, or an object of the outside's, by its number
+-- a block of memory: of an activation of this function, by its serial number and the place of the block among the function's, or an object of the
+-- outside's, by its number
 pub data Home : Type 0 where
-  Own : (activation block : ℕ) → Home
+  Own : (function : NameBytes) (activation block : ℕ) → Home
   Theirs : (object : ℕ) → Home
 
 -- a value of a language between: a word, or a place in a block
@@ -29,6 +30,11 @@ abbrev pub ArePlaced : ℕ → ℕ → List Part → Type 0
 ArePlaced from size [] = Unit {0}
 ArePlaced from size (p ∷ ps) = (from ≤ p.from) × (1 ≤ p.size) × (p.from + p.size ≤ size) × ArePlaced (p.from + p.size) size ps
 
+-- the objects of a block
+abbrev pub parts_of : Layout → Home → List Part
+parts_of layout (Own function activation block) = layout function block
+parts_of layout (Theirs object) = []
+
 -- an object that has crossed, as the machine has it
 pub record Named : Type 0 where
   pub home : Home
@@ -39,82 +45,10 @@ abbrev pub Naming : Type 0
 Naming = List Named
 
 abbrev pub same_home : Home → Home → Bool
-same_home (Own a b) (Own c d) = nat_eq a c && nat_eq b d
-same_home (Own a b) (Theirs n) = false
-same_home (Theirs n) (Own a b) = false
+same_home (Own f a b) (Own g c d) = same_name f g && nat_eq a c && nat_eq b d
+same_home (Own f a b) (Theirs n) = false
+same_home (Theirs n) (Own f a b) = false
 same_home (Theirs n) (Theirs m) = nat_eq n m
-
--- the object is this part of this block
-abbrev pub is_at : Home → Part → Named → Bool
-is_at home part n = same_home n.home home && nat_eq n.part.from part.from
-
-abbrev pub is_named : Naming → Home → Part → Bool
-is_named [] home part = false
-is_named (n ∷ ns) home part = if is_at home part n then true else is_named ns home part
-
--- the part that begins here
-abbrev pub part_at : List Part → ℕ → Option Part
-part_at [] from = None
-part_at (p ∷ ps) from = if nat_eq p.from from then Some p else part_at ps from
-
--- a place of this object stands at this place of the block
-abbrev pub stands_at : Named → Home → (place in_object : ℕ) → Bool
-stands_at n home place in_object = same_home n.home home && nat_eq place (n.part.from + in_object) && nat_le in_object n.part.size
-
-abbrev pub again : Option Named → Naming → Home → (place in_object : ℕ) → Option Naming
-again None ns home place in_object = None
-again (Some n) ns home place in_object = if stands_at n home place in_object then Some ns else None
-
--- an object crosses for the first time, and takes the next number
-abbrev pub first_time : Option Part → Naming → Home → (place in_object : ℕ) → Option Naming
-first_time None ns home place in_object = None
-first_time (Some part) ns home place in_object = if not (is_named ns home part) && stands_at (record { home = home; part = part }) home place in_object then Some (ns ++ record { home = home; part = part } ∷ []) else None
-
--- the naming after a value has crossed as this: none if it can't be shown so
-abbrev pub named_by : (Home → List Part) → Naming → Value → Shown → Option Naming
-named_by parts ns (Number v) (Word w) = if nat_eq v w then Some ns else None
-named_by parts ns (Number v) (Place object place) = None
-named_by parts ns (Pointer home at) (Word w) = None
-named_by parts ns (Pointer home at) (Place object place) =
-    if nat_lt object (length ns) then again (slice_get ns object) ns home at place else if nat_eq object (length ns) then first_time (part_at (parts home) (at - place)) ns home at place else None
-
-abbrev pub and_then : {A B : Type 0} → Option A → (A → Option B) → Option B
-and_then None go = None
-and_then (Some a) go = go a
-
--- the same for several values, from the first to the last
-abbrev pub all_named_by : (Home → List Part) → Naming → List Value → List Shown → Option Naming
-all_named_by parts ns [] [] = Some ns
-all_named_by parts ns [] (x ∷ xs) = None
-all_named_by parts ns (v ∷ vs) [] = None
-all_named_by parts ns (v ∷ vs) (x ∷ xs) = and_then (named_by parts ns v x) (λ ms. all_named_by parts ms vs xs)
-
--- the memory's words of a block, or none where its activation has returned
-abbrev pub Memory : Type 0
-Memory = Home → Option (List Value)
-
--- the cells of a part
-abbrev pub cells : List Value → (from size : ℕ) → List Value
-cells [] from size = []
-cells (v ∷ vs) from zero = []
-cells (v ∷ vs) zero (suc n) = v ∷ cells vs zero n
-cells (v ∷ vs) (suc from) (suc n) = cells vs from (suc n)
-
-abbrev pub contents_named_by : (Home → List Part) → Naming → Named → Option (List Value) → Option (List Shown) → Option Naming
-contents_named_by parts ns n None None = Some ns
-contents_named_by parts ns n None (Some shown) = None
-contents_named_by parts ns n (Some block) None = None
-contents_named_by parts ns n (Some block) (Some shown) = all_named_by parts ns (cells block n.part.from n.part.size) shown
-
-abbrev pub owner_of : Home → Owner
-owner_of (Own activation block) = Inside
-owner_of (Theirs object) = Outside
-
-abbrev pub same_owner : Owner → Owner → Bool
-same_owner Inside Inside = true
-same_owner Inside Outside = false
-same_owner Outside Inside = false
-same_owner Outside Outside = true
 
 -- the kinds are told apart by a number
 abbrev pub kind_number : Kind → ℕ
@@ -125,38 +59,186 @@ kind_number U16 = 3
 kind_number I32 = 4
 kind_number U32 = 5
 
--- the object is shown as what it is
-abbrev pub is_shown_as : Named → Object → Bool
-is_shown_as n object = same_owner object.owner (owner_of n.home) && nat_eq (kind_number object.kind) (kind_number n.part.kind) && nat_eq object.size n.part.size
+abbrev pub same_part : Part → Part → Bool
+same_part p q = nat_eq p.from q.from && nat_eq p.size q.size && nat_eq (kind_number p.kind) (kind_number q.kind)
 
-abbrev pub object_named_by : (Home → List Part) → Memory → Naming → Option Named → Object → Option Naming
-object_named_by parts memory ns None object = None
-object_named_by parts memory ns (Some n) object = if is_shown_as n object then contents_named_by parts ns n (memory n.home) object.contents else None
+-- the object is this part of this block
+abbrev pub is_it : Home → Part → Named → Bool
+is_it home part n = same_home n.home home && same_part n.part part
 
--- the same for the objects that have crossed, from the k-th on, with what they contain. An object that only these contents show is among them
-abbrev pub objects_named_by : (Home → List Part) → Memory → Naming → ℕ → List Object → Option Naming
-objects_named_by parts memory ns k [] = if nat_eq k (length ns) then Some ns else None
-objects_named_by parts memory ns k (o ∷ os) = and_then (object_named_by parts memory ns (slice_get ns k) o) (λ ms. objects_named_by parts memory ms (k + 1) os)
+abbrev pub one_later : Option ℕ → Option ℕ
+one_later None = None
+one_later (Some k) = Some (k + 1)
+
+-- under which number the part has crossed
+abbrev pub number_of : Naming → Home → Part → Option ℕ
+number_of [] home part = None
+number_of (n ∷ ns) home part = if is_it home part n then Some 0 else one_later (number_of ns home part)
+
+-- at this place of the block is that place of the part, from its beginning up to its end
+abbrev pub is_place : Part → (at place : ℕ) → Bool
+is_place part at place = nat_eq at (part.from + place) && nat_le place part.size
+
+-- the part of which that is so
+abbrev pub part_by : List Part → (at place : ℕ) → Option Part
+part_by [] at place = None
+part_by (p ∷ ps) at place = if is_place p at place then Some p else part_by ps at place
+
+abbrev pub again : Option Named → Naming → Home → (at place : ℕ) → Option Naming
+again None ns home at place = None
+again (Some n) ns home at place = if same_home n.home home && is_place n.part at place then Some ns else None
+
+abbrev pub if_new : Option ℕ → Naming → Named → Option Naming
+if_new None ns n = Some (ns ++ n ∷ [])
+if_new (Some k) ns n = None
+
+-- an object crosses for the first time, and takes the next number
+abbrev pub first_time : Option Part → Naming → Home → Option Naming
+first_time None ns home = None
+first_time (Some part) ns home = if_new (number_of ns home part) ns (record { home = home; part = part })
+
+-- the naming after a value has crossed as this: none if it can't be shown so
+abbrev pub named_by : Layout → Naming → Value → Shown → Option Naming
+named_by layout ns (Number v) (Word w) = if nat_eq v w then Some ns else None
+named_by layout ns (Number v) (Place object place) = None
+named_by layout ns (Pointer home at) (Word w) = None
+named_by layout ns (Pointer home at) (Place object place) =
+    if nat_lt object (length ns) then again (slice_get ns object) ns home at place else if nat_eq object (length ns) then first_time (part_by (parts_of layout home) at place) ns home else None
+
+abbrev pub and_then : {A B : Type 0} → Option A → (A → Option B) → Option B
+and_then None go = None
+and_then (Some a) go = go a
+
+-- the same for several values, from the first to the last
+abbrev pub all_named_by : Layout → Naming → List Value → List Shown → Option Naming
+all_named_by layout ns [] [] = Some ns
+all_named_by layout ns [] (x ∷ xs) = None
+all_named_by layout ns (v ∷ vs) [] = None
+all_named_by layout ns (v ∷ vs) (x ∷ xs) = and_then (named_by layout ns v x) (λ ms. all_named_by layout ms vs xs)
+
+-- the place is within the part, or at its end
+abbrev pub reaches : Part → (at : ℕ) → Bool
+reaches part at = nat_le part.from at && nat_le at (part.from + part.size)
+
+abbrev pub some_reaches : List Part → (at : ℕ) → Bool
+some_reaches [] at = false
+some_reaches (p ∷ ps) at = if reaches p at then true else some_reaches ps at
+
+abbrev pub reached_in : Option Named → Home → (at : ℕ) → Bool
+reached_in None home at = false
+reached_in (Some n) home at = same_home n.home home && reaches n.part at
+
+-- the pointer is to a place of an object, so that it can be shown
+abbrev pub can_point : Layout → Naming → Home → (at : ℕ) → Bool
+can_point layout ns (Own function activation block) at = some_reaches (layout function block) at
+can_point layout ns (Theirs object) at = reached_in (slice_get ns object) (Theirs object) at
+
+abbrev pub can_show : Layout → Naming → Value → Bool
+can_show layout ns (Number w) = true
+can_show layout ns (Pointer home at) = can_point layout ns home at
+
+abbrev pub can_show_all : Layout → Naming → List Value → Bool
+can_show_all layout ns [] = true
+can_show_all layout ns (v ∷ vs) = if can_show layout ns v then can_show_all layout ns vs else false
+
+-- the words of a block, or none where its activation has returned
+abbrev pub Memory : Type 0
+Memory = Home → Option (List Value)
+
+-- the cells of a part
+abbrev pub cells : List Value → (from size : ℕ) → List Value
+cells [] from size = []
+cells (v ∷ vs) from zero = []
+cells (v ∷ vs) zero (suc n) = v ∷ cells vs zero n
+cells (v ∷ vs) (suc from) (suc n) = cells vs from (suc n)
+
+abbrev pub content : Value → Option ℕ
+content (Number w) = Some w
+content (Pointer home place) = None
+
+abbrev pub contents : List Value → List (Option ℕ)
+contents [] = []
+contents (v ∷ vs) = content v ∷ contents vs
+
+abbrev pub contents_in : Option (List Value) → Part → Option (List (Option ℕ))
+contents_in None part = None
+contents_in (Some block) part = Some (contents (cells block part.from part.size))
+
+abbrev pub owner_of : Home → Owner
+owner_of (Own function activation block) = Inside
+owner_of (Theirs object) = Outside
+
+-- an object, as a label shows it
+abbrev pub object_of : Memory → Named → Object
+object_of memory n = record { owner = owner_of n.home; kind = n.part.kind; size = n.part.size; contents = contents_in (memory n.home) n.part }
+
+abbrev pub objects_of : Memory → Naming → List Object
+objects_of memory [] = []
+objects_of memory (n ∷ ns) = object_of memory n ∷ objects_of memory ns
+
+abbrev pub same_owner : Owner → Owner → Bool
+same_owner Inside Inside = true
+same_owner Inside Outside = false
+same_owner Outside Inside = false
+same_owner Outside Outside = true
+
+abbrev pub same_content : Option ℕ → Option ℕ → Bool
+same_content None None = true
+same_content None (Some w) = false
+same_content (Some v) None = false
+same_content (Some v) (Some w) = nat_eq v w
+
+abbrev pub same_contents : List (Option ℕ) → List (Option ℕ) → Bool
+same_contents [] [] = true
+same_contents [] (w ∷ ws) = false
+same_contents (v ∷ vs) [] = false
+same_contents (v ∷ vs) (w ∷ ws) = same_content v w && same_contents vs ws
+
+abbrev pub same_state : Option (List (Option ℕ)) → Option (List (Option ℕ)) → Bool
+same_state None None = true
+same_state None (Some ws) = false
+same_state (Some vs) None = false
+same_state (Some vs) (Some ws) = same_contents vs ws
+
+abbrev pub same_object : Object → Object → Bool
+same_object o p = same_owner o.owner p.owner && nat_eq (kind_number o.kind) (kind_number p.kind) && nat_eq o.size p.size && same_state o.contents p.contents
+
+abbrev pub same_objects : List Object → List Object → Bool
+same_objects [] [] = true
+same_objects [] (p ∷ ps) = false
+same_objects (o ∷ os) [] = false
+same_objects (o ∷ os) (p ∷ ps) = same_object o p && same_objects os ps
 
 -- the value that crosses as this, where these objects have crossed
-abbrev pub place_of : Option Named → ℕ → Option Value
-place_of None place = None
-place_of (Some n) place = Some (Pointer n.home (n.part.from + place))
+abbrev pub value_at : Option Named → (place : ℕ) → Option Value
+value_at None place = None
+value_at (Some n) place = Some (Pointer n.home (n.part.from + place))
 
 abbrev pub taken : Naming → Shown → Option Value
 taken ns (Word w) = Some (Number w)
-taken ns (Place object place) = place_of (slice_get ns object) place
+taken ns (Place object place) = value_at (slice_get ns object) place
 
-abbrev pub or_old : Option Value → Value → Value
-or_old None old = old
-or_old (Some v) old = v
+-- the same for several values: none if one of them is no value here
+abbrev pub all_taken : Naming → List Shown → Option (List Value)
+all_taken ns [] = Some []
+all_taken ns (x ∷ xs) = and_then (taken ns x) (λ v. and_then (all_taken ns xs) (λ vs. Some (v ∷ vs)))
 
--- the block with these values from a place on, and no longer than it was
-abbrev pub written : Naming → List Value → (from : ℕ) → List Shown → List Value
-written ns [] from xs = []
-written ns (v ∷ vs) zero [] = v ∷ vs
-written ns (v ∷ vs) zero (x ∷ xs) = or_old (taken ns x) v ∷ written ns vs zero xs
-written ns (v ∷ vs) (suc from) xs = v ∷ written ns vs from xs
+abbrev pub refilled : Option ℕ → Value → Value
+refilled None old = old
+refilled (Some w) old = Number w
+
+-- the block with these words at its front, and at most so many
+abbrev pub overwritten : List Value → (size : ℕ) → List (Option ℕ) → List Value
+overwritten [] size ws = []
+overwritten (v ∷ vs) zero ws = v ∷ vs
+overwritten (v ∷ vs) (suc size) [] = v ∷ vs
+overwritten (v ∷ vs) (suc size) (w ∷ ws) = refilled w v ∷ overwritten vs size ws
+
+-- the block with these words in the stretch that begins here and has this size
+abbrev pub written : List Value → (from size : ℕ) → List (Option ℕ) → List Value
+written vs zero size ws = overwritten vs size ws
+written [] (suc from) size ws = []
+written (v ∷ vs) (suc from) size ws = v ∷ written vs from size ws
 
 -- the memory with another block at this home
 abbrev pub with_block : Memory → Home → Option (List Value) → Memory
@@ -164,32 +246,39 @@ with_block memory home block = λ h. if same_home h home then block else memory 
 
 -- where the outside lets an object die: only one of its own does
 abbrev pub died : Home → List Value → Option (List Value)
-died (Own activation block) values = Some values
+died (Own function activation block) values = Some values
 died (Theirs object) values = None
 
-abbrev pub refilled : Naming → Home → (from : ℕ) → Option (List Value) → Option (List Shown) → Option (List Value)
-refilled ns home from None contents = None
-refilled ns home from (Some block) None = died home block
-refilled ns home from (Some block) (Some xs) = Some (written ns block from xs)
+abbrev pub left_in : Named → Option (List Value) → Option (List (Option ℕ)) → Option (List Value)
+left_in n None ws = None
+left_in n (Some block) None = died n.home block
+left_in n (Some block) (Some ws) = Some (written block n.part.from n.part.size ws)
 
-abbrev pub all_taken : Naming → List Shown → List Value
-all_taken ns [] = []
-all_taken ns (x ∷ xs) = or_old (taken ns x) (Number 0) ∷ all_taken ns xs
+-- so many words
+abbrev pub filled : (size : ℕ) → List (Option ℕ) → List Value
+filled zero ws = []
+filled (suc size) [] = Number 0 ∷ filled size []
+filled (suc size) (w ∷ ws) = refilled w (Number 0) ∷ filled size ws
 
-abbrev pub new_block : Naming → Option (List Shown) → Option (List Value)
-new_block ns None = None
-new_block ns (Some xs) = Some (all_taken ns xs)
+abbrev pub new_block : (size : ℕ) → Option (List (Option ℕ)) → Option (List Value)
+new_block size None = None
+new_block size (Some ws) = Some (filled size ws)
+
+-- an object of the outside's, which crosses under this number
+abbrev pub theirs : ℕ → Object → Named
+theirs k o = record { home = Theirs k; part = record { from = 0; size = o.size; kind = o.kind } }
 
 -- a naming and a memory
 pub record Crossed : Type 0 where
   pub naming : Naming
   pub memory : Memory
 
-abbrev pub brought_one : Naming → Memory → ℕ → Option Named → Object → Crossed
-brought_one ns memory k (Some n) o = record { naming = ns; memory = with_block memory n.home (refilled ns n.home n.part.from (memory n.home) o.contents) }
-brought_one ns memory k None o = record { naming = ns ++ record { home = Theirs k; part = record { from = 0; size = o.size; kind = o.kind } } ∷ []; memory = with_block memory (Theirs k) (new_block ns o.contents) }
+abbrev pub and_named : Named → Crossed → Crossed
+and_named n c = record { naming = n ∷ c.naming; memory = c.memory }
 
--- what the outside leaves, from the k-th object on: new contents of the objects that have crossed, and objects of its own. Nothing else of a block changes
-abbrev pub brought : Naming → Memory → ℕ → List Object → Crossed
-brought ns memory k [] = record { naming = ns; memory = memory }
-brought ns memory k (o ∷ os) = let c = brought_one ns memory k (slice_get ns k) o in brought c.naming c.memory (k + 1) os
+-- what the outside leaves, from the object with number k on: new contents of the objects that have crossed, and objects of its own. Nothing else of
+-- a block changes
+abbrev pub brought : Memory → Naming → (k : ℕ) → List Object → Crossed
+brought memory ns k [] = record { naming = ns; memory = memory }
+brought memory [] k (o ∷ os) = and_named (theirs k o) (brought (with_block memory (Theirs k) (new_block o.size o.contents)) [] (k + 1) os)
+brought memory (n ∷ ns) k (o ∷ os) = and_named n (brought (with_block memory n.home (left_in n (memory n.home) o.contents)) ns (k + 1) os)

@@ -1,8 +1,8 @@
 -- What the outside may bring, after the labels of a run so far. It rests on labels alone, and on no language.
-use Rattle.std.specs.Prelude.{◌≡◌, ℕ, ◌+◌, nat_eq, nat_lt, true, List, [], ◌∷◌, length, Option, Some, None, if◌then◌else◌}
+use Rattle.std.specs.Prelude.{◌≡◌, ℕ, ◌+◌, ◌≤◌, nat_eq, nat_lt, true, List, [], ◌∷◌, length, Option, Some, None, if◌then◌else◌}
 use Rattle.cas_base.specs.declared.kind.Kind.{Kind}
 use Rattle.cas_runs.specs.Label.{NameBytes, Shown, Word, Place, Outside, Object, Crossing, RunLabel, Lock, Unlock, Out, Done, Enter, Back, Call, Leave, locks_of}
-use Rattle.cas_runs.specs.Edge.{Signature, Edge, IsOfKind, IsShare, AreOfTypes, returned, signature_of}
+use Rattle.cas_runs.specs.Edge.{Signature, Edge, IsOfKind, IsShare, AreOfTypes, returned, signature_of, most_cells}
 
 -- a call or an entry that hasn't returned yet
 pub data Pending : Type 0 where
@@ -38,18 +38,18 @@ crossed (Out w ∷ ls) = crossed ls
 crossed (Done ∷ ls) = crossed ls
 
 -- contents that the outside may leave: words of the kind
-abbrev pub AreWordsOf : Kind → List Shown → Type 0
+abbrev pub AreWordsOf : Kind → List (Option ℕ) → Type 0
 AreWordsOf kind [] = Unit {0}
-AreWordsOf kind (Word w ∷ vs) = IsOfKind w kind × AreWordsOf kind vs
-AreWordsOf kind (Place object place ∷ vs) = ⊥
+AreWordsOf kind (Some w ∷ ws) = IsOfKind w kind × AreWordsOf kind ws
+AreWordsOf kind (None ∷ ws) = ⊥
 
 -- new contents of an object: as many words as it has cells, each of its kind
-pub record Fills (object : Object) (contents : List Shown) : Type 0 where
+pub record Fills (object : Object) (contents : List (Option ℕ)) : Type 0 where
   pub size : length contents ≡ object.size
   pub kinds : AreWordsOf object.kind contents
 
 -- what the outside may make of an object's contents: an object of its own may die, and a dead one stays dead
-abbrev pub ChangesTo : Object → Option (List Shown) → Option (List Shown) → Type 0
+abbrev pub ChangesTo : Object → Option (List (Option ℕ)) → Option (List (Option ℕ)) → Type 0
 ChangesTo o (Some old) (Some new) = Fills o new
 ChangesTo o (Some old) None = o.owner ≡ Outside
 ChangesTo o None None = Unit {0}
@@ -65,7 +65,9 @@ pub record Changes (old new : Object) : Type 0 where
 -- a live object of the outside's, which comes for the first time
 pub record IsNew (object : Object) : Type 0 where
   pub owner : object.owner ≡ Outside
-  pub contents : List Shown
+  pub least : 1 ≤ object.size
+  pub most : object.size ≤ most_cells
+  pub contents : List (Option ℕ)
   pub live : object.contents ≡ Some contents
   pub fills : Fills object contents
 

@@ -53,7 +53,7 @@ pub record Kept {T S : Type 0} (edge : Edge) (t : Machine T) (s : Machine S) (la
   pub opened : Subsequence (t.open_functions at) (s.open_functions s_at)
 
 -- the source comes to a Call or Leave, and each label that it can have there is one that the target can have
-pub record NamedAs {T S : Type 0} (edge : Edge) (s : Machine S) (labels : List RunLabel) (next : RunLabel → Option T) : Type 0 where
+pub record CrossesAs {T S : Type 0} (edge : Edge) (s : Machine S) (labels : List RunLabel) (next : RunLabel → Option T) : Type 0 where
   pub blocks : List Block
   pub block : Block
   pub at : S
@@ -63,7 +63,7 @@ pub record NamedAs {T S : Type 0} (edge : Edge) (s : Machine S) (labels : List R
   pub some_label : RunLabel
   pub some_next : S
   pub can_cross : CanCross some_label
-  pub names : s_next some_label ≡ Some some_next
+  pub has_label : s_next some_label ≡ Some some_next
   pub each : (l : RunLabel) (y : S) → CanCross l → s_next l ≡ Some y → (x : T) × (next l ≡ Some x)
 
 -- the source has a run with these labels that has no next step, for this reason
@@ -98,7 +98,7 @@ pub record Refines {T S : Type 0} (edge : Edge) (t : Machine T) (s : Machine S) 
   -- each further label of the target, but a Call or a Leave, is one of the source
   pub follows : (ls : List RunLabel) (bs : List Block) (b : Block) (x : T) → Run edge t ls bs b x → HasRun edge s ls → (IsCrossing (t.act x) → ⊥) → (l : RunLabel) (y : T) → Leads edge ls (t.act x) l y → BadBefore edge s ls ⊎ HasRun edge s (l ∷ ls)
   -- where the target is at a Call or a Leave, the source comes to one, and names what crosses in a way that the target can
-  pub names : (ls : List RunLabel) (bs : List Block) (b : Block) (x : T) → Run edge t ls bs b x → HasRun edge s ls → (next : RunLabel → Option T) → t.act x ≡ Crosses next → BadBefore edge s ls ⊎ NamedAs edge s ls next
+  pub crosses : (ls : List RunLabel) (bs : List Block) (b : Block) (x : T) → Run edge t ls bs b x → HasRun edge s ls → (next : RunLabel → Option T) → t.act x ≡ Crosses next → BadBefore edge s ls ⊎ CrossesAs edge s ls next
   -- where the target has no next step, the source has none, unless the target's stack is full
   pub halts : (ls : List RunLabel) (bs : List Block) (b : Block) (x : T) → Run edge t ls bs b x → HasRun edge s ls → (why : Halt) → t.act x ≡ Stops why → BadBefore edge s ls ⊎ HaltsToo edge s ls why
 

@@ -2,8 +2,8 @@
 use Rattle.std.specs.Prelude.{◌≡◌, ℕ, ◌≤◌, nat_eq, nat_lt, List, [], ◌∷◌, length, Option, Some, None, slice_get, if◌then◌else◌}
 use Rattle.cas_base.specs.declared.kind.Kind.{Kind}
 use Rattle.cas_base.specs.declared.kind.Kind.TheVariants.{U32}
-use Rattle.cas_runs.specs.Label.{NameBytes, Shown, Inside, Object, Crossing, RunLabel, Lock, Unlock, Out, Done, Enter, Back, Call, Leave, locks_of}
-use Rattle.cas_runs.specs.Edge.{LockWord, SharedWord, Edge, IsOfKind, AreGuarded, IsShare}
+use Rattle.cas_runs.specs.Label.{NameBytes, Inside, Object, Crossing, RunLabel, Lock, Unlock, Out, Done, Enter, Back, Call, Leave, locks_of}
+use Rattle.cas_runs.specs.Edge.{LockWord, SharedWord, Edge, IsOfKind, AreOfKinds, guarded, AreUnder, IsOrdered, IsShare}
 use Rattle.cas_runs.specs.Outside.{Pending, Entered, IsAmong, pending, crossed}
 use Rattle.cas_runs.specs.Machine.{Says, Crosses, Locks, Stops, Halt, Ended, Taken, Full, Machine, Saying, label_of, CanCross, Block, Run}
 
@@ -37,7 +37,7 @@ pub record IsShared (edge : Edge) (locks : List ℕ) (word : ℕ) : Type 0 where
   pub held : IsAmong guard locks
 
 -- what the unit may make of an object's contents: one of its own may die, those of the outside stay, and a dead one stays dead
-abbrev pub LeavesContents : Object → Option (List Shown) → Option (List Shown) → Type 0
+abbrev pub LeavesContents : Object → Option (List (Option ℕ)) → Option (List (Option ℕ)) → Type 0
 LeavesContents o (Some old) (Some new) = length new ≡ o.size
 LeavesContents o (Some old) None = o.owner ≡ Inside
 LeavesContents o None None = Unit {0}
@@ -53,7 +53,7 @@ pub record Leaves (old new : Object) : Type 0 where
 -- a live object of the unit's own
 pub record IsOwn (o : Object) : Type 0 where
   pub owner : o.owner ≡ Inside
-  pub contents : List Shown
+  pub contents : List (Option ℕ)
   pub live : o.contents ≡ Some contents
   pub size : length contents ≡ o.size
 
@@ -69,7 +69,7 @@ LeavesAll (o ∷ os) (n ∷ ns) = Leaves o n × LeavesAll os ns
 
 -- what the unit shows with a call or a return
 pub record Carries (edge : Edge) (before : List RunLabel) (crossing : Crossing) : Type 0 where
-  pub share : IsShare edge crossing.share
+  pub share : IsOrdered edge crossing.share
   pub same_locks : locks_of crossing.share ≡ locks_after before
   pub objects : LeavesAll (crossed before) crossing.objects
 
@@ -79,10 +79,10 @@ pub record IsReturn (before : List RunLabel) : Type 0 where
   pub older : List Pending
   pub newest : pending before ≡ Entered function ∷ older
 
--- a label that the unit may say after these. An Unlock is of a lock in the share, and carries the values of its words
+-- a label that the unit may say after these. An Unlock is of a lock in the share, and carries as many words as that guards
 abbrev pub MaySay : Edge → List RunLabel → RunLabel → Type 0
-MaySay edge before (Unlock l words) = IsAmong l (locks_after before) × AreGuarded edge l words
-MaySay edge before (Out w) = IsOfKind w U32
+MaySay edge before (Unlock l words) = IsAmong l (locks_after before) × AreUnder edge l words
+MaySay edge before (Out w) = Unit {0}
 MaySay edge before Done = Unit {0}
 MaySay edge before (Lock l words) = ⊥
 MaySay edge before (Enter f crossing) = ⊥
@@ -126,3 +126,20 @@ pub record KeepsRules {S : Type 0} (edge : Edge) (m : Machine S) : Type 0 where
   pub locks : (ls : List RunLabel) (bs : List Block) (b : Block) (x : S) → Run edge m ls bs b x → (lock : ℕ) (next : List ℕ → S) → m.act x ≡ Locks lock next → (slice_get edge.cells lock ≡ Some LockWord) × (IsAmong lock (locks_after ls) → ⊥)
   pub crosses : (ls : List RunLabel) (bs : List Block) (b : Block) (x : S) → Run edge m ls bs b x → (next : RunLabel → Option S) → m.act x ≡ Crosses next → (l : RunLabel) (y : S) → CanCross l → next l ≡ Some y → MayCross edge ls l
   pub halts : (ls : List RunLabel) (bs : List Block) (b : Block) (x : S) → Run edge m ls bs b x → (why : Halt) → m.act x ≡ Stops why → MayHalt ls why
+
+-- the words that the label carries are values of their kinds
+abbrev pub AreInKind : Edge → RunLabel → Type 0
+AreInKind edge (Unlock l words) = AreOfKinds words (guarded l edge.cells)
+AreInKind edge (Out w) = IsOfKind w U32
+AreInKind edge (Call f crossing) = IsShare edge crossing.share
+AreInKind edge (Leave crossing) = IsShare edge crossing.share
+AreInKind edge (Lock l words) = Unit {0}
+AreInKind edge Done = Unit {0}
+AreInKind edge (Enter f crossing) = Unit {0}
+AreInKind edge (Back crossing) = Unit {0}
+
+-- what the source keeps besides: the words that it says are values of their kinds, since it converts what it writes. A language between may keep
+-- any words in a cell, and says what its source says
+pub record KeepsKinds {S : Type 0} (edge : Edge) (m : Machine S) : Type 0 where
+  pub says : (ls : List RunLabel) (bs : List Block) (b : Block) (x : S) → Run edge m ls bs b x → (saying : Saying) (y : S) → m.act x ≡ Says saying y → AreInKind edge (label_of saying)
+  pub crosses : (ls : List RunLabel) (bs : List Block) (b : Block) (x : S) → Run edge m ls bs b x → (next : RunLabel → Option S) → m.act x ≡ Crosses next → (l : RunLabel) (y : S) → CanCross l → next l ≡ Some y → AreInKind edge l

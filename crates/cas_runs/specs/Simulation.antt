@@ -37,20 +37,20 @@ module _ {T S : Type 0} (edge : Edge) (t : Machine T) (s : Machine S) (Related :
     step_before : {y : S} (y' : S) → s.act y ≡ Quiet y' → FollowsBy ls l x y' → FollowsBy ls l x y
 
   -- what the target does by each label that the source can have at its Call or Leave
-  abbrev pub NamesEach : List RunLabel → (RunLabel → Option T) → (RunLabel → Option S) → Type 0
-  NamesEach ls next s_next = (l : RunLabel) (y : S) → CanCross l → s_next l ≡ Some y → (x : T) × (next l ≡ Some x) × Follows (l ∷ ls) x (begun t x) y (begun s y)
+  abbrev pub CrossesEach : List RunLabel → (RunLabel → Option T) → (RunLabel → Option S) → Type 0
+  CrossesEach ls next s_next = (l : RunLabel) (y : S) → CanCross l → s_next l ≡ Some y → (x : T) × (next l ≡ Some x) × Follows (l ∷ ls) x (begun t x) y (begun s y)
 
   -- the source comes to a Call or Leave, with labels that the target can have, unless the Bad step comes before it
-  pub data FollowsNamed (ls : List RunLabel) (next : RunLabel → Option T) : S → Type 0 where
-    named : {y : S} (s_next : RunLabel → Option S) → s.act y ≡ Crosses s_next → (l : RunLabel) (z : S) → CanCross l → s_next l ≡ Some z → NamesEach ls next s_next → FollowsNamed ls next y
-    fails_naming : {y : S} → IsBad (s.act y) → FollowsNamed ls next y
-    step_naming : {y : S} (y' : S) → s.act y ≡ Quiet y' → FollowsNamed ls next y' → FollowsNamed ls next y
+  pub data FollowsCrossing (ls : List RunLabel) (next : RunLabel → Option T) : S → Type 0 where
+    crosses : {y : S} (s_next : RunLabel → Option S) → s.act y ≡ Crosses s_next → (l : RunLabel) (z : S) → CanCross l → s_next l ≡ Some z → CrossesEach ls next s_next → FollowsCrossing ls next y
+    fails_crossing : {y : S} → IsBad (s.act y) → FollowsCrossing ls next y
+    step_crossing : {y : S} (y' : S) → s.act y ≡ Quiet y' → FollowsCrossing ls next y' → FollowsCrossing ls next y
 
   -- what the source does where the target stands at this act
   abbrev pub Answers : List RunLabel → Act T → Block → S → Block → Type 0
   Answers ls (Quiet x) b y c = Follows ls x (onward t b x) y c
   Answers ls (Says saying x) b y c = FollowsBy ls (label_of saying) x y
-  Answers ls (Crosses next) b y c = FollowsNamed ls next y
+  Answers ls (Crosses next) b y c = FollowsCrossing ls next y
   Answers ls (Locks lock next) b y c = (words : List ℕ) → AreGuarded edge lock words → FollowsBy ls (Lock lock words) (next words) y
   Answers ls (Hears next) b y c = (l : RunLabel) → MayBring edge ls l → FollowsBy ls l (next l) y
   Answers ls Bad b y c = BadSoon s y
@@ -64,6 +64,6 @@ module _ {T S : Type 0} (edge : Edge) (t : Machine T) (s : Machine S) (Related :
 
   -- what a pass shows of a relation between a state of t and a state of s, each with its block so far, after the same labels
   pub record Simulates : Type 0 where
-    pub starts : Related [] t.start (begun t t.start) s.start (begun s s.start)
+    pub starts : Follows [] t.start (begun t t.start) s.start (begun s s.start)
     pub fine : (ls : List RunLabel) (x : T) (b : Block) (y : S) (c : Block) → Related ls x b y c → BadSoon s y ⊎ Fine x b y c
     pub answers : (ls : List RunLabel) (x : T) (b : Block) (y : S) (c : Block) → Related ls x b y c → Answers ls (t.act x) b y c

@@ -1,5 +1,5 @@
 -- Refinement of units, of functions and of threads, in any two languages of the compiler.
-use Rattle.std.specs.Prelude.{◌≡◌, ℕ, ◌+◌, ◌<◌, ◌≤◌, Bool, true, false, ◌&&◌, if◌then◌else◌, List, [], ◌∷◌, Option, Some, None, slice_get, ◌⊎◌}
+use Rattle.std.specs.Prelude.{◌≡◌, ℕ, ◌+◌, ◌<◌, ◌≤◌, Bool, true, false, ◌&&◌, if◌then◌else◌, List, [], ◌∷◌, length, Option, Some, None, slice_get, ◌⊎◌}
 use Rattle.cas_base.specs.declared.kind.Ty.{Ty}
 use Rattle.cas_base.specs.declared.kind.Ty.TheVariants.{Void, Int, Ptr, Array}
 use Rattle.cas_base.specs.declared.decl.Decl.{Decl}
@@ -7,31 +7,29 @@ use Rattle.cas_base.specs.declared.decl.Form.{Form}
 use Rattle.cas_base.specs.declared.decl.Form.TheVariants.{Lock, Shared, Table, Function}
 use Rattle.cas_base.specs.declared.decl.Global.{Global}
 use Rattle.cas_base.specs.declared.decl.Unit.{Unit as UnitOf}
-use Rattle.cas_runs.specs.Label.{NameBytes}
-use Rattle.cas_runs.specs.Edge.{Cell, LockWord, SharedWord, TableWord, Signature, Edge, signature_of, named, IsOfKind}
+use Rattle.cas_base.specs.Ty.{words_of_ty}
+use Rattle.cas_runs.specs.Label.{NameBytes, same_name}
+use Rattle.cas_runs.specs.Edge.{Cell, LockWord, SharedWord, TableWord, Signature, Edge, signature_of, IsOfKind, most_words}
+use Rattle.cas_runs.specs.Access.{Stretch, Words}
 use Rattle.cas_runs.specs.Naming.{Layout, Part, ArePlaced}
 use Rattle.cas_runs.specs.Machine.{Machine}
 use Rattle.cas_runs.specs.Refines.{Refines}
 
--- the number of the first word of each global and lock
-abbrev pub FirstWord : Type 0
-FirstWord = NameBytes → Option ℕ
-
--- where a machine runs: the edge, the number of the first word of each global and lock, which stretches of blocks are objects,
--- and the values that nothing fixes, as flags after a call of the lock
+-- where a machine runs: the edge, where the words of each global and lock stand, which stretches of blocks are objects, and the values that nothing
+-- fixes, as flags after a call of the lock
 pub record Setting : Type 0 where
   pub edge : Edge
-  pub first_word : FirstWord
+  pub words : Words
   pub layout : Layout
   pub unknown : ℕ → ℕ
 
 -- the setting with another layout
 abbrev pub laid_out : Setting → Layout → Setting
-laid_out setting layout = record { edge = setting.edge; first_word = setting.first_word; layout = layout; unknown = setting.unknown }
+laid_out setting layout = record { edge = setting.edge; words = setting.words; layout = layout; unknown = setting.unknown }
 
--- a language: of its functions F the declarations and the sizes of an activation's blocks, and its runs with states S
+-- a language: of its functions F the names and the sizes of an activation's blocks, and its runs with states S
 pub record Language (F S : Type 0) : Type 0 where
-  pub decl : F → Decl
+  pub name : F → NameBytes
   pub blocks : F → List ℕ
   -- a unit of these functions, which the outside enters
   pub unit : Setting → List F → Machine S
@@ -48,7 +46,7 @@ AreLaidOut (size ∷ sizes) k parts = ArePlaced 0 size (parts k) × AreLaidOut s
 -- each function's blocks are laid out within their sizes
 abbrev pub IsLayout : {F S : Type 0} → Language F S → List F → Layout → Type 0
 IsLayout l [] layout = Unit {0}
-IsLayout l (f ∷ fs) layout = AreLaidOut (l.blocks f) 0 (layout (l.decl f).name) × IsLayout l fs layout
+IsLayout l (f ∷ fs) layout = AreLaidOut (l.blocks f) 0 (layout (l.name f)) × IsLayout l fs layout
 
 abbrev pub lock_at : Option Cell → ℕ → Option ℕ
 lock_at (Some LockWord) n = Some n
@@ -56,29 +54,22 @@ lock_at (Some (SharedWord kind guard initial)) n = None
 lock_at (Some (TableWord value)) n = None
 lock_at None n = None
 
-abbrev pub lock_number : List Cell → Option ℕ → Option ℕ
+abbrev pub lock_number : List Cell → Option Stretch → Option ℕ
 lock_number cells None = None
-lock_number cells (Some n) = lock_at (slice_get cells n) n
+lock_number cells (Some s) = lock_at (slice_get cells s.first) s.first
 
 -- the number of the lock of this name, if it is one
-abbrev pub guard_of : Edge → FirstWord → NameBytes → Option ℕ
-guard_of edge first name = lock_number edge.cells (first name)
+abbrev pub guard_of : Edge → Words → NameBytes → Option ℕ
+guard_of edge words name = lock_number edge.cells (words name)
 
 abbrev pub and_number : Option ℕ → List ℕ → List ℕ
 and_number None ns = ns
 and_number (Some n) ns = n ∷ ns
 
 -- the numbers of the locks of these names
-abbrev pub lock_numbers : Edge → FirstWord → List NameBytes → List ℕ
-lock_numbers edge first [] = []
-lock_numbers edge first (n ∷ ns) = and_number (guard_of edge first n) (lock_numbers edge first ns)
-
--- how many words a global of this type has
-abbrev pub word_count : Ty → ℕ
-word_count Void = 0
-word_count (Int kind) = 1
-word_count (Ptr kind) = 1
-word_count (Array kind size) = size
+abbrev pub lock_numbers : Edge → Words → List NameBytes → List ℕ
+lock_numbers edge words [] = []
+lock_numbers edge words (n ∷ ns) = and_number (guard_of edge words n) (lock_numbers edge words ns)
 
 abbrev pub IsSharedCell : Ty → Option ℕ → Cell → Type 0
 IsSharedCell Void guard c = ⊥
@@ -92,24 +83,24 @@ IsTableCell (Ptr kind) c = ⊥
 IsTableCell (Int kind) c = (value : ℕ) × IsOfKind value kind × (c ≡ TableWord value)
 IsTableCell (Array kind size) c = (value : ℕ) × IsOfKind value kind × (c ≡ TableWord value)
 
--- each of so many words, from the first on, is such a cell
-abbrev pub AreCells : Edge → Option ℕ → ℕ → (Cell → Type 0) → Type 0
-AreCells edge first count IsSuch = (n : ℕ) × (first ≡ Some n) × ((k : ℕ) → k < count → (c : Cell) × (slice_get edge.cells (n + k) ≡ Some c) × IsSuch c)
+-- the stretch has so many words, and each is such a cell
+abbrev pub AreCells : Edge → Option Stretch → ℕ → (Cell → Type 0) → Type 0
+AreCells edge stretch count IsSuch = (s : Stretch) × (stretch ≡ Some s) × (s.size ≡ count) × ((k : ℕ) → k < count → (c : Cell) × (slice_get edge.cells (s.first + k) ≡ Some c) × IsSuch c)
 
 -- the function is known by its types and by the locks that it holds
-abbrev pub IsKnown : Edge → FirstWord → NameBytes → Ty → List Ty → List NameBytes → Type 0
-IsKnown edge first name ret params holds = (f : Signature) × (signature_of edge.functions name ≡ Some f) × (f.ret ≡ ret) × (f.params ≡ params) × (f.holds ≡ lock_numbers edge first holds)
+abbrev pub IsKnown : Edge → Words → NameBytes → Ty → List Ty → List NameBytes → Type 0
+IsKnown edge words name ret params holds = (f : Signature) × (signature_of edge.functions name ≡ Some f) × (f.ret ≡ ret) × (f.params ≡ params) × (f.holds ≡ lock_numbers edge words holds)
 
 -- the edge has what is declared
-abbrev pub IsDeclared : Edge → FirstWord → NameBytes → Form → Type 0
-IsDeclared edge first name Lock = AreCells edge (first name) 1 (λ c. c ≡ LockWord)
-IsDeclared edge first name (Shared ty lock) = AreCells edge (first name) (word_count ty) (IsSharedCell ty (guard_of edge first lock))
-IsDeclared edge first name (Table ty) = AreCells edge (first name) (word_count ty) (IsTableCell ty)
-IsDeclared edge first name (Function ret params holds) = IsKnown edge first name ret params holds
+abbrev pub IsDeclared : Edge → Words → NameBytes → Form → Type 0
+IsDeclared edge words name Lock = AreCells edge (words name) 1 (λ c. c ≡ LockWord)
+IsDeclared edge words name (Shared ty lock) = AreCells edge (words name) (words_of_ty ty) (IsSharedCell ty (guard_of edge words lock))
+IsDeclared edge words name (Table ty) = AreCells edge (words name) (words_of_ty ty) (IsTableCell ty)
+IsDeclared edge words name (Function ret params holds) = IsKnown edge words name ret params holds
 
-abbrev pub AreDeclared : Edge → FirstWord → List Decl → Type 0
-AreDeclared edge first [] = Unit {0}
-AreDeclared edge first (d ∷ ds) = IsDeclared edge first d.name d.form × AreDeclared edge first ds
+abbrev pub AreDeclared : Edge → Words → List Decl → Type 0
+AreDeclared edge words [] = Unit {0}
+AreDeclared edge words (d ∷ ds) = IsDeclared edge words d.name d.form × AreDeclared edge words ds
 
 -- the value that a word has at first
 abbrev pub first_value : Cell → ℕ
@@ -122,28 +113,21 @@ abbrev pub HaveValues : Edge → ℕ → List ℕ → Type 0
 HaveValues edge n [] = Unit {0}
 HaveValues edge n (v ∷ vs) = ((c : Cell) × (slice_get edge.cells n ≡ Some c) × (first_value c ≡ v)) × HaveValues edge (n + 1) vs
 
-abbrev pub HaveData : Edge → FirstWord → List Global → Type 0
-HaveData edge first [] = Unit {0}
-HaveData edge first (g ∷ gs) = ((n : ℕ) × (first g.decl.name ≡ Some n) × HaveValues edge n g.values) × HaveData edge first gs
-
--- how many words the declared thing has
-abbrev pub words_of : Form → ℕ
-words_of Lock = 1
-words_of (Shared ty lock) = word_count ty
-words_of (Table ty) = word_count ty
-words_of (Function ret params holds) = 0
+abbrev pub HaveData : Edge → Words → List Global → Type 0
+HaveData edge words [] = Unit {0}
+HaveData edge words (g ∷ gs) = ((s : Stretch) × (words g.decl.name ≡ Some s) × HaveValues edge s.first g.values) × HaveData edge words gs
 
 -- the words of two names are apart
-abbrev pub AreApart : FirstWord → Decl → Decl → Type 0
-AreApart first d e = (m n : ℕ) → first d.name ≡ Some m → first e.name ≡ Some n → (d.name ≡ e.name) ⊎ (m + words_of d.form ≤ n) ⊎ (n + words_of e.form ≤ m)
+abbrev pub AreApart : Words → Decl → Decl → Type 0
+AreApart words d e = (s t : Stretch) → words d.name ≡ Some s → words e.name ≡ Some t → (d.name ≡ e.name) ⊎ (s.first + s.size ≤ t.first) ⊎ (t.first + t.size ≤ s.first)
 
-abbrev pub ApartFrom : FirstWord → Decl → List Decl → Type 0
-ApartFrom first d [] = Unit {0}
-ApartFrom first d (e ∷ es) = AreApart first d e × ApartFrom first d es
+abbrev pub ApartFrom : Words → Decl → List Decl → Type 0
+ApartFrom words d [] = Unit {0}
+ApartFrom words d (e ∷ es) = AreApart words d e × ApartFrom words d es
 
-abbrev pub AllApart : FirstWord → List Decl → Type 0
-AllApart first [] = Unit {0}
-AllApart first (d ∷ ds) = ApartFrom first d ds × AllApart first ds
+abbrev pub AllApart : Words → List Decl → Type 0
+AllApart words [] = Unit {0}
+AllApart words (d ∷ ds) = ApartFrom words d ds × AllApart words ds
 
 abbrev pub defined_as : Form → Bool → Bool
 defined_as Lock defined = false
@@ -154,7 +138,7 @@ defined_as (Function ret params holds) defined = defined
 -- the unit defines a function of this name
 abbrev pub defines : List Decl → NameBytes → Bool
 defines [] name = false
-defines (d ∷ ds) name = if named d.name name && defined_as d.form d.defined then true else defines ds name
+defines (d ∷ ds) name = if same_name d.name name && defined_as d.form d.defined then true else defines ds name
 
 -- the outside may enter the functions for which the test is true, and no others
 abbrev pub OnlyInside : (NameBytes → Bool) → List Signature → Type 0
@@ -162,16 +146,18 @@ OnlyInside test [] = Unit {0}
 OnlyInside test (f ∷ fs) = (f.inside ≡ test f.name) × OnlyInside test fs
 
 -- an edge at which a unit with these declarations and data may run
-pub record FitsUnit (edge : Edge) (first : FirstWord) (decls : List Decl) (globals : List Global) : Type 0 where
-  pub declared : AreDeclared edge first decls
-  pub data_there : HaveData edge first globals
-  pub apart : AllApart first decls
+pub record FitsUnit (edge : Edge) (words : Words) (decls : List Decl) (globals : List Global) : Type 0 where
+  pub few : length edge.cells ≤ most_words
+  pub declared : AreDeclared edge words decls
+  pub data_there : HaveData edge words globals
+  pub apart : AllApart words decls
   pub entered : OnlyInside (defines decls) edge.functions
 
 -- an edge at which a function of this declaration may run alone
-pub record FitsFunction (edge : Edge) (first : FirstWord) (decl : Decl) : Type 0 where
-  pub declared : IsDeclared edge first decl.name decl.form
-  pub entered : OnlyInside (named decl.name) edge.functions
+pub record FitsFunction (edge : Edge) (words : Words) (decl : Decl) : Type 0 where
+  pub few : length edge.cells ≤ most_words
+  pub declared : IsDeclared edge words decl.name decl.form
+  pub entered : OnlyInside (same_name decl.name) edge.functions
 
 -- the unit t refines the unit s: their declarations and data are equal, and its runs refine those of s in each setting of s, where its own objects are
 -- at the places that the naming gives
@@ -180,17 +166,18 @@ pub record UnitRefines {F G S T : Type 0} (lt : Language F T) (ls : Language G S
   pub globals : t.globals ≡ s.globals
   pub naming : Layout → Layout
   pub laid_out_too : (layout : Layout) → IsLayout ls s.funs layout → IsLayout lt t.funs (naming layout)
-  pub refines : (setting : Setting) → FitsUnit setting.edge setting.first_word s.decls s.globals → IsLayout ls s.funs setting.layout → Refines setting.edge (lt.unit (laid_out setting (naming setting.layout)) t.funs) (ls.unit setting s.funs)
+  pub refines : (setting : Setting) → FitsUnit setting.edge setting.words s.decls s.globals → IsLayout ls s.funs setting.layout → Refines setting.edge (lt.unit (laid_out setting (naming setting.layout)) t.funs) (ls.unit setting s.funs)
 
--- the function t refines the function s
-pub record FunctionRefines {F G S T : Type 0} (lt : Language F T) (ls : Language G S) (t : F) (s : G) : Type 0 where
-  pub decl : lt.decl t ≡ ls.decl s
+-- the function t refines the function s, where this is the declaration of both
+pub record FunctionRefines {F G S T : Type 0} (lt : Language F T) (ls : Language G S) (decl : Decl) (t : F) (s : G) : Type 0 where
+  pub target_name : lt.name t ≡ decl.name
+  pub source_name : ls.name s ≡ decl.name
   pub naming : Layout → Layout
   pub laid_out_too : (layout : Layout) → IsLayout ls (s ∷ []) layout → IsLayout lt (t ∷ []) (naming layout)
-  pub refines : (setting : Setting) → FitsFunction setting.edge setting.first_word (ls.decl s) → IsLayout ls (s ∷ []) setting.layout → Refines setting.edge (lt.alone (laid_out setting (naming setting.layout)) t) (ls.alone setting s)
+  pub refines : (setting : Setting) → FitsFunction setting.edge setting.words decl → IsLayout ls (s ∷ []) setting.layout → Refines setting.edge (lt.alone (laid_out setting (naming setting.layout)) t) (ls.alone setting s)
 
 -- at these words, the thread of this entry and number of a whole program refines the one of another program
-pub record ThreadRefines {F G S T : Type 0} (lt : Language F T) (ls : Language G S) (edge : Edge) (first : FirstWord) (ts : List F) (ss : List G) (entry : NameBytes) (thread : ℕ) : Type 0 where
+pub record ThreadRefines {F G S T : Type 0} (lt : Language F T) (ls : Language G S) (edge : Edge) (words : Words) (ts : List F) (ss : List G) (entry : NameBytes) (thread : ℕ) : Type 0 where
   pub naming : Layout → Layout
   pub laid_out_too : (layout : Layout) → IsLayout ls ss layout → IsLayout lt ts (naming layout)
-  pub refines : (layout : Layout) (unknown : ℕ → ℕ) → IsLayout ls ss layout → Refines edge (lt.thread (record { edge = edge; first_word = first; layout = naming layout; unknown = unknown }) ts entry thread) (ls.thread (record { edge = edge; first_word = first; layout = layout; unknown = unknown }) ss entry thread)
+  pub refines : (layout : Layout) (unknown : ℕ → ℕ) → IsLayout ls ss layout → Refines edge (lt.thread (record { edge = edge; words = words; layout = naming layout; unknown = unknown }) ts entry thread) (ls.thread (record { edge = edge; words = words; layout = layout; unknown = unknown }) ss entry thread)

@@ -1,12 +1,14 @@
 ghost use Rattle.std.specs.Prelude.{◌≡◌, ℕ, ◌⊎◌, List};
 ghost use Rattle.cas_base.specs.declared.decl.Unit.{Unit as UnitOf};
+ghost use Rattle.cas_base.specs.declared.decl.Decl.{Decl};
+ghost use Rattle.cas_runs.specs.Access.{Words};
 ghost use Rattle.cas_runs.specs.Label.{NameBytes, RunLabel};
 ghost use Rattle.cas_runs.specs.Edge.{Edge};
 ghost use Rattle.cas_runs.specs.Machine.{Machine, Block, Run, quiet_steps, quiet_now};
 ghost use Rattle.cas_runs.specs.Determined.{Same};
 ghost use Rattle.cas_runs.specs.Refines.{HasRun, BadBefore, PaysMore, Refines, NamesAlone, EachKept};
 ghost use Rattle.cas_runs.specs.Rules.{Proceeds};
-ghost use Rattle.cas_runs.specs.Unit.{FirstWord, Language, UnitRefines, FunctionRefines, ThreadRefines};
+ghost use Rattle.cas_runs.specs.Unit.{Language, UnitRefines, FunctionRefines, ThreadRefines};
 
 /// Refinements of machines compose.
 #[tactic(auto, using(crate::proofs::Composing::refines_both))]
@@ -23,13 +25,13 @@ pub fn units_compose<F, G, H, T, S, R>()
 /// Refinements of functions compose.
 #[tactic(auto, using(crate::proofs::Units::functions_both))]
 pub fn functions_compose<F, G, H, T, S, R>()
-    ensures { (lt : Language F T) (ls : Language G S) (lr : Language H R) (t : F) (s : G) (r : H) → FunctionRefines lt ls t s → FunctionRefines ls lr s r → FunctionRefines lt lr t r }
+    ensures { (lt : Language F T) (ls : Language G S) (lr : Language H R) (decl : Decl) (t : F) (s : G) (r : H) → FunctionRefines lt ls decl t s → FunctionRefines ls lr decl s r → FunctionRefines lt lr decl t r }
 {}
 
 /// Refinements of threads compose.
 #[tactic(auto, using(crate::proofs::Units::threads_both))]
 pub fn threads_compose<F, G, H, T, S, R>()
-    ensures { (lt : Language F T) (ls : Language G S) (lr : Language H R) (edge : Edge) (first : FirstWord) (ts : List F) (ss : List G) (rs : List H) (entry : NameBytes) (thread : ℕ) → ThreadRefines lt ls edge first ts ss entry thread → ThreadRefines ls lr edge first ss rs entry thread → ThreadRefines lt lr edge first ts rs entry thread }
+    ensures { (lt : Language F T) (ls : Language G S) (lr : Language H R) (edge : Edge) (words : Words) (ts : List F) (ss : List G) (rs : List H) (entry : NameBytes) (thread : ℕ) → ThreadRefines lt ls edge words ts ss entry thread → ThreadRefines ls lr edge words ss rs entry thread → ThreadRefines lt lr edge words ts rs entry thread }
 {}
 
 /// Where each Call and Leave of the target has one label, each of its runs is kept by the source, or the

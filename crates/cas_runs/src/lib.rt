@@ -5,6 +5,7 @@
 #![tactic(auto)]
 
 mod compose;
+mod layer;
 mod pass;
 mod refused;
 mod rules;
@@ -13,8 +14,9 @@ pub use compose::{
     functions_compose, refinements_compose, refines_itself, runs_kept, threads_compose,
     units_compose,
 };
+pub use layer::{FunctionPass, functions_refine, threads_refine, units_refine};
 pub use pass::{Pass, run_pass, steps_refine};
 pub use refused::{
     dropped_store_refused, endless_loop_refused, kept_word_refused, self_lock_refused,
 };
-pub use rules::sections_keep_rules;
+pub use rules::{sections_keep_kinds, sections_keep_rules};

@@ -10,8 +10,8 @@ use cas_base::NoMemory;
 use std::alloc::Global;
 
 /// A pass of the compiler, from what it takes to what it makes. An implementation names what is made of
-/// what, and a relation between the states of the two machines, with the block so far of each; its law
-/// `simulates` shows that each step of the target keeps the relation.
+/// what, and a relation between the states of the two machines, with the block so far of each; `simulates`
+/// shows that each step of the target keeps the relation.
 pub trait Pass {
     type Source;
 
@@ -37,17 +37,22 @@ pub trait Pass {
     fn apply(&self, alloc: Global, from: &Self::Source) -> Result<Self::Target, NoMemory>
         ensures { IfOk result (λ to. makes from.now to) };
 
-    ghost simulates: { (setting : Setting) (a : Self.Source) (b : Self.Target) → makes a b → fits setting a → Simulates setting.edge (target (laid_out setting (naming a setting.layout)) b) (source setting a) (related setting a b) };
+    /// The law that each step of the target keeps the relation.
+    fn simulates()
+        ensures { (setting : Setting) (a : Self.Source) (b : Self.Target) → makes a b → fits setting a → Simulates setting.edge (target (laid_out setting (naming a setting.layout)) b) (source setting a) (related setting a b) };
 }
 
 /// What a pass makes refines what it is made of, in each setting that fits that.
 pub fn steps_refine<P: Pass>()
     ensures { (setting : Setting) (a : P.Source) (b : P.Target) → P.makes a b → P.fits setting a → Refines setting.edge (P.target (laid_out setting (P.naming a setting.layout)) b) (P.source setting a) }
-{}
+{
+    P::simulates();
+}
 
 /// The result of the pass, which refines its argument.
 pub fn run_pass<P: Pass>(alloc: Global, pass: &P, from: &P::Source) -> Result<P::Target, NoMemory>
     ensures { IfOk result (λ to. (setting : Setting) → P.fits setting from.now → Refines setting.edge (P.target (laid_out setting (P.naming from.now setting.layout)) to) (P.source setting from.now)) }
 {
+    P::simulates();
     pass.apply(alloc, from)
 }

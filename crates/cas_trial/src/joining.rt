@@ -1,17 +1,24 @@
-ghost use Rattle.std.specs.Prelude.{◌≡◌, IfOk};
-ghost use Rattle.cas_runs.specs.Label.{RunLabel};
-ghost use Rattle.cas_runs.specs.Machine.{Block};
-ghost use Rattle.cas_runs.specs.Refines.{Refines};
-ghost use Rattle.cas_runs.specs.Trial.{Stage, apart, joined};
-ghost use Rattle.cas_runs.specs.Unit.{Setting};
-ghost use Rattle.cas_runs.proofs.Joining.{Rel, pass_simulates};
+ghost use Rattle.std.specs.Prelude.{IfOk, List, ℕ, ◌≡◌, ◌≤◌};
+ghost use Rattle.cas_base.specs.declared.decl.Decl.{Decl};
+ghost use Rattle.cas_base.specs.declared.decl.Unit.{Unit as UnitOf};
+ghost use Rattle.cas_runs.specs.Access.{Words};
+ghost use Rattle.cas_runs.specs.Bounds.{weight_of};
+ghost use Rattle.cas_runs.specs.Calls.{language};
+ghost use Rattle.cas_runs.specs.Edge.{Edge};
+ghost use Rattle.cas_runs.specs.Label.{NameBytes};
+ghost use Rattle.cas_runs.specs.Passing.{AllMade};
+ghost use Rattle.cas_runs.specs.Placing.{AlikeMoved, SameMoved};
+ghost use Rattle.cas_runs.specs.Stepwise.{match_at};
+ghost use Rattle.cas_runs.specs.Unit.{FunctionRefines, ThreadRefines, UnitRefines};
+ghost use Rattle.cas_trial.specs.Places.{IsJoined, SameStage, joins, one_word, places};
+ghost use Rattle.cas_trial.specs.Stages.{Stage, apart, joined, main_name};
 
 use cas_base::NoMemory;
-use cas_runs::{Pass, run_pass};
+use cas_runs::{FunctionPass, functions_refine, threads_refine, units_refine};
 use std::alloc::Global;
 
-/// A program of two variables, each in a block of its own. It shows the place after the first to a
-/// function outside, and prints what stands at the place that comes back.
+/// A program of two variables, each in a block of its own. It stores the first in a word behind a lock,
+/// shows the place after it to a function outside, and puts out what stands at the place that comes back.
 #[derive(Clone, Copy, Debug, PartialEq, Eq)]
 pub struct Apart {
     pub first: u32,
@@ -28,42 +35,70 @@ pub struct Joined {
 #[derive(Clone, Copy, Debug)]
 pub struct Joining;
 
-impl Pass for Joining {
+impl FunctionPass for Joining {
     type Source = Apart;
 
     type Target = Joined;
 
-    ghost source_state = { Stage };
+    ghost source_activation = { Stage };
 
-    ghost target_state = { Stage };
+    ghost target_activation = { Stage };
 
-    ghost source = { λ setting a. apart a.first a.second };
+    ghost source = { apart };
 
-    ghost target = { λ setting b. joined b.cells.0 b.cells.1 };
+    ghost target = { joined };
 
-    ghost naming = { λ a layout. layout };
+    ghost made = { IsJoined };
 
-    ghost fits = { λ setting a. Unit {0} };
+    ghost naming = { λ ss layout. joins layout };
 
-    ghost makes = { λ a b. (b.cells.0 ≡ a.first) × (b.cells.1 ≡ a.second) };
+    ghost same = { λ setting ts ss. SameMoved (places ss) };
 
-    ghost related = { λ setting a b. Rel setting.edge a.first a.second };
+    ghost alike = { λ setting ts ss. AlikeMoved (places ss) one_word };
 
-    ghost simulates = { λ setting a b made fits. pass_simulates setting.edge a.first a.second b.cells.0 b.cells.1 made };
+    ghost later = { λ setting ts ss n h k u v. Unit {0} };
 
-    fn apply(&self, _alloc: Global, from: &Apart) -> Result<Joined, NoMemory> {
+    ghost matches = { λ setting ts ss. match_at (SameStage ss) };
+
+    fn translate(&self, _alloc: Global, from: &Apart) -> Result<Joined, NoMemory> {
         Ok(Joined {
             cells: (from.first, from.second),
         })
     }
+
+    #[tactic(auto, using(crate::proofs::Joins::joins_laid_out))]
+    fn laid_out_too() {}
+
+    fn passes() {}
 }
 
-/// Puts both variables into one block. The result refines the program, though the place that crosses to
-/// the outside and comes back is in the block the place of the second variable.
+/// Puts both variables into one block. The result refines the program as a function, though the place that
+/// crosses to the outside and comes back is in the block the place of the second variable.
 ///
 /// Errors: none but want of memory.
 pub fn join(alloc: Global, program: &Apart) -> Result<Joined, NoMemory>
-    ensures { IfOk result (λ made. (setting : Setting) → Refines setting.edge (joined made.cells.0 made.cells.1) (apart program.now.first program.now.second)) }
+    ensures values { IfOk result (λ made. IsJoined made program.now) }
+    ensures refines { IfOk result (λ made. (decl : Decl) → decl.name ≡ main_name → FunctionRefines (language joined) (language apart) decl made program.now) }
 {
-    run_pass(alloc, &Joining, program)
+    functions_refine::<Joining>();
+    Joining.translate(alloc, program)
 }
+
+/// Units of such programs refine, where their declarations and data are equal.
+pub fn units_join()
+    ensures { (s : UnitOf Apart) (t : UnitOf Joined) → t.decls ≡ s.decls → t.globals ≡ s.globals → AllMade IsJoined t.funs s.funs → UnitRefines (language joined) (language apart) t s }
+{
+    units_refine::<Joining>();
+}
+
+/// So do the threads of whole programs.
+pub fn threads_join()
+    ensures { (edge : Edge) (words : Words) (ss : List Apart) (ts : List Joined) (entry : NameBytes) (thread : ℕ) → AllMade IsJoined ts ss → ThreadRefines (language joined) (language apart) edge words ts ss entry thread }
+{
+    threads_refine::<Joining>();
+}
+
+/// What the pass makes weighs no more than what it is made of.
+pub fn joined_weighs_less()
+    ensures { (made : Joined) (program : Apart) → weight_of joined.tariff made ≤ weight_of apart.tariff program }
+{}

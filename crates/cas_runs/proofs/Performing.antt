@@ -1,0 +1,103 @@
+-- Forms that are alike do the same.
+use Rattle.std.proofs.Common.{◌≡◌, ℕ, List, ◌∷◌, Option, Some, None, Bool, true, false, if◌then◌else◌, length, slice_get, slice_set, nat_lt, inl, inr, refl, sym, ap, subst, ltb-true, lt-ltb}
+use Rattle.cas_runs.specs.Label.{Share}
+use Rattle.cas_runs.specs.Edge.{Cell, LockWord, SharedWord, TableWord}
+use Rattle.cas_runs.specs.Naming.{Home, Value, Pointer, Memory}
+use Rattle.cas_runs.specs.Machine.{Footprint}
+use Rattle.cas_runs.specs.Access.{Words, Accesses, words_in, with_words, place_among, word_in, Doing, has_read, has_written, has_stored, Performed, failed, reads_as, reads_cell, writes_in, writes_cell, number_in, reads_word, writes_word, value_in, loads_as, stores_in, length_of, performed}
+use Rattle.cas_runs.specs.Forms.{FormAlike, reads, writes, loads, stores, looks, last, never, LengthsAlike, MemoryKeeps, PerformAlike}
+
+module _ {L M : Type 0} (same : Value → Value → Type 0) (same_size : ℕ → ℕ → Type 0) (same_last : L → M → Type 0) (alike : Memory → Memory → Type 0) (keeps : MemoryKeeps same same_size alike) (cells : List Cell) (words : Words) where
+  abbrev pub Both : Performed L → Performed M → Type 0
+  Both p q = PerformAlike alike same_last p q
+
+  -- what both have done so far
+  pub record DoingAlike (d e : Doing) : Type 0 where
+    pub share : d.holding.share ≡ e.holding.share
+    pub memory : alike d.holding.memory e.holding.memory
+    pub footprint : d.footprint ≡ e.footprint
+
+  both_read : (d e : Doing) → DoingAlike d e → (word : ℕ) → DoingAlike (has_read d word) (has_read e word)
+  both_read d e h word = record { share = h.share; memory = h.memory; footprint = ap (λ (f : Footprint). record { reads = word ∷ f.reads; writes = f.writes }) h.footprint }
+
+  both_written : (d e : Doing) → DoingAlike d e → (word lock : ℕ) (ws : List ℕ) → DoingAlike (has_written d word lock ws) (has_written e word lock ws)
+  both_written d e h word lock ws = record { share = ap (λ (s : Share). with_words s lock ws) h.share; memory = h.memory; footprint = ap (λ (f : Footprint). record { reads = f.reads; writes = word ∷ f.writes }) h.footprint }
+
+  -- a word that is read is read in both
+  reads_too : (d e : Doing) → DoingAlike d e → (go : ℕ → Doing → Performed L) (go' : ℕ → Doing → Performed M) → ((v : ℕ) (d' e' : Doing) → DoingAlike d' e' → Both (go v d') (go' v e')) → (o : Option Cell) (word : ℕ) → Both (reads_cell cells o word d go) (reads_cell cells o word e go')
+  reads_too d e h go go' more None word = inl refl
+  reads_too d e h go go' more (Some LockWord) word = inl refl
+  reads_too d e h go go' more (Some (TableWord value)) word = more value d e h
+  reads_too d e h go go' more (Some (SharedWord kind None initial)) word = inl refl
+  reads_too d e h go go' more (Some (SharedWord kind (Some guard) initial)) word =
+      subst (λ (s : Share). Both (reads_as (word_in (words_in s guard) (place_among cells guard word)) word d go) (reads_as (word_in (words_in e.holding.share guard) (place_among cells guard word)) word e go')) (sym h.share)
+      (by (word_in (words_in e.holding.share guard) (place_among cells guard word)))
+    where
+      by : (o : Option ℕ) → Both (reads_as o word d go) (reads_as o word e go')
+      by None = inl refl
+      by (Some v) = more v (has_read d word) (has_read e word) (both_read d e h word)
+
+  writes_too : (d e : Doing) → DoingAlike d e → (go : Doing → Performed L) (go' : Doing → Performed M) → ((d' e' : Doing) → DoingAlike d' e' → Both (go d') (go' e')) → (o : Option Cell) (word value : ℕ) → Both (writes_cell cells o word value d go) (writes_cell cells o word value e go')
+  writes_too d e h go go' more None word value = inl refl
+  writes_too d e h go go' more (Some LockWord) word value = inl refl
+  writes_too d e h go go' more (Some (TableWord v)) word value = inl refl
+  writes_too d e h go go' more (Some (SharedWord kind None initial)) word value = inl refl
+  writes_too d e h go go' more (Some (SharedWord kind (Some guard) initial)) word value =
+      subst (λ (s : Share). Both (writes_in (words_in s guard) (place_among cells guard word) guard word value d go) (writes_in (words_in e.holding.share guard) (place_among cells guard word) guard word value e go')) (sym h.share)
+      (by (words_in e.holding.share guard))
+    where
+      either : (ws : List ℕ) (t : Bool) → Both (if t then go (has_written d word guard (slice_set ws (place_among cells guard word) value)) else failed d) (if t then go' (has_written e word guard (slice_set ws (place_among cells guard word) value)) else failed e)
+      either ws true = more _ _ (both_written d e h word guard (slice_set ws (place_among cells guard word) value))
+      either ws false = inl refl
+
+      by : (o : Option (List ℕ)) → Both (writes_in o (place_among cells guard word) guard word value d go) (writes_in o (place_among cells guard word) guard word value e go')
+      by None = inl refl
+      by (Some ws) = either ws (nat_lt (place_among cells guard word) (length ws))
+
+  loads_too : (d e : Doing) → DoingAlike d e → (home home' : Home) (at at' : ℕ) → same (Pointer home at) (Pointer home' at') → (go : Value → Performed L) (go' : Value → Performed M) → ((v w : Value) → same v w → Both (go v) (go' w)) → (o : Option Value) → value_in (e.holding.memory home') at' ≡ o → Both (loads_as (value_in (d.holding.memory home) at) d go) (loads_as o e go')
+  loads_too d e h home home' at at' p go go' more None g = inl refl
+  loads_too d e h home home' at at' p go go' more (Some w) g =
+      let v = keeps.loads d.holding.memory e.holding.memory h.memory home home' at at' p w g in
+      subst (λ (o : Option Value). Both (loads_as o d go) (go' w)) (sym v.1) (more v.0 w v.2)
+
+  stores_too : (d e : Doing) → DoingAlike d e → (home home' : Home) (at at' : ℕ) → same (Pointer home at) (Pointer home' at') → (v w : Value) → same v w → (go : Doing → Performed L) (go' : Doing → Performed M) → ((d' e' : Doing) → DoingAlike d' e' → Both (go d') (go' e')) → (o : Option (List Value)) → e.holding.memory home' ≡ o → Both (stores_in (d.holding.memory home) home at v d go) (stores_in o home' at' w e go')
+  stores_too d e h home home' at at' p v w s go go' more None g = inl refl
+  stores_too d e h home home' at at' p v w s go go' more (Some ws) g = by (nat_lt at' (length ws)) refl
+    where
+      by : (t : Bool) → nat_lt at' (length ws) ≡ t → Both (stores_in (d.holding.memory home) home at v d go) (if t then go' (has_stored e home' (slice_set ws at' w)) else failed e)
+      by false i = inl refl
+      by true i =
+          let stored = keeps.stores d.holding.memory e.holding.memory h.memory home home' at at' p v w s ws g (ltb-true at' (length ws) i) in
+          subst (λ (o : Option (List Value)). Both (stores_in o home at v d go) (go' (has_stored e home' (slice_set ws at' w)))) (sym stored.there)
+          (subst (λ (t : Bool). Both (if t then go (has_stored d home (slice_set stored.block at v)) else failed d) (go' (has_stored e home' (slice_set ws at' w)))) (sym (lt-ltb at (length stored.block) stored.within))
+          (more _ _ (record { share = h.share; memory = stored.after; footprint = h.footprint })))
+
+  words_read : (d e : Doing) → DoingAlike d e → (go : ℕ → Doing → Performed L) (go' : ℕ → Doing → Performed M) → ((v : ℕ) (d' e' : Doing) → DoingAlike d' e' → Both (go v d') (go' v e')) → (o : Option ℕ) → Both (reads_word cells o d go) (reads_word cells o e go')
+  words_read d e h go go' more None = inl refl
+  words_read d e h go go' more (Some word) = reads_too d e h go go' more (slice_get cells word) word
+
+  words_written : (d e : Doing) → DoingAlike d e → (go : Doing → Performed L) (go' : Doing → Performed M) → ((d' e' : Doing) → DoingAlike d' e' → Both (go d') (go' e')) → (value : ℕ) (o : Option ℕ) → Both (writes_word cells o value d go) (writes_word cells o value e go')
+  words_written d e h go go' more value None = inl refl
+  words_written d e h go go' more value (Some word) = writes_too d e h go go' more (slice_get cells word) word value
+
+  looked : (next : Option ℕ → Accesses L) (next' : Option ℕ → Accesses M) (o o' : Option ℕ) → FormAlike same same_size same_last (next None) (next' None) → ((n m : ℕ) → same_size n m → FormAlike same same_size same_last (next (Some n)) (next' (Some m))) → LengthsAlike same_size o o' → FormAlike same same_size same_last (next o) (next' o')
+  looked next next' None None none some h = none
+  looked next next' None (Some m) none some h = absurd h
+  looked next next' (Some n) None none some h = absurd h
+  looked next next' (Some n) (Some m) none some h = some n m h
+
+  pub performed_alike : {x : Accesses L} {y : Accesses M} → FormAlike same same_size same_last x y → (d e : Doing) → DoingAlike d e → Both (performed cells words x d) (performed cells words y e)
+  performed_alike (reads {global = global} {offset = offset} f) d e h = words_read d e h _ _ (λ v d' e' h'. performed_alike (f v) d' e' h') (number_in (words global) offset)
+  performed_alike (writes {global = global} {offset = offset} {word = word} f) d e h = words_written d e h _ _ (λ d' e' h'. performed_alike f d' e' h') word (number_in (words global) offset)
+  performed_alike (loads {home = home} {home' = home'} {at = at} {at' = at'} p f) d e h = loads_too d e h home home' at at' p _ _ (λ v w s. performed_alike (f v w s) d e h) (value_in (e.holding.memory home') at') refl
+  performed_alike (stores {home = home} {home' = home'} {at = at} {at' = at'} {v = v} {w = w} p s f) d e h = stores_too d e h home home' at at' p v w s _ _ (λ d' e' h'. performed_alike f d' e' h') (e.holding.memory home') refl
+  performed_alike (looks {home = home} {home' = home'} at at' {next = next} {next' = next'} p none some) d e h =
+      by (length_of (d.holding.memory home)) (length_of (e.holding.memory home')) (λ a. performed_alike none d e h) (λ n m s. performed_alike (some n m s) d e h) (keeps.lengths d.holding.memory e.holding.memory h.memory home home' at at' p)
+    where
+      by : (o o' : Option ℕ) → (Unit {0} → Both (performed cells words (next None) d) (performed cells words (next' None) e)) → ((n m : ℕ) → same_size n m → Both (performed cells words (next (Some n)) d) (performed cells words (next' (Some m)) e)) → LengthsAlike same_size o o' → Both (performed cells words (next o) d) (performed cells words (next' o') e)
+      by None None f g l = f tt
+      by None (Some m) f g l = absurd l
+      by (Some n) None f g l = absurd l
+      by (Some n) (Some m) f g l = g n m l
+  performed_alike (last {l = l} {m = m} s) d e h = inr (record { t_last = l; s_last = m; t_does = refl; s_does = refl; lasts = s; share = h.share; memory = h.memory; footprint = h.footprint })
+  performed_alike never d e h = inl refl

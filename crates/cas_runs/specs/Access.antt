@@ -1,0 +1,162 @@
+-- What a step touches: shared words of its thread's share, and blocks of memory. A language names its accesses one after another, and the share, the
+-- memory and the footprint are computed from them here.
+use Rattle.std.specs.Prelude.{ℕ, zero, suc, ◌+◌, nat_eq, nat_lt, Bool, false, List, [], ◌∷◌, length, Option, Some, None, slice_get, slice_set, if◌then◌else◌}
+use Rattle.cas_runs.specs.Label.{NameBytes, Share}
+use Rattle.cas_runs.specs.Edge.{Cell, LockWord, SharedWord, TableWord}
+use Rattle.cas_runs.specs.Naming.{Home, Value, Memory, with_block}
+use Rattle.cas_runs.specs.Machine.{Footprint}
+
+-- the words of a global or of a lock: the number of the first, and how many they are
+pub record Stretch : Type 0 where
+  pub first : ℕ
+  pub size : ℕ
+
+-- where the words of each global and lock stand
+abbrev pub Words : Type 0
+Words = NameBytes → Option Stretch
+
+-- the accesses of a step from the first to the last, each with what follows on the value read, and then what it does, or that it fails
+pub data Accesses (L : Type 0) : Type 0 where
+  Reads : (global : NameBytes) (offset : ℕ) (next : ℕ → Accesses L) → Accesses L
+  Writes : (global : NameBytes) (offset word : ℕ) (next : Accesses L) → Accesses L
+  Loads : (home : Home) (place : ℕ) (next : Value → Accesses L) → Accesses L
+  Stores : (home : Home) (place : ℕ) (value : Value) (next : Accesses L) → Accesses L
+  -- how many words the block has, if it is there still
+  Looks : (home : Home) (next : Option ℕ → Accesses L) → Accesses L
+  Then : (last : L) → Accesses L
+  Fails : Accesses L
+
+-- goes on with a value, and fails where there is none: using what has no value has no meaning
+abbrev pub with_value : {V L : Type 0} → Option V → (V → Accesses L) → Accesses L
+with_value None next = Fails
+with_value (Some v) next = next v
+
+-- what accesses change
+pub record Holding : Type 0 where
+  pub share : Share
+  pub memory : Memory
+
+-- the words of a lock, where it is in the share
+abbrev pub words_in : Share → ℕ → Option (List ℕ)
+words_in [] lock = None
+words_in (h ∷ hs) lock = if nat_eq h.lock lock then Some h.words else words_in hs lock
+
+-- the share with a lock more, at its place in the order
+abbrev pub with_lock : Share → ℕ → List ℕ → Share
+with_lock [] lock words = record { lock = lock; words = words } ∷ []
+with_lock (h ∷ hs) lock words = if nat_lt lock h.lock then record { lock = lock; words = words } ∷ h ∷ hs else h ∷ with_lock hs lock words
+
+abbrev pub without_lock : Share → ℕ → Share
+without_lock [] lock = []
+without_lock (h ∷ hs) lock = if nat_eq h.lock lock then hs else h ∷ without_lock hs lock
+
+-- the share with other words of a lock
+abbrev pub with_words : Share → ℕ → List ℕ → Share
+with_words [] lock words = []
+with_words (h ∷ hs) lock words = if nat_eq h.lock lock then record { lock = lock; words = words } ∷ hs else h ∷ with_words hs lock words
+
+abbrev pub is_guarded_by : ℕ → Cell → Bool
+is_guarded_by lock (SharedWord kind (Some guard) initial) = nat_eq guard lock
+is_guarded_by lock (SharedWord kind None initial) = false
+is_guarded_by lock LockWord = false
+is_guarded_by lock (TableWord value) = false
+
+-- the place of a word among those of its lock
+abbrev pub place_among : List Cell → (lock word : ℕ) → ℕ
+place_among [] lock word = 0
+place_among (c ∷ cs) lock zero = 0
+place_among (c ∷ cs) lock (suc word) = if is_guarded_by lock c then place_among cs lock word + 1 else place_among cs lock word
+
+abbrev pub word_in : Option (List ℕ) → (place : ℕ) → Option ℕ
+word_in None place = None
+word_in (Some words) place = slice_get words place
+
+-- what a step has done so far
+pub record Doing : Type 0 where
+  pub holding : Holding
+  pub footprint : Footprint
+
+abbrev pub has_read : Doing → (word : ℕ) → Doing
+has_read d word = record { holding = d.holding; footprint = record { reads = word ∷ d.footprint.reads; writes = d.footprint.writes } }
+
+abbrev pub has_written : Doing → (word lock : ℕ) → List ℕ → Doing
+has_written d word lock words = record { holding = record { share = with_words d.holding.share lock words; memory = d.holding.memory }; footprint = record { reads = d.footprint.reads; writes = word ∷ d.footprint.writes } }
+
+abbrev pub has_stored : Doing → Home → List Value → Doing
+has_stored d home block = record { holding = record { share = d.holding.share; memory = with_block d.holding.memory home (Some block) }; footprint = d.footprint }
+
+-- a step with its accesses made: what it does at last, or none where it fails
+pub record Performed (L : Type 0) : Type 0 where
+  pub last : Option L
+  pub holding : Holding
+  pub footprint : Footprint
+
+abbrev pub performs : {L : Type 0} → L → Doing → Performed L
+performs last d = record { last = Some last; holding = d.holding; footprint = d.footprint }
+
+-- it has touched what came before
+abbrev pub failed : {L : Type 0} → Doing → Performed L
+failed d = record { last = None; holding = d.holding; footprint = d.footprint }
+
+abbrev pub reads_as : {L : Type 0} → Option ℕ → (word : ℕ) → Doing → (ℕ → Doing → Performed L) → Performed L
+reads_as None word d go = failed d
+reads_as (Some v) word d go = go v (has_read d word)
+
+-- a shared word is read in the share alone. A word of a table may be read at any time, and leaves no trace
+abbrev pub reads_cell : {L : Type 0} → List Cell → Option Cell → (word : ℕ) → Doing → (ℕ → Doing → Performed L) → Performed L
+reads_cell cells (Some (SharedWord kind (Some guard) initial)) word d go = reads_as (word_in (words_in d.holding.share guard) (place_among cells guard word)) word d go
+reads_cell cells (Some (SharedWord kind None initial)) word d go = failed d
+reads_cell cells (Some (TableWord value)) word d go = go value d
+reads_cell cells (Some LockWord) word d go = failed d
+reads_cell cells None word d go = failed d
+
+abbrev pub writes_in : {L : Type 0} → Option (List ℕ) → (place lock word value : ℕ) → Doing → (Doing → Performed L) → Performed L
+writes_in None place lock word value d go = failed d
+writes_in (Some words) place lock word value d go = if nat_lt place (length words) then go (has_written d word lock (slice_set words place value)) else failed d
+
+-- a shared word is written in the share alone
+abbrev pub writes_cell : {L : Type 0} → List Cell → Option Cell → (word value : ℕ) → Doing → (Doing → Performed L) → Performed L
+writes_cell cells (Some (SharedWord kind (Some guard) initial)) word value d go = writes_in (words_in d.holding.share guard) (place_among cells guard word) guard word value d go
+writes_cell cells (Some (SharedWord kind None initial)) word value d go = failed d
+writes_cell cells (Some (TableWord v)) word value d go = failed d
+writes_cell cells (Some LockWord) word value d go = failed d
+writes_cell cells None word value d go = failed d
+
+-- the number of a word of a global
+abbrev pub number_in : Option Stretch → (offset : ℕ) → Option ℕ
+number_in None offset = None
+number_in (Some s) offset = if nat_lt offset s.size then Some (s.first + offset) else None
+
+abbrev pub reads_word : {L : Type 0} → List Cell → Option ℕ → Doing → (ℕ → Doing → Performed L) → Performed L
+reads_word cells None d go = failed d
+reads_word cells (Some word) d go = reads_cell cells (slice_get cells word) word d go
+
+abbrev pub writes_word : {L : Type 0} → List Cell → Option ℕ → (value : ℕ) → Doing → (Doing → Performed L) → Performed L
+writes_word cells None value d go = failed d
+writes_word cells (Some word) value d go = writes_cell cells (slice_get cells word) word value d go
+
+abbrev pub value_in : Option (List Value) → (place : ℕ) → Option Value
+value_in None place = None
+value_in (Some block) place = slice_get block place
+
+abbrev pub loads_as : {L : Type 0} → Option Value → Doing → (Value → Performed L) → Performed L
+loads_as None d go = failed d
+loads_as (Some v) d go = go v
+
+abbrev pub stores_in : {L : Type 0} → Option (List Value) → Home → (place : ℕ) → Value → Doing → (Doing → Performed L) → Performed L
+stores_in None home place value d go = failed d
+stores_in (Some block) home place value d go = if nat_lt place (length block) then go (has_stored d home (slice_set block place value)) else failed d
+
+abbrev pub length_of : Option (List Value) → Option ℕ
+length_of None = None
+length_of (Some block) = Some (length block)
+
+-- the step with its accesses made
+abbrev pub performed : {L : Type 0} → List Cell → Words → Accesses L → Doing → Performed L
+performed cells words (Reads global offset next) d = reads_word cells (number_in (words global) offset) d (λ v e. performed cells words (next v) e)
+performed cells words (Writes global offset word next) d = writes_word cells (number_in (words global) offset) word d (λ e. performed cells words next e)
+performed cells words (Loads home place next) d = loads_as (value_in (d.holding.memory home) place) d (λ v. performed cells words (next v) d)
+performed cells words (Stores home place value next) d = stores_in (d.holding.memory home) home place value d (λ e. performed cells words next e)
+performed cells words (Looks home next) d = performed cells words (next (length_of (d.holding.memory home))) d
+performed cells words (Then last) d = performs last d
+performed cells words Fails d = failed d

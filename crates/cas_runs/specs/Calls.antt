@@ -1,0 +1,322 @@
+-- The layer of calls: a language gives the steps of one activation, and calls, crossings, locks, shares, memory and prices are told here once.
+use Rattle.std.specs.Prelude.{ℕ, zero, suc, ◌+◌, nat_eq, Bool, true, false, List, [], ◌∷◌, Option, Some, None, if◌then◌else◌}
+use Rattle.cas_runs.specs.Label.{NameBytes, same_name, Share, Crossing, RunLabel, Enter, Back, Call, Leave}
+use Rattle.cas_runs.specs.Naming.{Own, Value, Number, Layout, Naming, Memory, and_then, all_named_by, can_show_all, objects_of, same_objects, all_taken, with_block, brought}
+use Rattle.cas_runs.specs.Machine.{Footprint, Act, Quiet, Says, Crosses, Locks, Hears, Bad, Stops, Ended, Taken, Unlocks, Prints, Ends, Machine}
+use Rattle.cas_runs.specs.Bounds.{Tariff, step_price, first_price, waiting_price}
+use Rattle.cas_runs.specs.Access.{Accesses, Holding, words_in, with_lock, without_lock, Performed, performed}
+use Rattle.cas_runs.specs.Unit.{Setting, Language, guard_of}
+
+-- what a step of an activation does at last
+pub data Last (A : Type 0) : Type 0 where
+  Goes : (next : A) → Last A
+  Takes : (lock : NameBytes) (next : A) → Last A
+  Gives : (lock : NameBytes) (next : A) → Last A
+  Puts : (word : ℕ) (next : A) → Last A
+  Calls : (function : NameBytes) (arguments : List Value) (next : List Value → Option A) → Last A
+  Tails : (function : NameBytes) (arguments : List Value) → Last A
+  Returns : (values : List Value) → Last A
+
+-- a language by its activations: how one begins, with its serial number and its arguments, its steps, and what they cost. Where it can't begin or
+-- go on so, the step has no meaning
+pub record Activations (F A : Type 0) : Type 0 where
+  pub name : F → NameBytes
+  pub blocks : F → List ℕ
+  pub enter : F → (serial : ℕ) → List Value → Option A
+  pub form : A → Accesses (Last A)
+  pub tariff : Tariff F A
+
+-- which functions run together, which of them a call within finds, and whether the other calls cross
+pub record Scene (F : Type 0) : Type 0 where
+  pub functions : List F
+  pub within : List F
+  pub crosses : Bool
+
+-- what waits below the newest activation: an activation for the result of its call, or the outside
+pub data Frame (F A : Type 0) : Type 0 where
+  Waits : (function : F) (serial : ℕ) (next : List Value → Option A) → Frame F A
+  Outer : Frame F A
+
+-- the objects that have crossed, and how many activations have begun
+pub record Past : Type 0 where
+  pub naming : Naming
+  pub begun : ℕ
+
+pub data Thread (F A : Type 0) : Type 0 where
+  -- the outside runs
+  Away : (stack : List (Frame F A)) (past : Past) (holding : Holding) → Thread F A
+  -- an activation runs, with what its first step costs in addition
+  Runs : (function : F) (serial : ℕ) (now : A) (extra : ℕ) (stack : List (Frame F A)) (past : Past) (holding : Holding) → Thread F A
+  -- a tail call that crossed has returned, and leaves
+  Leaves : (values : List Value) (stack : List (Frame F A)) (past : Past) (holding : Holding) → Thread F A
+  Over : Thread F A
+  -- the outside brought what has no meaning
+  Wrong : Thread F A
+
+-- The memory.
+
+abbrev pub zeros : ℕ → List Value
+zeros zero = []
+zeros (suc n) = Number 0 ∷ zeros n
+
+-- the memory with other blocks of an activation, from the k-th on
+abbrev pub set_blocks : (ℕ → Option (List Value)) → Memory → NameBytes → (serial k : ℕ) → List ℕ → Memory
+set_blocks words memory name serial k [] = memory
+set_blocks words memory name serial k (size ∷ sizes) = set_blocks words (with_block memory (Own name serial k) (words size)) name serial (k + 1) sizes
+
+-- each word of a block is 0 where the activation begins, and when it has returned the block is no more
+abbrev pub fresh : ℕ → Option (List Value)
+fresh size = Some (zeros size)
+
+abbrev pub gone : ℕ → Option (List Value)
+gone size = None
+
+-- What crosses.
+
+abbrev pub same_words : List ℕ → List ℕ → Bool
+same_words [] [] = true
+same_words [] (w ∷ ws) = false
+same_words (v ∷ vs) [] = false
+same_words (v ∷ vs) (w ∷ ws) = if nat_eq v w then same_words vs ws else false
+
+abbrev pub same_share : Share → Share → Bool
+same_share [] [] = true
+same_share [] (h ∷ hs) = false
+same_share (k ∷ ks) [] = false
+same_share (k ∷ ks) (h ∷ hs) = if nat_eq k.lock h.lock then (if same_words k.words h.words then same_share ks hs else false) else false
+
+abbrev pub nothing_touched : Footprint
+nothing_touched = record { reads = []; writes = [] }
+
+abbrev pub if_shown : Bool → Naming → Option Naming
+if_shown true ns = Some ns
+if_shown false ns = None
+
+-- the naming by which these values cross so, with the share and with each object that has crossed by then
+abbrev pub crosses_as : Layout → List Value → Past → Holding → Crossing → Option Naming
+crosses_as layout values past h crossing = if same_share h.share crossing.share then and_then (all_named_by layout past.naming values crossing.values) (λ ns. if_shown (same_objects (objects_of h.memory ns) crossing.objects) ns) else None
+
+abbrev pub with_naming : Past → Naming → Past
+with_naming past ns = record { naming = ns; begun = past.begun }
+
+module _ {F A : Type 0} where
+  abbrev pub to_outside : List (Frame F A) → Past → Holding → Option Naming → Option (Thread F A)
+  to_outside stack past h None = None
+  to_outside stack past h (Some ns) = Some (Away stack (with_naming past ns) h)
+
+  abbrev pub calls_by : Layout → NameBytes → List Value → List (Frame F A) → Past → Holding → RunLabel → Option (Thread F A)
+  calls_by layout function values stack past h (Call f crossing) = if same_name f function then to_outside stack past h (crosses_as layout values past h crossing) else None
+  calls_by layout function values stack past h _ = None
+
+  abbrev pub leaves_by : Layout → List Value → List (Frame F A) → Past → Holding → RunLabel → Option (Thread F A)
+  leaves_by layout values stack past h (Leave crossing) = to_outside stack past h (crosses_as layout values past h crossing)
+  leaves_by layout values stack past h _ = None
+
+  -- a pointer that is no place of an object can't cross
+  abbrev pub crosses_if : Bool → (RunLabel → Option (Thread F A)) → Act (Thread F A)
+  crosses_if true next = Crosses next
+  crosses_if false next = Bad
+
+  abbrev pub leaves : Layout → List Value → List (Frame F A) → Past → Holding → Act (Thread F A)
+  leaves layout values stack past h = crosses_if (can_show_all layout past.naming values) (leaves_by layout values stack past h)
+
+  abbrev pub goes_back : F → (serial : ℕ) → Option A → List (Frame F A) → Past → Holding → Act (Thread F A)
+  goes_back f serial None stack past h = Bad
+  goes_back f serial (Some a) stack past h = Quiet (Runs f serial a 0 stack past h)
+
+  -- the newest activation has returned: to one that waits, to the outside, or the thread has ended
+  abbrev pub returns : Layout → List Value → List (Frame F A) → Past → Holding → Act (Thread F A)
+  returns layout values [] past h = Says Ends Over
+  returns layout values (Outer ∷ stack) past h = leaves layout values stack past h
+  returns layout values (Waits f serial next ∷ stack) past h = goes_back f serial (next values) stack past h
+
+  abbrev pub resumes : F → (serial : ℕ) → Option A → List (Frame F A) → Past → Holding → Thread F A
+  resumes f serial None stack past h = Wrong
+  resumes f serial (Some a) stack past h = Runs f serial a 0 stack past h
+
+  -- the call that crossed last returns: where it was a tail call, its result leaves
+  abbrev pub comes_back : Option (List Value) → List (Frame F A) → Past → Holding → Thread F A
+  comes_back None stack past h = Wrong
+  comes_back (Some values) [] past h = Wrong
+  comes_back (Some values) (Outer ∷ stack) past h = Leaves values stack past h
+  comes_back (Some values) (Waits f serial next ∷ stack) past h = resumes f serial (next values) stack past h
+
+-- Locks.
+
+abbrev pub with_share : Holding → Share → Holding
+with_share h share = record { share = share; memory = h.memory }
+
+module _ {F A : Type 0} where
+  -- a Lock of a lock in the share has no next step
+  abbrev pub takes_lock : ℕ → Option (List ℕ) → (List ℕ → Thread F A) → Act (Thread F A)
+  takes_lock lock None next = Locks lock next
+  takes_lock lock (Some words) next = Stops (Taken lock)
+
+  abbrev pub takes : Option ℕ → A → F → (serial : ℕ) → List (Frame F A) → Past → Holding → Act (Thread F A)
+  takes None a f serial stack past h = Bad
+  takes (Some lock) a f serial stack past h = takes_lock lock (words_in h.share lock) (λ words. Runs f serial a 0 stack past (with_share h (with_lock h.share lock words)))
+
+  -- an Unlock of a lock that isn't in the share has no meaning
+  abbrev pub gives_lock : ℕ → Option (List ℕ) → Thread F A → Act (Thread F A)
+  gives_lock lock None next = Bad
+  gives_lock lock (Some words) next = Says (Unlocks lock words) next
+
+  abbrev pub gives : Option ℕ → A → F → (serial : ℕ) → List (Frame F A) → Past → Holding → Act (Thread F A)
+  gives None a f serial stack past h = Bad
+  gives (Some lock) a f serial stack past h = gives_lock lock (words_in h.share lock) (Runs f serial a 0 stack past (with_share h (without_lock h.share lock)))
+
+-- Activations.
+
+module _ {F A : Type 0} (l : Activations F A) where
+  abbrev pub find : List F → NameBytes → Option F
+  find [] name = None
+  find (f ∷ fs) name = if same_name (l.name f) name then Some f else find fs name
+
+  -- what is held when an activation of the function begins, and when it has returned
+  abbrev pub with_own : F → (serial : ℕ) → Holding → Holding
+  with_own f serial h = record { share = h.share; memory = set_blocks fresh h.memory (l.name f) serial 0 (l.blocks f) }
+
+  abbrev pub without_own : F → (serial : ℕ) → Holding → Holding
+  without_own f serial h = record { share = h.share; memory = set_blocks gone h.memory (l.name f) serial 0 (l.blocks f) }
+
+  abbrev pub one_begun : Past → Past
+  one_begun past = record { naming = past.naming; begun = past.begun + 1 }
+
+  -- an activation of the function begins
+  abbrev pub begins : F → A → List (Frame F A) → Past → Holding → Thread F A
+  begins f a stack past h = Runs f past.begun a (first_price l.tariff l.blocks f) stack (one_begun past) (with_own f past.begun h)
+
+  abbrev pub calls_in : F → Option A → List (Frame F A) → Past → Holding → Act (Thread F A)
+  calls_in f None stack past h = Bad
+  calls_in f (Some a) stack past h = Quiet (begins f a stack past h)
+
+  abbrev pub enters_at : F → Option A → List (Frame F A) → Past → Holding → Thread F A
+  enters_at f None stack past h = Wrong
+  enters_at f (Some a) stack past h = begins f a stack past h
+
+  abbrev pub enters : Option F → Option (List Value) → List (Frame F A) → Past → Holding → Thread F A
+  enters None values stack past h = Wrong
+  enters (Some f) None stack past h = Wrong
+  enters (Some f) (Some values) stack past h = enters_at f (l.enter f past.begun values) stack past h
+
+  -- the functions of the waiting activations, the oldest first, and then these
+  abbrev pub below : List (Frame F A) → List NameBytes → List NameBytes
+  below [] names = names
+  below (Waits f serial next ∷ stack) names = below stack (l.name f ∷ names)
+  below (Outer ∷ stack) names = below stack names
+
+-- the called function, where the step is a call
+abbrev pub called : {A : Type 0} → Option (Last A) → List NameBytes
+called None = []
+called (Some (Calls function values next)) = function ∷ []
+called (Some (Tails function values)) = function ∷ []
+called (Some (Goes next)) = []
+called (Some (Takes lock next)) = []
+called (Some (Gives lock next)) = []
+called (Some (Puts word next)) = []
+called (Some (Returns values)) = []
+
+-- the step of an activation, with its accesses made
+abbrev pub step_at : {F A : Type 0} → Activations F A → Setting → A → Holding → Performed (Last A)
+step_at l setting now h = performed setting.edge.cells setting.words (l.form now) (record { holding = h; footprint = nothing_touched })
+
+module _ {F A : Type 0} (l : Activations F A) (setting : Setting) (scene : Scene F) where
+  abbrev pub calls_out : Bool → NameBytes → List Value → List (Frame F A) → Past → Holding → Act (Thread F A)
+  calls_out true function values stack past h = crosses_if (can_show_all setting.layout past.naming values) (calls_by setting.layout function values stack past h)
+  calls_out false function values stack past h = Bad
+
+  -- a call within, or one that crosses
+  abbrev pub calls : Option F → NameBytes → List Value → List (Frame F A) → Past → Holding → Act (Thread F A)
+  calls (Some f) function values stack past h = calls_in l f (l.enter f past.begun values) stack past h
+  calls None function values stack past h = calls_out scene.crosses function values stack past h
+
+  -- what a step does at last. A tail call leaves nothing to do but to return its result
+  abbrev pub acts : Option (Last A) → F → (serial : ℕ) → List (Frame F A) → Past → Holding → Act (Thread F A)
+  acts None f serial stack past h = Bad
+  acts (Some (Goes next)) f serial stack past h = Quiet (Runs f serial next 0 stack past h)
+  acts (Some (Takes lock next)) f serial stack past h = takes (guard_of setting.edge setting.words lock) next f serial stack past h
+  acts (Some (Gives lock next)) f serial stack past h = gives (guard_of setting.edge setting.words lock) next f serial stack past h
+  acts (Some (Puts word next)) f serial stack past h = Says (Prints word) (Runs f serial next 0 stack past h)
+  acts (Some (Calls function values next)) f serial stack past h = calls (find l scene.within function) function values (Waits f serial next ∷ stack) past h
+  acts (Some (Tails function values)) f serial stack past h = calls (find l scene.within function) function values stack past (without_own l f serial h)
+  acts (Some (Returns values)) f serial stack past h = returns setting.layout values stack past (without_own l f serial h)
+
+  -- what the outside brings: the share, and what it left of the objects that have crossed
+  abbrev pub hears : List (Frame F A) → Past → Holding → RunLabel → Thread F A
+  hears stack past h (Enter f crossing) =
+      let c = brought h.memory past.naming 0 crossing.objects in
+      enters l (find l scene.functions f) (all_taken c.naming crossing.values) (Outer ∷ stack) (with_naming past c.naming) (record { share = crossing.share; memory = c.memory })
+  hears stack past h (Back crossing) =
+      let c = brought h.memory past.naming 0 crossing.objects in
+      comes_back (all_taken c.naming crossing.values) stack (with_naming past c.naming) (record { share = crossing.share; memory = c.memory })
+  hears stack past h _ = Wrong
+
+  abbrev pub act_at : Thread F A → Act (Thread F A)
+  act_at (Away stack past h) = Hears (hears stack past h)
+  act_at (Runs f serial now extra stack past h) = acts (step_at l setting now h).last f serial stack past (step_at l setting now h).holding
+  act_at (Leaves values stack past h) = leaves setting.layout values stack past h
+  act_at Over = Stops Ended
+  act_at Wrong = Bad
+
+  abbrev pub price_at : Thread F A → ℕ
+  price_at (Runs f serial now extra stack past h) = step_price l.tariff scene.functions now + extra
+  price_at (Away stack past h) = waiting_price l.tariff scene.functions
+  price_at (Leaves values stack past h) = waiting_price l.tariff scene.functions
+  price_at Over = waiting_price l.tariff scene.functions
+  price_at Wrong = waiting_price l.tariff scene.functions
+
+  abbrev pub footprint_at : Thread F A → Footprint
+  footprint_at (Runs f serial now extra stack past h) = (step_at l setting now h).footprint
+  footprint_at (Away stack past h) = nothing_touched
+  footprint_at (Leaves values stack past h) = nothing_touched
+  footprint_at Over = nothing_touched
+  footprint_at Wrong = nothing_touched
+
+  abbrev pub open_at : Thread F A → List NameBytes
+  open_at (Away stack past h) = below l stack []
+  open_at (Runs f serial now extra stack past h) = below l stack (l.name f ∷ called (step_at l setting now h).last)
+  open_at (Leaves values stack past h) = below l stack []
+  open_at Over = []
+  open_at Wrong = []
+
+  -- from this state on
+  abbrev pub machine : Thread F A → Machine (Thread F A)
+  machine from = record { start = from; act = act_at; price = price_at; footprint = footprint_at; open_functions = open_at }
+
+-- nothing has crossed, and no activation has begun
+abbrev pub no_past : Past
+no_past = record { naming = []; begun = 0 }
+
+-- nothing is held
+abbrev pub no_holding : Holding
+no_holding = record { share = []; memory = λ home. None }
+
+-- the outside runs first
+abbrev pub outside_first : {F A : Type 0} → Thread F A
+outside_first = Away [] no_past no_holding
+
+-- a thread begins with the function, on its number
+abbrev pub starts : {F A : Type 0} → Activations F A → Option F → ℕ → Thread F A
+starts l f thread = enters l f (Some (Number thread ∷ [])) [] no_past no_holding
+
+-- a unit of these functions
+abbrev pub of_unit : {F : Type 0} → List F → Scene F
+of_unit fs = record { functions = fs; within = fs; crosses = true }
+
+-- a function alone
+abbrev pub of_function : {F : Type 0} → F → Scene F
+of_function f = record { functions = f ∷ []; within = []; crosses = true }
+
+-- a whole program of these functions
+abbrev pub of_program : {F : Type 0} → List F → Scene F
+of_program fs = record { functions = fs; within = fs; crosses = false }
+
+-- the language that these activations make
+abbrev pub language : {F A : Type 0} → Activations F A → Language F (Thread F A)
+language l = record {
+  name = l.name;
+  blocks = l.blocks;
+  unit = λ setting fs. machine l setting (of_unit fs) outside_first;
+  alone = λ setting f. machine l setting (of_function f) outside_first;
+  thread = λ setting fs entry thread. machine l setting (of_program fs) (starts l (find l fs entry) thread);
+}

@@ -1,0 +1,49 @@
+-- Forms that do the same: their accesses are to the same words and to blocks that are the same, and what they do at last is the same.
+use Rattle.std.specs.Prelude.{◌≡◌, ℕ, ◌<◌, List, Option, Some, None, length, slice_set, ◌⊎◌}
+use Rattle.cas_runs.specs.Label.{NameBytes}
+use Rattle.cas_runs.specs.Naming.{Home, Value, Pointer, Memory, with_block}
+use Rattle.cas_runs.specs.Access.{Accesses, Reads, Writes, Loads, Stores, Looks, Then, Fails, Performed, value_in, length_of}
+
+-- where values are the same, and what a block's length is to the other's
+pub data FormAlike {L M : Type 0} (same : Value → Value → Type 0) (same_size : ℕ → ℕ → Type 0) (same_last : L → M → Type 0) : Accesses L → Accesses M → Type 0 where
+  reads : {global : NameBytes} {offset : ℕ} {next : ℕ → Accesses L} {next' : ℕ → Accesses M} → ((v : ℕ) → FormAlike same same_size same_last (next v) (next' v)) → FormAlike same same_size same_last (Reads global offset next) (Reads global offset next')
+  writes : {global : NameBytes} {offset word : ℕ} {next : Accesses L} {next' : Accesses M} → FormAlike same same_size same_last next next' → FormAlike same same_size same_last (Writes global offset word next) (Writes global offset word next')
+  loads : {home home' : Home} {at at' : ℕ} {next : Value → Accesses L} {next' : Value → Accesses M} → same (Pointer home at) (Pointer home' at') → ((v w : Value) → same v w → FormAlike same same_size same_last (next v) (next' w)) → FormAlike same same_size same_last (Loads home at next) (Loads home' at' next')
+  stores : {home home' : Home} {at at' : ℕ} {v w : Value} {next : Accesses L} {next' : Accesses M} → same (Pointer home at) (Pointer home' at') → same v w → FormAlike same same_size same_last next next' → FormAlike same same_size same_last (Stores home at v next) (Stores home' at' w next')
+  looks : {home home' : Home} (at at' : ℕ) {next : Option ℕ → Accesses L} {next' : Option ℕ → Accesses M} → same (Pointer home at) (Pointer home' at') → FormAlike same same_size same_last (next None) (next' None) → ((n m : ℕ) → same_size n m → FormAlike same same_size same_last (next (Some n)) (next' (Some m))) → FormAlike same same_size same_last (Looks home next) (Looks home' next')
+  last : {l : L} {m : M} → same_last l m → FormAlike same same_size same_last (Then l) (Then m)
+  never : {x : Accesses L} → FormAlike same same_size same_last x Fails
+
+-- both blocks are there with such lengths, or neither is
+abbrev pub LengthsAlike : (ℕ → ℕ → Type 0) → Option ℕ → Option ℕ → Type 0
+LengthsAlike same_size None None = Unit {0}
+LengthsAlike same_size None (Some m) = ⊥
+LengthsAlike same_size (Some n) None = ⊥
+LengthsAlike same_size (Some n) (Some m) = same_size n m
+
+-- the memories after a store
+pub record Stored (alike : Memory → Memory → Type 0) (t s : Memory) (home : Home) (at : ℕ) (v : Value) (home' : Home) (at' : ℕ) (w : Value) (ws : List Value) : Type 0 where
+  pub block : List Value
+  pub there : t home ≡ Some block
+  pub within : at < length block
+  pub after : alike (with_block t home (Some (slice_set block at v))) (with_block s home' (Some (slice_set ws at' w)))
+
+-- loads and stores by pointers that are the same keep memories alike
+pub record MemoryKeeps (same : Value → Value → Type 0) (same_size : ℕ → ℕ → Type 0) (alike : Memory → Memory → Type 0) : Type 0 where
+  pub loads : (t s : Memory) → alike t s → (home home' : Home) (at at' : ℕ) → same (Pointer home at) (Pointer home' at') → (w : Value) → value_in (s home') at' ≡ Some w → (v : Value) × (value_in (t home) at ≡ Some v) × same v w
+  pub stores : (t s : Memory) → alike t s → (home home' : Home) (at at' : ℕ) → same (Pointer home at) (Pointer home' at') → (v w : Value) → same v w → (ws : List Value) → s home' ≡ Some ws → at' < length ws → Stored alike t s home at v home' at' w ws
+  pub lengths : (t s : Memory) → alike t s → (home home' : Home) (at at' : ℕ) → same (Pointer home at) (Pointer home' at') → LengthsAlike same_size (length_of (t home)) (length_of (s home'))
+
+-- the source's step fails, or both do the same at last, and have touched the same words
+pub record BothPerform {L M : Type 0} (alike : Memory → Memory → Type 0) (same_last : L → M → Type 0) (p : Performed L) (q : Performed M) : Type 0 where
+  pub t_last : L
+  pub s_last : M
+  pub t_does : p.last ≡ Some t_last
+  pub s_does : q.last ≡ Some s_last
+  pub lasts : same_last t_last s_last
+  pub share : p.holding.share ≡ q.holding.share
+  pub memory : alike p.holding.memory q.holding.memory
+  pub footprint : p.footprint ≡ q.footprint
+
+abbrev pub PerformAlike : {L M : Type 0} → (Memory → Memory → Type 0) → (L → M → Type 0) → Performed L → Performed M → Type 0
+PerformAlike alike same_last p q = (q.last ≡ None) ⊎ BothPerform alike same_last p q

@@ -1,0 +1,206 @@
+-- What a pass shows of one activation, where the calls of both languages are those of the layer: it then refines functions, units and threads.
+use Rattle.std.specs.Prelude.{◌≡◌, ℕ, ◌+◌, ◌≤◌, true, List, [], ◌∷◌, Option, Some, None, ◌⊎◌}
+use Rattle.cas_runs.specs.Label.{NameBytes, Share, Crossing}
+use Rattle.cas_runs.specs.Naming.{Value, Number, Layout, Naming, Crossed, can_show_all, all_taken, brought}
+use Rattle.cas_runs.specs.Machine.{Block, and_step}
+use Rattle.cas_runs.specs.Refines.{Within, Subsequence}
+use Rattle.cas_runs.specs.Bounds.{IsTariff, step_price, first_price, waiting_price}
+use Rattle.cas_runs.specs.Access.{Then, Holding, Performed}
+use Rattle.cas_runs.specs.Unit.{Setting}
+use Rattle.cas_runs.specs.Calls.{Last, Goes, Takes, Gives, Puts, Calls, Tails, Returns, Activations, Past, crosses_as, with_naming, with_share, with_own, without_own, one_begun, called, step_at, no_past, no_holding}
+
+-- two languages in a setting, where these functions run together, the layout of the target's blocks, and how both are related
+pub record Relation (F A G B : Type 0) : Type 1 where
+  pub target : Activations F A
+  pub source : Activations G B
+  pub setting : Setting
+  pub placed : Layout
+  pub targets : List F
+  pub sources : List G
+  -- the target's function is made of the source's
+  pub made : F → G → Type 0
+  -- the values are the same
+  pub same : Value → Value → Type 0
+  -- what both threads hold is alike
+  pub alike : Past → Holding → Past → Holding → Type 0
+  -- between two moments nothing has touched what the activations with smaller serial numbers have for themselves
+  pub later : ℕ → Holding → Holding → Holding → Holding → Type 0
+  -- where the activations of this serial number stand, with the blocks so far
+  pub match : ℕ → A → Holding → Block → B → Holding → Block → Type 0
+
+module _ {F A G B : Type 0} (r : Relation F A G B) where
+  abbrev pub AllSame : List Value → List Value → Type 0
+  AllSame [] [] = Unit {0}
+  AllSame [] (w ∷ ws) = ⊥
+  AllSame (v ∷ vs) [] = ⊥
+  AllSame (v ∷ vs) (w ∷ ws) = r.same v w × AllSame vs ws
+
+  -- the steps, and the blocks with them
+  abbrev pub t_step : A → Holding → Performed (Last A)
+  t_step x h = step_at r.target r.setting x h
+
+  abbrev pub s_step : B → Holding → Performed (Last B)
+  s_step y k = step_at r.source r.setting y k
+
+  abbrev pub t_on : Block → A → ℕ → Holding → Block
+  t_on b x extra h = and_step b (step_price r.target.tariff r.targets x + extra) (t_step x h).footprint
+
+  abbrev pub s_on : Block → B → ℕ → Holding → Block
+  s_on c y extra k = and_step c (step_price r.source.tariff r.sources y + extra) (s_step y k).footprint
+
+  -- both threads are alike, and nothing was touched of others since the moment h, k
+  pub record Stands (n : ℕ) (p q : Past) (h k h' k' : Holding) : Type 0 where
+    pub alike : r.alike p h' q k'
+    pub later : r.later n h k h' k'
+
+  -- from y the source goes on quietly to where it matches x, or it fails
+  pub data Going (n : ℕ) (p q : Past) (h k : Holding) (x : A) (h' : Holding) (b : Block) : B → Holding → Block → Type 0 where
+    matched : {y : B} {k' : Holding} {c : Block} → r.match n x h' b y k' c → Stands n p q h k h' k' → Going n p q h k x h' b y k' c
+    fails : {y : B} {k' : Holding} {c : Block} → (s_step y k').last ≡ None → Going n p q h k x h' b y k' c
+    goes : {y : B} {k' : Holding} {c : Block} (y' : B) → (s_step y k').last ≡ Some (Goes y') → Going n p q h k x h' b y' (s_step y k').holding (s_on c y' 0 (s_step y k').holding) → Going n p q h k x h' b y k' c
+
+  -- once both stand there, with what their steps cost in addition, the source goes on to where the activations match
+  abbrev pub Ready : ℕ → Past → Past → A → ℕ → Holding → B → ℕ → Holding → Type 0
+  Ready n p q x extra h y more k = (b c : Block) → Within b c → Going n p q h k x h (t_on b x extra h) y k (s_on c y more k)
+
+  -- an activation begins or goes on where the source's does
+  abbrev pub ReadyIf : ℕ → Past → Past → Option A → ℕ → Holding → Option B → ℕ → Holding → Type 0
+  ReadyIf n p q (Some x) extra h (Some y) more k = Ready n p q x extra h y more k
+  ReadyIf n p q None extra h (Some y) more k = ⊥
+  ReadyIf n p q x extra h None more k = Unit {0}
+
+  -- two activations that wait for the same result, and go on with it at any later moment
+  abbrev pub WaitAlike : ℕ → Holding → Holding → (List Value → Option A) → (List Value → Option B) → Type 0
+  WaitAlike n h k next next' =
+      (p q : Past) (h' k' : Holding) → r.later (n + 1) h k h' k' → r.alike p h' q k' → (vs ws : List Value) → AllSame vs ws → ReadyIf n p q (next vs) 0 h' (next' ws) 0 k'
+
+  -- the source's activation does nothing with the result but return it, and has no blocks: the target has none in its place
+  abbrev pub PassesOn : G → Option B → List Value → Type 0
+  PassesOn g None ws = Unit {0}
+  PassesOn g (Some y) ws = (r.source.form y ≡ Then (Returns ws)) × (waiting_price r.target.tariff r.targets ≤ step_price r.source.tariff r.sources y)
+
+  abbrev pub OnlyPasses : G → (List Value → Option B) → Type 0
+  OnlyPasses g next = (r.source.blocks g ≡ []) × ((ws : List Value) → PassesOn g (next ws) ws)
+
+  -- the tail call of the target is one of the source, or a call whose result is only passed on
+  pub data TailAlike (n : ℕ) (p q : Past) (h k : Holding) (f : F) (g : G) (function : NameBytes) (vs : List Value) (h' k' : Holding) : Option (Last B) → Type 0 where
+    tail : (ws : List Value) → AllSame vs ws → Stands n p q h k h' k' → TailAlike n p q h k f g function vs h' k' (Some (Tails function ws))
+    passing : (ws : List Value) (next : List Value → Option B) → AllSame vs ws → Stands n p q h k (without_own r.target f n h') k' → OnlyPasses g next → TailAlike n p q h k f g function vs h' k' (Some (Calls function ws next))
+
+  -- what the source does at last where the target does this, but for a step that only goes on
+  abbrev pub LastAlike : ℕ → Past → Past → Holding → Holding → F → G → Last A → Holding → Option (Last B) → Holding → Type 0
+  LastAlike n p q h k f g (Goes x) h' o k' = ⊥
+  LastAlike n p q h k f g (Takes lock x) h' o k' =
+      (y : B) × (o ≡ Some (Takes lock y)) × Stands n p q h k h' k' × ((share : Share) → Ready n p q x 0 (with_share h' share) y 0 (with_share k' share))
+  LastAlike n p q h k f g (Gives lock x) h' o k' =
+      (y : B) × (o ≡ Some (Gives lock y)) × Stands n p q h k h' k' × ((share : Share) → Ready n p q x 0 (with_share h' share) y 0 (with_share k' share))
+  LastAlike n p q h k f g (Puts word x) h' o k' = (y : B) × (o ≡ Some (Puts word y)) × Stands n p q h k h' k' × Ready n p q x 0 h' y 0 k'
+  LastAlike n p q h k f g (Calls function vs next) h' o k' =
+      (ws : List Value) × (next' : List Value → Option B) × (o ≡ Some (Calls function ws next')) × AllSame vs ws × Stands n p q h k h' k' × WaitAlike n h' k' next next'
+  LastAlike n p q h k f g (Tails function vs) h' o k' = TailAlike n p q h k f g function vs h' k' o
+  LastAlike n p q h k f g (Returns vs) h' o k' = (ws : List Value) × (o ≡ Some (Returns ws)) × AllSame vs ws × Stands n p q h k h' k'
+
+  -- from y the source goes on quietly to a step that does the same at last, or it fails
+  pub data Meets (n : ℕ) (p q : Past) (h k : Holding) (f : F) (g : G) (last : Last A) (h' : Holding) : B → Holding → Type 0 where
+    meets : {y : B} {k' : Holding} → LastAlike n p q h k f g last h' (s_step y k').last (s_step y k').holding → Meets n p q h k f g last h' y k'
+    fails_first : {y : B} {k' : Holding} → (s_step y k').last ≡ None → Meets n p q h k f g last h' y k'
+    goes_first : {y : B} {k' : Holding} (y' : B) → (s_step y k').last ≡ Some (Goes y') → Meets n p q h k f g last h' y' (s_step y k').holding → Meets n p q h k f g last h' y k'
+
+  -- from y the source goes on quietly to a step that fails
+  pub data FailsSoon : B → Holding → Type 0 where
+    fails_now : {y : B} {k : Holding} → (s_step y k).last ≡ None → FailsSoon y k
+    goes_on : {y : B} {k : Holding} (y' : B) → (s_step y k).last ≡ Some (Goes y') → FailsSoon y' (s_step y k).holding → FailsSoon y k
+
+  -- what the source does where the target's step does this at last
+  abbrev pub Does : ℕ → Past → Past → Holding → Holding → F → G → Option (Last A) → Holding → Block → B → Block → Type 0
+  Does n p q h k f g None h' b y c = FailsSoon y k
+  Does n p q h k f g (Some (Goes x)) h' b y c = Going n p q h k x h' (t_on b x 0 h') y k c
+  Does n p q h k f g (Some (Takes lock x)) h' b y c = Meets n p q h k f g (Takes lock x) h' y k
+  Does n p q h k f g (Some (Gives lock x)) h' b y c = Meets n p q h k f g (Gives lock x) h' y k
+  Does n p q h k f g (Some (Puts word x)) h' b y c = Meets n p q h k f g (Puts word x) h' y k
+  Does n p q h k f g (Some (Calls function vs next)) h' b y c = Meets n p q h k f g (Calls function vs next) h' y k
+  Does n p q h k f g (Some (Tails function vs)) h' b y c = Meets n p q h k f g (Tails function vs) h' y k
+  Does n p q h k f g (Some (Returns vs)) h' b y c = Meets n p q h k f g (Returns vs) h' y k
+
+  -- the blocks and the called functions
+  pub record FineAt (x : A) (h : Holding) (b : Block) (y : B) (k : Holding) (c : Block) : Type 0 where
+    pub within : Within b c
+    pub opened : Subsequence (called (t_step x h).last) (called (s_step y k).last)
+
+  -- of the activations: one case for each step of the target
+  pub record Passes : Type 0 where
+    pub enters : (f : F) (g : G) → r.made f g → (p q : Past) (h k : Holding) → r.alike p h q k → (vs ws : List Value) → AllSame vs ws → ReadyIf p.begun (one_begun r.target p) (one_begun r.source q) (r.target.enter f p.begun vs) (first_price r.target.tariff r.target.blocks f) (with_own r.target f p.begun h) (r.source.enter g q.begun ws) (first_price r.source.tariff r.source.blocks g) (with_own r.source g q.begun k)
+    pub fine : (n : ℕ) (p q : Past) (x : A) (h : Holding) (b : Block) (y : B) (k : Holding) (c : Block) → r.match n x h b y k c → r.alike p h q k → FailsSoon y k ⊎ FineAt x h b y k c
+    pub does : (n : ℕ) (f : F) (g : G) → r.made f g → (p q : Past) (x : A) (h : Holding) (b : Block) (y : B) (k : Holding) (c : Block) → r.match n x h b y k c → r.alike p h q k → Does n p q h k f g (t_step x h).last (t_step x h).holding b y c
+
+  -- what the outside left is the same value, or none where the source has none
+  abbrev pub SameIf : Option (List Value) → Option (List Value) → Type 0
+  SameIf (Some vs) (Some ws) = AllSame vs ws
+  SameIf None (Some ws) = ⊥
+  SameIf vs None = Unit {0}
+
+  -- the holdings with what the outside brings
+  abbrev pub brought_in : Past → Holding → Crossing → Crossed
+  brought_in p h crossing = brought h.memory p.naming 0 crossing.objects
+
+  abbrev pub heard : Past → Holding → Crossing → Holding
+  heard p h crossing = record { share = crossing.share; memory = (brought_in p h crossing).memory }
+
+  -- of what both threads hold: the layer's steps keep it alike
+  pub record Keeps : Type 0 where
+    pub names : (f : F) (g : G) → r.made f g → r.target.name f ≡ r.source.name g
+    pub numbers : (w : ℕ) → r.same (Number w) (Number w)
+    pub first : r.alike no_past no_holding no_past no_holding
+    pub begun : (p q : Past) (h k : Holding) → r.alike p h q k → p.begun ≡ q.begun
+    pub shares : (p q : Past) (h k : Holding) → r.alike p h q k → h.share ≡ k.share
+    pub at_once : (n : ℕ) (h k : Holding) → r.later n h k h k
+    pub then_later : (n : ℕ) (h k h' k' h'' k'' : Holding) → r.later n h k h' k' → r.later n h' k' h'' k'' → r.later n h k h'' k''
+    pub fewer : (m n : ℕ) (h k h' k' : Holding) → m ≤ n → r.later n h k h' k' → r.later m h k h' k'
+    pub shared : (n : ℕ) (p q : Past) (h k : Holding) (share : Share) → r.alike p h q k → Stands n p q h k (with_share h share) (with_share k share)
+    pub begins : (f : F) (g : G) → r.made f g → (p q : Past) (h k : Holding) → r.alike p h q k → Stands p.begun (one_begun r.target p) (one_begun r.source q) h k (with_own r.target f p.begun h) (with_own r.source g q.begun k)
+    pub ends : (n : ℕ) (f : F) (g : G) → r.made f g → (p q : Past) (h k : Holding) → r.alike p h q k → Stands n p q h k (without_own r.target f n h) (without_own r.source g n k)
+    pub shows : (p q : Past) (h k : Holding) → r.alike p h q k → (vs ws : List Value) → AllSame vs ws → can_show_all r.setting.layout q.naming ws ≡ true → can_show_all r.placed p.naming vs ≡ true
+    pub crosses : (p q : Past) (h k : Holding) → r.alike p h q k → (vs ws : List Value) → AllSame vs ws → (crossing : Crossing) (ns : Naming) → crosses_as r.setting.layout ws q k crossing ≡ Some ns → (ms : Naming) × (crosses_as r.placed vs p h crossing ≡ Some ms) × r.alike (with_naming p ms) h (with_naming q ns) k
+    pub hears : (n : ℕ) (p q : Past) (h k : Holding) → r.alike p h q k → (crossing : Crossing) → Stands n (with_naming p (brought_in p h crossing).naming) (with_naming q (brought_in q k crossing).naming) h k (heard p h crossing) (heard q k crossing) × SameIf (all_taken (brought_in p h crossing).naming crossing.values) (all_taken (brought_in q k crossing).naming crossing.values)
+
+  -- the constants are prices, and waiting costs no more than in the source
+  pub record Pays : Type 0 where
+    pub prices : IsTariff r.target.tariff
+    pub waits : waiting_price r.target.tariff r.targets ≤ waiting_price r.source.tariff r.sources
+
+  -- all that a pass shows where these functions run together
+  pub record IsPass : Type 0 where
+    pub keeps : Keeps
+    pub pays : Pays
+    pub passes : Passes
+
+-- each of the target's functions is made of the source's in its place
+abbrev pub AllMade : {F G : Type 0} → (F → G → Type 0) → List F → List G → Type 0
+AllMade made [] [] = Unit {0}
+AllMade made [] (g ∷ gs) = ⊥
+AllMade made (f ∷ fs) [] = ⊥
+AllMade made (f ∷ fs) (g ∷ gs) = made f g × AllMade made fs gs
+
+abbrev pub IsMember : {X : Type 0} → X → List X → Type 0
+IsMember x [] = ⊥
+IsMember x (y ∷ ys) = (x ≡ y) ⊎ IsMember x ys
+
+-- the function is made of the other, and both are among those that run together
+abbrev pub MadeAmong : {F G : Type 0} → (F → G → Type 0) → List F → List G → F → G → Type 0
+MadeAmong made ts ss f g = made f g × IsMember f ts × IsMember g ss
+
+-- the relation that a pass names for each setting and all functions that run together
+abbrev pub relation : {F A G B : Type 0} → Activations F A → Activations G B → (F → G → Type 0) → (List G → Layout → Layout) → (Setting → List F → List G → Value → Value → Type 0) → (Setting → List F → List G → Past → Holding → Past → Holding → Type 0) → (Setting → List F → List G → ℕ → Holding → Holding → Holding → Holding → Type 0) → (Setting → List F → List G → ℕ → A → Holding → Block → B → Holding → Block → Type 0) → List F → List G → Setting → Relation F A G B
+relation target source made naming same alike later match ts ss setting = record {
+  target = target;
+  source = source;
+  setting = setting;
+  placed = naming ss setting.layout;
+  targets = ts;
+  sources = ss;
+  made = MadeAmong made ts ss;
+  same = same setting ts ss;
+  alike = alike setting ts ss;
+  later = later setting ts ss;
+  match = match setting ts ss;
+}

@@ -1,0 +1,80 @@
+ghost use Rattle.std.specs.Prelude.{◌≡◌, ℕ, IfOk, List};
+ghost use Rattle.cas_base.specs.declared.decl.Decl.{Decl};
+ghost use Rattle.cas_base.specs.declared.decl.Unit.{Unit as UnitOf};
+ghost use Rattle.cas_runs.specs.Access.{Holding, Words};
+ghost use Rattle.cas_runs.specs.Calls.{Activations, Past, language};
+ghost use Rattle.cas_runs.specs.Edge.{Edge};
+ghost use Rattle.cas_runs.specs.Label.{NameBytes};
+ghost use Rattle.cas_runs.specs.Machine.{Block};
+ghost use Rattle.cas_runs.specs.Naming.{Layout, Value};
+ghost use Rattle.cas_runs.specs.Passing.{AllMade, IsPass, relation};
+ghost use Rattle.cas_runs.specs.Unit.{FunctionRefines, IsLayout, Setting, ThreadRefines, UnitRefines};
+
+use cas_base::NoMemory;
+use std::alloc::Global;
+
+/// A pass that makes a function of a function, where the calls of both languages are those of the layer of
+/// calls. An implementation names how values, what threads hold, and activations are related, for all
+/// functions that run together; its law `passes` has one case for each step of an activation of the target.
+/// What it makes then refines as a function, as a unit and as a thread.
+pub trait FunctionPass {
+    type Source;
+
+    type Target;
+
+    ghost source_activation: { Type 0 };
+
+    ghost target_activation: { Type 0 };
+
+    ghost source: { Activations Self.Source source_activation };
+
+    ghost target: { Activations Self.Target target_activation };
+
+    ghost made: { Self.Target → Self.Source → Type 0 };
+
+    ghost naming: { List Self.Source → Layout → Layout };
+
+    ghost same: { Setting → List Self.Target → List Self.Source → Value → Value → Type 0 };
+
+    ghost alike: { Setting → List Self.Target → List Self.Source → Past → Holding → Past → Holding → Type 0 };
+
+    ghost later: { Setting → List Self.Target → List Self.Source → ℕ → Holding → Holding → Holding → Holding → Type 0 };
+
+    ghost matches: { Setting → List Self.Target → List Self.Source → ℕ → target_activation → Holding → Block → source_activation → Holding → Block → Type 0 };
+
+    /// What the pass makes of the function.
+    fn translate(&self, alloc: Global, from: &Self::Source) -> Result<Self::Target, NoMemory>
+        ensures { IfOk result (λ to. made to from.now) };
+
+    /// The law that the target's objects are laid out where the source's are.
+    fn laid_out_too()
+        ensures { (ts : List Self.Target) (ss : List Self.Source) → AllMade made ts ss → (layout : Layout) → IsLayout (language source) ss layout → IsLayout (language target) ts (naming ss layout) };
+
+    /// The law that what is related so is a pass.
+    fn passes()
+        ensures { (setting : Setting) (ts : List Self.Target) (ss : List Self.Source) → AllMade made ts ss → IsLayout (language source) ss setting.layout → IsPass (relation target source made naming same alike later matches ts ss setting) };
+}
+
+/// What a pass makes of a function refines it, where each runs alone.
+pub fn functions_refine<P: FunctionPass>()
+    ensures { (decl : Decl) (a : P.Source) (b : P.Target) → P.target.name b ≡ decl.name → P.source.name a ≡ decl.name → P.made b a → FunctionRefines (language P.target) (language P.source) decl b a }
+{
+    P::laid_out_too();
+    P::passes();
+}
+
+/// A unit of such functions, with the same declarations and data, refines the unit of the others.
+pub fn units_refine<P: FunctionPass>()
+    ensures { (s : UnitOf P.Source) (t : UnitOf P.Target) → t.decls ≡ s.decls → t.globals ≡ s.globals → AllMade P.made t.funs s.funs → UnitRefines (language P.target) (language P.source) t s }
+{
+    P::laid_out_too();
+    P::passes();
+}
+
+/// Each thread of a whole program of such functions refines the thread of the other program.
+pub fn threads_refine<P: FunctionPass>()
+    ensures { (edge : Edge) (words : Words) (ss : List P.Source) (ts : List P.Target) (entry : NameBytes) (thread : ℕ) → AllMade P.made ts ss → ThreadRefines (language P.target) (language P.source) edge words ts ss entry thread }
+{
+    P::laid_out_too();
+    P::passes();
+}

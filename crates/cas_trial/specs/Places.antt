@@ -1,0 +1,49 @@
+-- Where the pass puts the variables, and which stages are the same.
+use Rattle.std.specs.Prelude.{◌≡◌, ℕ, zero, suc, List, [], ◌∷◌, ◌++◌, Option, Some, None, if◌then◌else◌}
+use Rattle.cas_runs.specs.Label.{NameBytes, same_name}
+use Rattle.cas_runs.specs.Naming.{Value, Part, Layout}
+use Rattle.cas_runs.specs.Placing.{Spot, Placing, SameMoved, moved_part}
+use Rattle.cas_trial.specs.declared.joining.Apart.{Apart}
+use Rattle.cas_trial.specs.declared.joining.Joined.{Joined}
+use Rattle.cas_trial.specs.Stages.{main_name, Stage, Begins, Locks, Holds, Unlocks, Shows, Loading, Ends}
+
+-- the joined program has the values of the other
+pub record IsJoined (to : Joined) (from : Apart) : Type 0 where
+  pub first : to.cells.0 ≡ from.first
+  pub second : to.cells.1 ≡ from.second
+
+abbrev pub spot_of : ℕ → Option Spot
+spot_of zero = Some (record { block = 0; offset = 0 })
+spot_of (suc zero) = Some (record { block = 0; offset = 1 })
+spot_of (suc (suc block)) = None
+
+-- the variables of `main` in its one block, where there is such a function
+abbrev pub places : List Apart → Placing
+places [] = λ function block. None
+places (f ∷ fs) = λ function block. if same_name function main_name then spot_of block else None
+
+abbrev pub moved_parts : ℕ → List Part → List Part
+moved_parts offset [] = []
+moved_parts offset (p ∷ ps) = moved_part offset p ∷ moved_parts offset ps
+
+abbrev pub joined_parts : (ℕ → List Part) → ℕ → List Part
+joined_parts parts zero = moved_parts 0 (parts 0) ++ moved_parts 1 (parts 1)
+joined_parts parts (suc block) = []
+
+-- the objects go with their blocks
+abbrev pub joins : Layout → Layout
+joins layout = λ function. if same_name function main_name then joined_parts (layout function) else layout function
+
+-- each variable is one word
+abbrev pub one_word : NameBytes → ℕ → ℕ
+one_word function block = 1
+
+-- both stand at the same stage of a program that runs
+pub data SameStage : List Apart → Stage → Stage → Type 0 where
+  begins : {f : Apart} {fs : List Apart} {first second serial : ℕ} → SameStage (f ∷ fs) (Begins first second serial) (Begins first second serial)
+  locks : {f : Apart} {fs : List Apart} {first serial : ℕ} → SameStage (f ∷ fs) (Locks first serial) (Locks first serial)
+  holds : {f : Apart} {fs : List Apart} {first serial : ℕ} → SameStage (f ∷ fs) (Holds first serial) (Holds first serial)
+  unlocks : {f : Apart} {fs : List Apart} {serial : ℕ} → SameStage (f ∷ fs) (Unlocks serial) (Unlocks serial)
+  shows : {f : Apart} {fs : List Apart} {serial : ℕ} → SameStage (f ∷ fs) (Shows serial) (Shows serial)
+  loading : {f : Apart} {fs : List Apart} {v w : Value} → SameMoved (places (f ∷ fs)) v w → SameStage (f ∷ fs) (Loading v) (Loading w)
+  ends : {f : Apart} {fs : List Apart} → SameStage (f ∷ fs) Ends Ends

@@ -1,0 +1,84 @@
+-- Two small languages with blocks of memory. A program's function `main` sets two variables, stores the first under a lock, shows the place after
+-- it to the outside, and puts out what stands at the place that comes back. Its variables are blocks of their own, or one block.
+use Rattle.std.specs.Prelude.{ℕ, List, [], ◌∷◌, Option, Some, None}
+use Rattle.cas_runs.specs.Label.{NameBytes}
+use Rattle.cas_runs.specs.Naming.{Own, Value, Number, Pointer}
+use Rattle.cas_runs.specs.Bounds.{ByForms}
+use Rattle.cas_runs.specs.Access.{Accesses, Writes, Loads, Stores, Then, Fails}
+use Rattle.cas_runs.specs.Calls.{Last, Goes, Takes, Gives, Puts, Calls, Returns, Activations}
+use Rattle.cas_trial.specs.declared.joining.Apart.{Apart}
+use Rattle.cas_trial.specs.declared.joining.Joined.{Joined}
+
+-- the names `main`, `show`, `l` and `g`
+abbrev pub main_name : NameBytes
+main_name = 109 ∷ 97 ∷ 105 ∷ 110 ∷ []
+
+abbrev pub show_name : NameBytes
+show_name = 115 ∷ 104 ∷ 111 ∷ 119 ∷ []
+
+abbrev pub lock_name : NameBytes
+lock_name = 108 ∷ []
+
+abbrev pub global_name : NameBytes
+global_name = 103 ∷ []
+
+-- where an activation stands
+pub data Stage : Type 0 where
+  Begins : (first second serial : ℕ) → Stage
+  Locks : (first serial : ℕ) → Stage
+  Holds : (first serial : ℕ) → Stage
+  Unlocks : (serial : ℕ) → Stage
+  Shows : (serial : ℕ) → Stage
+  Loading : (at : Value) → Stage
+  Ends : Stage
+
+abbrev pub puts : Value → Accesses (Last Stage)
+puts (Number w) = Then (Puts w Ends)
+puts (Pointer home at) = Fails
+
+abbrev pub puts_at : Value → Accesses (Last Stage)
+puts_at (Number w) = Fails
+puts_at (Pointer home at) = Loads home at puts
+
+abbrev pub came_back : List Value → Option Stage
+came_back [] = None
+came_back (v ∷ []) = Some (Loading v)
+came_back (v ∷ w ∷ vs) = None
+
+-- the steps, where the second variable stands at this place of this block of the activation
+abbrev pub form : (block place : ℕ) → Stage → Accesses (Last Stage)
+form block place (Begins first second serial) = Stores (Own main_name serial 0) 0 (Number first) (Stores (Own main_name serial block) place (Number second) (Then (Goes (Locks first serial))))
+form block place (Locks first serial) = Then (Takes lock_name (Holds first serial))
+form block place (Holds first serial) = Writes global_name 0 first (Then (Goes (Unlocks serial)))
+form block place (Unlocks serial) = Then (Gives lock_name (Shows serial))
+form block place (Shows serial) = Then (Calls show_name (Pointer (Own main_name serial 0) 1 ∷ []) came_back)
+form block place (Loading v) = puts_at v
+form block place Ends = Then (Returns [])
+
+abbrev pub enters : (first second serial : ℕ) → List Value → Option Stage
+enters first second serial [] = Some (Begins first second serial)
+enters first second serial (v ∷ vs) = None
+
+-- each of the seven forms costs this
+abbrev pub seven : ℕ → List ℕ
+seven price = price ∷ price ∷ price ∷ price ∷ price ∷ price ∷ price ∷ []
+
+-- each variable a block of its own
+abbrev pub apart : Activations Apart Stage
+apart = record {
+  name = λ f. main_name;
+  blocks = λ f. 1 ∷ 1 ∷ [];
+  enter = λ f serial values. enters f.first f.second serial values;
+  form = form 1 0;
+  tariff = ByForms (λ a. 2) (λ a. []) 1 (λ f. 0) (λ f. 0) (λ f. seven 2);
+}
+
+-- both in one block, in which the end of the first is the beginning of the second
+abbrev pub joined : Activations Joined Stage
+joined = record {
+  name = λ f. main_name;
+  blocks = λ f. 2 ∷ [];
+  enter = λ f serial values. enters f.cells.0 f.cells.1 serial values;
+  form = form 0 1;
+  tariff = ByForms (λ a. 1) (λ a. []) 1 (λ f. 0) (λ f. 0) (λ f. seven 1);
+}

@@ -1,0 +1,5 @@
+use Rattle.cas_typed.proofs.Filled.{IsTyped-filled}
+use Rattle.cas_typed.proofs.laws.typed_modules_are_filled.Goals as goal
+
+pub returns : goal.returns
+returns c = IsTyped-filled

@@ -1,0 +1,11 @@
+pub mod Counts
+pub mod Faults
+pub mod Modules
+pub mod Numbered
+pub mod Resolved
+pub mod Resolving
+pub mod Scopes
+pub mod Sorts
+pub mod Types
+pub mod Typing
+pub mod Walk

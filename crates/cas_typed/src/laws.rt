@@ -1,0 +1,41 @@
+//! Laws of the definitions, each the contract of a function without effect.
+
+ghost use Rattle.std.specs.Prelude.{◌≡◌, ◌⊎◌, ◌↔◌, ◌<◌, ℕ, List, Ok, All};
+ghost use Rattle.cas_base.specs.declared.place.Place.{Place};
+ghost use Rattle.cas_syntax.specs.Tree.{ModuleTree};
+ghost use Rattle.cas_typed.specs.Faults.{Fault};
+ghost use Rattle.cas_typed.specs.Modules.{IsTyped};
+ghost use Rattle.cas_typed.specs.Numbered.{IsRow, parts_of};
+ghost use Rattle.cas_typed.specs.Resolved.{TypedModuleTree, TypedStmtTree};
+ghost use Rattle.cas_typed.specs.Sorts.{IsSortedModule};
+ghost use Rattle.cas_typed.specs.declared.rows.StmtRow.{StmtRow};
+ghost use Rattle.cas_typed.specs.declared.rows.StmtRowForm.{StmtRowForm};
+ghost use Rattle.cas_typed.specs.Walk.{walk_module, HasTypeFault};
+
+/// The rules of types hold of a module exactly where the walk through it meets no fault, and with what it is resolved
+/// to there. So each module is typed in one way, or has one first fault, and never both.
+pub fn modules_are_typed_or_refused()
+    ensures walk { (m : ModuleTree) (r : TypedModuleTree) → IsTyped m r ↔ (walk_module m ≡ Ok r) }
+    ensures either { (m : ModuleTree) → ((r : TypedModuleTree) × IsTyped m r) ⊎ ((f : Fault) × HasTypeFault m f) }
+    ensures one_way { (m : ModuleTree) (r s : TypedModuleTree) → IsTyped m r → IsTyped m s → r ≡ s }
+    ensures one_fault { (m : ModuleTree) (f g : Fault) → HasTypeFault m f → HasTypeFault m g → f ≡ g }
+    ensures not_both { (m : ModuleTree) (r : TypedModuleTree) (f : Fault) → IsTyped m r → ¬ (HasTypeFault m f) }
+{}
+
+/// A module with its values filled up is typed as the module itself: so the filled module alone says what is typed.
+pub fn typed_modules_are_filled()
+    ensures { (m : ModuleTree) (r : TypedModuleTree) → IsTyped m r → IsTyped r.module_tree r }
+{}
+
+/// The parts of a statement's row have greater numbers than it.
+pub fn parts_of_rows_are_later()
+    ensures { (rows : List StmtRow) (n : ℕ) (a : TypedStmtTree) (p : Place) (form : StmtRowForm) → IsRow rows n a p form
+        → All (λ i. n < i) (parts_of form) }
+{}
+
+/// The functions of a typed module are well sorted: locals and items are there and of the wanted types, operators have
+/// words or pointers as they want them, each value that is written, given or returned has the type that it goes to, and
+/// `break` and `continue` stand in loops.
+pub fn typed_functions_are_sorted()
+    ensures { (m : ModuleTree) (r : TypedModuleTree) → IsTyped m r → IsSortedModule r }
+{}
