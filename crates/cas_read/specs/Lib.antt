@@ -1,2 +1,3 @@
 pub mod Frames
 pub mod Machine
+pub mod Follow

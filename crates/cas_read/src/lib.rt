@@ -1,2 +1,7 @@
 //! The reader of module texts: it answers the tree that the grammar gives a text, or the text's first fault.
 #![tactic(auto)]
+
+mod front;
+mod kind;
+mod limit;
+mod stop;
