@@ -1,22 +1,29 @@
 -- What a function that reads tells of the machine. The limits are asked of every token.
-use Rattle.std.specs.Prelude.{◌≡◌, ℕ, List, [], ◌∷◌, length, Result, Ok, Err}
+use Rattle.std.specs.Prelude.{◌≡◌, ℕ, Bool, true, false, List, [], ◌∷◌, length, Option, Some, None, Result, Ok, Err}
 use Rattle.cas_base.specs.declared.place.Place.{Place}
 use Rattle.cas_lex.specs.declared.code.ReadCode.TheVariants.{R6}
 use Rattle.cas_lex.specs.declared.token.Token.{Token}
 use Rattle.cas_lex.specs.declared.token.TokenKind.{TokenKind}
+use Rattle.cas_lex.specs.declared.token.Sign.{Sign}
+use Rattle.cas_syntax.specs.Operators.{Infix, always_both, logical_and, logical_or}
 use Rattle.cas_syntax.specs.Reading.{within}
+use Rattle.cas_read.specs.declared.operator.Infix as o
+use Rattle.cas_read.specs.declared.operator.Infix.TheVariants as ov
+use Rattle.cas_read.specs.declared.operator.Prefix as o'
+use Rattle.cas_read.specs.declared.operator.Prefix.TheVariants as pv
 use Rattle.cas_read.specs.declared.stop.Stop.{Stop}
 use Rattle.cas_read.specs.declared.stop.Stop.TheVariants.{Memory, At}
-use Rattle.cas_read.specs.Frames.{Control, Frame}
-use Rattle.cas_read.specs.Machine.{Verdict, Outcome, run, go}
+use Rattle.cas_read.specs.Frames.{Control, Frame, Prefix, Operates, Points, Casts}
+use Rattle.cas_read.specs.Machine.{Verdict, Outcome, finish, shift, go, begins_kind, require, counted}
 
 -- the machine's verdict on tokens
 abbrev pub verdict : List Token → Control → List Frame → Verdict
-verdict tokens c st = run (within 0) tokens c st
+verdict [] c st = finish c
+verdict (t ∷ rest) c st = go (verdict rest) (length rest) (shift (within 0) false false t c st)
 
 -- the verdict where these tokens are left behind the one that was taken
 abbrev pub taken : List Token → Outcome → Verdict
-taken rest o = go (run (within 0) rest) (length rest) o
+taken rest o = go (verdict rest) (length rest) o
 
 -- the verdict where the first token is taken so
 abbrev pub takes : List Token → (Place → TokenKind → Outcome) → Verdict
@@ -32,3 +39,34 @@ Fails (At code left) v = v ≡ Err (record { code = code; left = left })
 abbrev pub Follows : {X : Type 0} → Result X Stop → Verdict → (X → Verdict) → Type 0
 Follows (Ok x) v next = v ≡ next x
 Follows (Err e) v next = Fails e v
+
+-- the operators of the code
+
+abbrev pub infix_shape : o.Infix → Infix
+infix_shape (ov.Both op) = always_both op
+infix_shape ov.And = logical_and
+infix_shape ov.Or = logical_or
+
+abbrev pub infix_shapes : Option o.Infix → Option Infix
+infix_shapes None = None
+infix_shapes (Some op) = Some (infix_shape op)
+
+abbrev pub prefix_shape : o'.Prefix → Prefix
+prefix_shape (pv.Operates op) = Operates op
+prefix_shape pv.Points = Points
+prefix_shape (pv.Casts kd) = Casts kd
+
+-- whether words are counted
+abbrev pub are_counted : Option ℕ → Bool
+are_counted None = false
+are_counted (Some n) = true
+
+-- whether the first token begins the words of a kind
+abbrev pub next_begins_kind : List Token → Bool
+next_begins_kind [] = false
+next_begins_kind (t ∷ rest) = begins_kind t.kind
+
+-- the verdict where a sign has to stand that counts among so many tokens of an outermost expression
+abbrev pub closes : Sign → ℕ → List Token → Control → List Frame → Verdict
+closes s b [] c st = Err (record { code = R6; left = 0 })
+closes s b (t ∷ rest) c st = taken rest (require s t.kind (counted (within 0) false false b (Ok (c, st))))

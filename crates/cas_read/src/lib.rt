@@ -1,7 +1,9 @@
 //! The reader of module texts: it answers the tree that the grammar gives a text, or the text's first fault.
 #![tactic(auto)]
 
+mod build;
 mod front;
 mod kind;
 mod limit;
+mod operator;
 mod stop;
