@@ -4,7 +4,7 @@ ghost use Rattle.std.specs.Prelude.{◌≡◌, ◌<◌, ◌≤◌, length, List,
 ghost use Rattle.cas_read.specs.Frames.{Control, Frame, WantKind, HaveKind, MayEndInt, Signed, Unsigned};
 ghost use Rattle.cas_read.specs.Machine as machine;
 ghost use Rattle.cas_syntax.specs.Reading.{within};
-ghost use Rattle.cas_read.specs.Follow.{Follows, taken, verdict};
+ghost use Rattle.cas_read.specs.Follow.{Follows, taken, verdict, next_begins_kind, are_counted};
 
 use crate::limit::count;
 use crate::stop::{Stop, fault};
@@ -21,9 +21,20 @@ pub fn begins_kind(kind: &TokenKind) -> bool
     )
 }
 
+/// Whether the first token begins the words of a kind.
+pub fn begins_kind_at(tokens: &[Token]) -> bool
+    ensures { result ≡ next_begins_kind tokens.now }
+{
+    match tokens.split_first() {
+        Some((token, _)) => begins_kind(&token.kind),
+        None => false,
+    }
+}
+
 /// The kind whose words stand here, the tokens that the expression then has, and what stands behind the words.
 pub fn kind(tokens: &[Token], used: Option<usize>) -> Result<(Kind, Option<usize>, &[Token]), Stop>
     ensures follows { (st : List Frame) → Follows result (verdict tokens.now (WantKind used) st) (λ p. verdict p.2.now (HaveKind p.1 p.0) st) }
+    ensures counts { IfOk result (λ p. are_counted p.1 ≡ are_counted used) }
     ensures shorter { IfOk result (λ p. length p.2.now < length tokens.now) }
 {
     let Some((token, rest)) = tokens.split_first() else {
@@ -42,6 +53,7 @@ pub fn kind(tokens: &[Token], used: Option<usize>) -> Result<(Kind, Option<usize
 // The kind behind `signed`.
 fn signed(tokens: &[Token], used: Option<usize>) -> Result<(Kind, Option<usize>, &[Token]), Stop>
     ensures follows { (st : List Frame) → Follows result (verdict tokens.now (Signed used) st) (λ p. verdict p.2.now (HaveKind p.1 p.0) st) }
+    ensures counts { IfOk result (λ p. are_counted p.1 ≡ are_counted used) }
     ensures no_longer { IfOk result (λ p. length p.2.now ≤ length tokens.now) }
 {
     let Some((token, rest)) = tokens.split_first() else {
@@ -58,6 +70,7 @@ fn signed(tokens: &[Token], used: Option<usize>) -> Result<(Kind, Option<usize>,
 // The kind behind `unsigned`.
 fn unsigned(tokens: &[Token], used: Option<usize>) -> Result<(Kind, Option<usize>, &[Token]), Stop>
     ensures follows { (st : List Frame) → Follows result (verdict tokens.now (Unsigned used) st) (λ p. verdict p.2.now (HaveKind p.1 p.0) st) }
+    ensures counts { IfOk result (λ p. are_counted p.1 ≡ are_counted used) }
     ensures no_longer { IfOk result (λ p. length p.2.now ≤ length tokens.now) }
 {
     let Some((token, rest)) = tokens.split_first() else {
@@ -74,6 +87,7 @@ fn unsigned(tokens: &[Token], used: Option<usize>) -> Result<(Kind, Option<usize
 // This kind, behind whose words so far `int` may stand.
 fn may_end_int(tokens: &[Token], used: Option<usize>, kind: Kind) -> Result<(Kind, Option<usize>, &[Token]), Stop>
     ensures follows { (st : List Frame) → Follows result (verdict tokens.now (MayEndInt used kind) st) (λ p. verdict p.2.now (HaveKind p.1 p.0) st) }
+    ensures counts { IfOk result (λ p. are_counted p.1 ≡ are_counted used) }
     ensures no_longer { IfOk result (λ p. length p.2.now ≤ length tokens.now) }
 {
     let Some((token, rest)) = tokens.split_first() else {

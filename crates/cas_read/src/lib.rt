@@ -2,6 +2,7 @@
 #![tactic(auto)]
 
 mod build;
+mod expr;
 mod front;
 mod kind;
 mod limit;
