@@ -287,7 +287,7 @@ module _ (limits : Limits) (near leaves : Bool) where
   -- a token behind a name, or behind `&` and a name
   abbrev pub after_operand_name : ℕ → ℕ → Bool → Ident → List Frame → TokenKind → Outcome
   after_operand_name b l taken x st (k.Sign sg.OpenBracket) = counted b (Ok (WantExpr (b + 1) 1, InBrackets l taken x ∷ st))
-  after_operand_name b l taken x st (k.Sign sg.OpenParen) = leave (HaveExpr (b + 1) l (named taken x)) st
+  after_operand_name b l taken x st (k.Sign sg.OpenParen) = if leaves then counted b (Ok (HaveExpr (b + 1) l (named taken x), st)) else Err R7
   after_operand_name b l taken x st kind = have b l (named taken x) st kind
 
   abbrev pub taking : ℕ → ℕ → List Frame → Place → TokenKind → Outcome
