@@ -1,5 +1,5 @@
 -- What a function that reads tells of the machine. The limits are asked of every token.
-use Rattle.std.specs.Prelude.{◌≡◌, ℕ, Bool, true, false, List, [], ◌∷◌, length, Option, Some, None, Result, Ok, Err}
+use Rattle.std.specs.Prelude.{◌≡◌, ℕ, Bool, true, false, List, [], ◌∷◌, length, map, Option, Some, None, Result, Ok, Err}
 use Rattle.cas_base.specs.declared.place.Place.{Place}
 use Rattle.cas_lex.specs.declared.code.ReadCode.TheVariants.{R6}
 use Rattle.cas_lex.specs.declared.token.Token.{Token}
@@ -7,14 +7,18 @@ use Rattle.cas_lex.specs.declared.token.TokenKind.{TokenKind}
 use Rattle.cas_lex.specs.declared.token.Sign.{Sign}
 use Rattle.cas_syntax.specs.Operators.{Infix, always_both, logical_and, logical_or}
 use Rattle.cas_syntax.specs.Reading.{within}
+use Rattle.cas_syntax.specs.Tokens.{is_opening_paren}
+use Rattle.cas_syntax.specs.Tree.{TargetTree, expr_tree}
 use Rattle.cas_read.specs.declared.operator.Infix as o
 use Rattle.cas_read.specs.declared.operator.Infix.TheVariants as ov
 use Rattle.cas_read.specs.declared.operator.Prefix as o'
 use Rattle.cas_read.specs.declared.operator.Prefix.TheVariants as pv
+use Rattle.cas_read.specs.declared.call.Value.{Value}
+use Rattle.cas_read.specs.declared.call.Value.TheVariants as vv
 use Rattle.cas_read.specs.declared.stop.Stop.{Stop}
 use Rattle.cas_read.specs.declared.stop.Stop.TheVariants.{Memory, At}
-use Rattle.cas_read.specs.Frames.{Control, Frame, Prefix, Operates, Points, Casts}
-use Rattle.cas_read.specs.Machine.{Verdict, Outcome, finish, shift, go, begins_kind, require, counted}
+use Rattle.cas_read.specs.Frames.{Control, Given, WantValue, Frame, ValueOf, Prefix, Operates, Points, Casts, Receiver, Keeps, Use}
+use Rattle.cas_read.specs.Machine.{Verdict, Outcome, finish, shift, go, begins_kind, require, counted, resulted, reached, simple_started}
 
 -- the machine's verdict on tokens
 abbrev pub verdict : List Token → Control → List Frame → Verdict
@@ -70,3 +74,21 @@ next_begins_kind (t ∷ rest) = begins_kind t.kind
 abbrev pub closes : Sign → ℕ → List Token → Control → List Frame → Verdict
 closes s b [] c st = Err (record { code = R6; left = 0 })
 closes s b (t ∷ rest) c st = taken rest (require s t.kind (counted (within 0) false false b (Ok (c, st))))
+
+-- whether the first token is `(`
+abbrev pub next_opens : List Token → Bool
+next_opens [] = false
+next_opens (t ∷ rest) = is_opening_paren t.kind
+
+-- the verdict where a value stands behind which these tokens are left
+abbrev pub has_value : List Token → Receiver → Value → List Frame → Verdict
+has_value ts r (vv.Expr x) st = verdict ts (Given 0 (expr_tree x)) (ValueOf r ∷ st)
+has_value ts r (vv.Call f xs) st = verdict ts (resulted (Keeps r f) (map expr_tree xs)) st
+
+-- the verdict where a target stands behind which these tokens are left
+abbrev pub reaches : List Token → Use → TargetTree → List Frame → Verdict
+reaches ts usage target st = verdict ts (reached usage target st).0 (reached usage target st).1
+
+-- the verdict where an assignment or a call has to begin
+abbrev pub begins_simple : List Token → List Frame → Verdict
+begins_simple ts st = takes ts (simple_started (within 0) false false st)

@@ -5,7 +5,7 @@ ghost use Rattle.cas_lex.specs.declared.token.Sign.TheVariants as sg;
 ghost use Rattle.cas_syntax.specs.Operators as operators;
 ghost use Rattle.cas_syntax.specs.Reading.{within};
 ghost use Rattle.cas_syntax.specs.Tree.{expr_tree, ExprTree};
-ghost use Rattle.cas_read.specs.Frames.{Control, Frame, WantExpr, HaveExpr, Given, Named, Opened, Taking, WantKind, CastKind, InParens, InBrackets, Before, Right, Then};
+ghost use Rattle.cas_read.specs.Frames.{Control, Frame, WantExpr, HaveExpr, Given, WantOutermost, Named, Opened, Taking, WantKind, CastKind, InParens, InBrackets, Before, Right, Then};
 ghost use Rattle.cas_read.specs.Machine.{counted, risen};
 ghost use Rattle.cas_read.specs.Follow.{Follows, taken, verdict, closes, infix_shapes, prefix_shape};
 
@@ -18,6 +18,15 @@ use crate::stop::{Stop, fault, wrong};
 use cas_lex::{ReadCode, Sign, Token, TokenKind};
 use cas_syntax::{Expr, Ident, UnaryOperator};
 use std::alloc::Global;
+
+/// An expression that stands in no other, with its tokens and what stands behind.
+#[tactic(auto, using(crate::proofs::Steps::wants_outermost))]
+pub fn outermost(alloc: Global, tokens: &[Token]) -> Result<(Expr, usize, &[Token]), Stop>
+    ensures follows { (st : List Frame) → Follows result (verdict tokens.now WantOutermost st) (λ p. verdict p.2.now (Given p.1 (expr_tree p.0)) st) }
+    ensures shorter { IfOk result (λ p. length p.2.now < length tokens.now) }
+{
+    expr(alloc, tokens, 0, 1)
+}
 
 /// An expression of operators that bind as tightly as `least`, with the tokens that the outermost expression then has
 /// and what stands behind.

@@ -2,9 +2,13 @@
 #![tactic(auto)]
 
 mod build;
+mod call;
 mod expr;
 mod front;
 mod kind;
 mod limit;
+mod local;
 mod operator;
+mod simple;
 mod stop;
+mod target;
