@@ -12,3 +12,4 @@ mod operator;
 mod simple;
 mod stop;
 mod target;
+pub mod laws;
