@@ -9,6 +9,7 @@ mod kind;
 mod limit;
 mod local;
 mod operator;
+mod read;
 mod simple;
 mod stop;
 mod target;
