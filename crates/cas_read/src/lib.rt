@@ -3,12 +3,17 @@
 
 mod build;
 mod call;
+mod depth;
 mod expr;
 mod front;
+mod head;
 mod kind;
 mod limit;
 mod local;
 mod operator;
+mod parts;
+mod plain;
 mod simple;
+mod stmt;
 mod stop;
 mod target;
