@@ -1,14 +1,18 @@
 -- What a function that reads tells of the machine. The limits are asked of every token.
-use Rattle.std.specs.Prelude.{◌≡◌, ℕ, Bool, true, false, List, [], ◌∷◌, length, map, Option, Some, None, Result, Ok, Err}
+use Rattle.std.specs.declared.alloc.Global.{Global}
+use Rattle.std.specs.Prelude.{◌≡◌, ℕ, Bool, Box, true, false, List, [], ◌∷◌, length, map, Option, Some, None, Result, Ok, Err}
 use Rattle.cas_base.specs.declared.place.Place.{Place}
 use Rattle.cas_lex.specs.declared.code.ReadCode.TheVariants.{R6}
 use Rattle.cas_lex.specs.declared.token.Token.{Token}
 use Rattle.cas_lex.specs.declared.token.TokenKind.{TokenKind}
+use Rattle.cas_lex.specs.declared.token.TokenKind.TheVariants as k
 use Rattle.cas_lex.specs.declared.token.Sign.{Sign}
+use Rattle.cas_lex.specs.declared.token.Sign.TheVariants as sg
+use Rattle.cas_syntax.specs.declared.tree.Stmt.{Stmt}
 use Rattle.cas_syntax.specs.Operators.{Infix, always_both, logical_and, logical_or}
 use Rattle.cas_syntax.specs.Reading.{within}
 use Rattle.cas_syntax.specs.Tokens.{is_opening_paren}
-use Rattle.cas_syntax.specs.Tree.{TargetTree, expr_tree}
+use Rattle.cas_syntax.specs.Tree.{TargetTree, StmtList, StmtOption, absent, present, expr_tree, stmt_tree}
 use Rattle.cas_read.specs.declared.operator.Infix as o
 use Rattle.cas_read.specs.declared.operator.Infix.TheVariants as ov
 use Rattle.cas_read.specs.declared.operator.Prefix as o'
@@ -18,7 +22,7 @@ use Rattle.cas_read.specs.declared.call.Value.TheVariants as vv
 use Rattle.cas_read.specs.declared.stop.Stop.{Stop}
 use Rattle.cas_read.specs.declared.stop.Stop.TheVariants.{Memory, At}
 use Rattle.cas_read.specs.Frames.{Control, Given, WantValue, Frame, ValueOf, Prefix, Operates, Points, Casts, Receiver, Keeps, Use}
-use Rattle.cas_read.specs.Machine.{Verdict, Outcome, finish, shift, go, begins_kind, require, counted, resulted, reached, simple_started}
+use Rattle.cas_read.specs.Machine.{Verdict, Outcome, finish, shift, go, begins_kind, require, counted, resulted, reached, simple_started, is, is_else, started, list_continued, nested, want_kind}
 
 -- the machine's verdict on tokens
 abbrev pub verdict : List Token → Control → List Frame → Verdict
@@ -92,3 +96,53 @@ reaches ts usage target st = verdict ts (reached usage target st).0 (reached usa
 -- the verdict where an assignment or a call has to begin
 abbrev pub begins_simple : List Token → List Frame → Verdict
 begins_simple ts st = takes ts (simple_started (within 0) false false st)
+
+-- whether the first token is this sign, which is one of those that have to stand somewhere
+abbrev pub next_is : Sign → List Token → Bool
+next_is s [] = false
+next_is s (t ∷ rest) = is s t.kind
+
+-- whether the first token is `else`
+abbrev pub next_is_else : List Token → Bool
+next_is_else [] = false
+next_is_else (t ∷ rest) = is_else (within 0) false false t.kind
+
+abbrev pub is_closing_brace : TokenKind → Bool
+is_closing_brace (k.Sign sg.CloseBrace) = true
+is_closing_brace _ = false
+
+-- whether a token begins an assignment or a call
+abbrev pub starts_simple : TokenKind → Bool
+starts_simple (k.Name n) = true
+starts_simple (k.Sign sg.Star) = true
+starts_simple (k.Sign sg.PlusPlus) = true
+starts_simple (k.Sign sg.MinusMinus) = true
+starts_simple _ = false
+
+-- the verdict where a statement begins in so many others, fewer than the limit
+abbrev pub begins_stmt : List Token → (around : ℕ) → List Frame → Verdict
+begins_stmt [] n st = Err (record { code = R6; left = 0 })
+begins_stmt (t ∷ rest) n st = taken rest (started (within 0) false false n st t.place t.kind)
+
+-- the verdict where a list of statements goes on behind these, in so many others
+abbrev pub begins_listed : List Token → (around : ℕ) → StmtList → List Frame → Verdict
+begins_listed [] n bs st = Err (record { code = R6; left = 0 })
+begins_listed (t ∷ rest) n bs st = taken rest (list_continued (within 0) false false n bs st t.place t.kind (begins_kind t.kind))
+
+-- the verdict where an assignment or a call, or words of a kind, have to begin in so many statements
+
+abbrev pub nests_simple : List Token → (around : ℕ) → List Frame → Verdict
+nests_simple [] n st = Err (record { code = R6; left = 0 })
+nests_simple (t ∷ rest) n st = taken rest (nested (within 0) false false n (simple_started (within 0) false false st t.place t.kind))
+
+abbrev pub nests_kind : List Token → (around : ℕ) → List Frame → Verdict
+nests_kind [] n st = Err (record { code = R6; left = 0 })
+nests_kind (t ∷ rest) n st = taken rest (nested (within 0) false false n (want_kind (within 0) false false None st t.kind))
+
+abbrev pub option_tree : Option Stmt → StmtOption
+option_tree None = absent
+option_tree (Some a) = present (stmt_tree a)
+
+abbrev pub boxed_tree : Option (Box Stmt Global) → StmtOption
+boxed_tree None = absent
+boxed_tree (Some a) = present (stmt_tree a.value)

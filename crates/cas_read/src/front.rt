@@ -1,14 +1,17 @@
 //! What stands at the front of tokens.
 
-ghost use Rattle.std.specs.Prelude.{◌≡◌, ◌<◌, length, List, IfOk, IfErr, true, false};
+ghost use Rattle.std.specs.Prelude.{◌≡◌, ◌<◌, ◌∷◌, length, List, IfOk, IfErr, IfSome, IfNone, true, false};
+ghost use Rattle.cas_base.specs.declared.place.Place.{Place};
+ghost use Rattle.cas_lex.specs.declared.token.Word.TheVariants as w;
+ghost use Rattle.cas_syntax.specs.Tokens as spelled;
 ghost use Rattle.cas_read.specs.declared.stop.Stop.TheVariants.{Memory};
 ghost use Rattle.cas_read.specs.Frames.{Control, Frame, Expect};
 ghost use Rattle.cas_read.specs.Machine as machine;
-ghost use Rattle.cas_read.specs.Follow.{Follows, verdict};
+ghost use Rattle.cas_read.specs.Follow.{Follows, verdict, next_is, next_is_else, is_closing_brace};
 
 use crate::stop::{Stop, fault, wrong};
 use cas_base::{Name, Place};
-use cas_lex::{ReadCode, Sign, Token, TokenKind};
+use cas_lex::{ReadCode, Sign, Token, TokenKind, Word};
 use cas_syntax::Ident;
 use std::alloc::Global;
 
@@ -51,6 +54,19 @@ pub fn expect_outside(tokens: &[Token], sign: Sign) -> Result<&[Token], Stop>
     }
 }
 
+/// What stands behind a sign, where it stands here.
+pub fn behind(tokens: &[Token], sign: Sign) -> Option<&[Token]>
+    ensures some { IfSome result (λ rest. (p : Place) × (tokens.now ≡ spelled.sign sign p ∷ rest.now)) }
+    ensures none { IfNone result (next_is sign tokens.now ≡ false) }
+{
+    let (token, rest) = tokens.split_first()?;
+    if is_expected(sign, &token.kind) {
+        Some(rest)
+    } else {
+        None
+    }
+}
+
 /// Whether a token is this sign, which is one of those that have to stand somewhere.
 pub fn is_expected(sign: Sign, kind: &TokenKind) -> bool
     ensures { result ≡ machine.is sign kind.now }
@@ -63,5 +79,24 @@ pub fn is_expected(sign: Sign, kind: &TokenKind) -> bool
         | (Sign::OpenBrace, TokenKind::Sign(Sign::OpenBrace))
         | (Sign::Colon, TokenKind::Sign(Sign::Colon)) => true,
         _ => false,
+    }
+}
+
+/// Whether a token is `}`.
+pub fn closes_block(kind: &TokenKind) -> bool
+    ensures { result ≡ is_closing_brace kind.now }
+{
+    matches!(kind, TokenKind::Sign(Sign::CloseBrace))
+}
+
+/// What stands behind `else`, where it stands here.
+pub fn behind_else(tokens: &[Token]) -> Option<&[Token]>
+    ensures some { IfSome result (λ rest. (p : Place) × (tokens.now ≡ spelled.word w.Else p ∷ rest.now)) }
+    ensures none { IfNone result (next_is_else tokens.now ≡ false) }
+{
+    let (token, rest) = tokens.split_first()?;
+    match token.kind {
+        TokenKind::Word(Word::Else) => Some(rest),
+        _ => None,
     }
 }

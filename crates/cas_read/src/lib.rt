@@ -3,14 +3,19 @@
 
 mod build;
 mod call;
+mod depth;
 mod expr;
 mod front;
+mod head;
 mod kind;
+pub mod laws;
 mod limit;
 mod local;
 mod operator;
+mod parts;
+mod plain;
 mod read;
 mod simple;
+mod stmt;
 mod stop;
 mod target;
-pub mod laws;

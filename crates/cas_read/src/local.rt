@@ -1,18 +1,34 @@
 //! Locals.
 
-ghost use Rattle.std.specs.Prelude.{◌≡◌, ◌<◌, ◌≤◌, ◌∷◌, ℕ, length, List, IfOk};
+ghost use Rattle.std.specs.Prelude.{◌≡◌, ◌<◌, ◌≤◌, ◌∷◌, ℕ, length, List, IfOk, true};
 ghost use Rattle.cas_syntax.specs.Tree.{stmt_tree, stmt_trees};
 ghost use Rattle.cas_syntax.specs.Tree as tree;
 ghost use Rattle.cas_read.specs.Frames.{Frame, Begun, WantValue, WantLocal, LocalName, LocalStar, LocalPointer, LocalLength, HaveLocal, InList, Locals};
-ghost use Rattle.cas_read.specs.Follow.{Follows, verdict};
+ghost use Rattle.cas_read.specs.Follow.{Follows, verdict, begins_listed, next_begins_kind};
 
 use crate::call::{Value, value_at};
 use crate::front::{expect, ident};
+use crate::kind::kind;
+use crate::limit::DEPTH_LIMIT;
 use crate::stop::{Stop, fault, wrong};
 use cas_base::{Kind, Ty};
 use cas_lex::{ReadCode, Sign, Token, TokenKind};
 use cas_syntax::{Ident, Init, Stmt, StmtForm};
 use std::alloc::Global;
+
+/// Locals that stand in so many statements, up to `;`, which are put behind all, and what stands behind.
+#[tactic(auto, using(crate::proofs::StmtSteps::listed_kind, crate::proofs::StmtSteps::listed_too_deep, crate::proofs::StmtSteps::had_locals_kind))]
+pub fn locals_in<'a>(alloc: Global, tokens: &'a [Token], around: usize, all: &mut Vec<Stmt>) -> Result<&'a [Token], Stop>
+    requires { next_begins_kind tokens.now ≡ true }
+    ensures follows { (st : List Frame) → Follows result (begins_listed tokens.now around (stmt_trees all.old.items) st) (λ rest. verdict rest.now (InList around (stmt_trees all.new.items)) st) }
+    ensures shorter { IfOk result (λ rest. length rest.now < length tokens.now) }
+{
+    if around >= DEPTH_LIMIT {
+        return Err(fault(ReadCode::R8, tokens));
+    }
+    let (kind, _, rest) = kind(tokens, None)?;
+    locals(alloc, kind, rest, all)
+}
 
 /// Locals of this kind up to `;`, which are put behind all, and what stands behind.
 #[tactic(auto, using(crate::proofs::Steps::had_local, crate::proofs::Trees::stmts_push))]
