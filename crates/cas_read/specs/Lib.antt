@@ -1,3 +1,4 @@
 pub mod Frames
 pub mod Machine
 pub mod Follow
+pub mod FollowItems

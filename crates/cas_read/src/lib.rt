@@ -2,9 +2,16 @@
 #![tactic(auto)]
 
 mod build;
+mod cells;
 mod expr;
 mod front;
+mod function;
+mod held;
+mod item;
 mod kind;
 mod limit;
 mod operator;
+mod param;
+mod stmt;
 mod stop;
+mod values;
