@@ -1,5 +1,5 @@
 -- What the machine does with items, and lists that the reader of items builds.
-use Rattle.std.proofs.Common.{◌≡◌, ◌<◌, ℕ, List, [], ◌∷◌, ◌++◌, length, map, get_or, refl, ap, absurd, arith, Option, Some, None, false}
+use Rattle.std.proofs.Common.{◌≡◌, ◌<◌, ℕ, zero, suc, List, [], ◌∷◌, ◌++◌, length, map, get_or, refl, ap, sym, ◌∙◌, arith, Option, Some, None, false}
 use Rattle.cas_base.specs.declared.kind.Ty.{Ty}
 use Rattle.cas_base.specs.declared.place.Place.{Place}
 use Rattle.cas_lex.specs.declared.token.Token.{Token}
@@ -30,11 +30,11 @@ all_have_names [] = refl
 all_have_names (x ∷ xs) = rw (all_have_names xs)
 
 -- where one has none
-pub one_has_none : (xs : List (Option Ident)) (n : ℕ) → n < length xs → None ≡ get_or xs n None → all_named xs ≡ None
-one_has_none [] n h e = absurd (omega (arith, h))
-one_has_none (None ∷ xs) n h e = refl
-one_has_none (Some x ∷ xs) 0 h e = absurd (cc (e))
-one_has_none (Some x ∷ xs) (suc n) h e = let none : all_named xs ≡ None = one_has_none xs n (omega (arith, h)) e in rw none
+pub one_has_none : (xs : List (Option Ident)) (n : ℕ) (x : Option Ident) → x ≡ None → n < length xs → x ≡ get_or xs n x → all_named xs ≡ None
+one_has_none [] n p q h e = absurd (omega (arith, h))
+one_has_none (None ∷ xs) n p q h e = refl
+one_has_none (Some x ∷ xs) zero p q h e = let clash : Some x ≡ None = sym e ∙ q in cc
+one_has_none (Some x ∷ xs) (suc n) p q h e = let none : all_named xs ≡ None = one_has_none xs n p q (omega (arith, h)) e in rw none
 
 -- states that differ in what they keep alone
 
