@@ -65,11 +65,17 @@ fn item(alloc: Global, tokens: &[Token], defined: bool) -> Result<(Item, &[Token
         TokenKind::Word(Word::Shared) => shared(alloc, rest, defined),
         TokenKind::Word(Word::Const) => table(alloc, rest, defined),
         TokenKind::Word(Word::Void) => function(alloc, rest, defined, Ty::Void),
-        _ => {
-            let (ty, rest) = typed(tokens)?;
-            function(alloc, rest, defined, ty)
-        }
+        _ => typed_function(alloc, tokens, defined),
     }
+}
+
+// A function that returns a value.
+fn typed_function(alloc: Global, tokens: &[Token], defined: bool) -> Result<(Item, &[Token]), Stop>
+    ensures follows { (items : List ItemTree) → Follows result (verdict tokens.now (WantKind None) (ReturnKind defined items ∷ [])) (λ p. verdict p.1.now (InItems (items ++ item_tree p.0 ∷ [])) []) }
+    ensures shorter { IfOk result (λ p. length p.1.now < length tokens.now) }
+{
+    let (ty, rest) = typed(tokens)?;
+    function(alloc, rest, defined, ty)
 }
 
 // A lock, from its name on.
