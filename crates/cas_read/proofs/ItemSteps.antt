@@ -43,11 +43,11 @@ behind_extern [] items = refl
 behind_extern (t ∷ ts) items = refl
 
 pub wants_parameter : (ts : List Token) (o : Opening) (tys : List Ty) (xs : List (Option Ident)) (items : List ItemTree)
-  → verdict ts (WantParameter o tys xs items) [] ≡ verdict ts (WantKind None) (ParameterKind o tys xs items ∷ [])
+    → verdict ts (WantParameter o tys xs items) [] ≡ verdict ts (WantKind None) (ParameterKind o tys xs items ∷ [])
 wants_parameter [] o tys xs items = refl
 wants_parameter (t ∷ ts) o tys xs items = refl
 
 pub named_parameter : (ts : List Token) (o : Opening) (tys : List Ty) (xs : List (Option Ident)) (ty : Ty) (x : Ident) (items : List ItemTree)
-  → verdict ts (ParameterName o tys xs ty x items) [] ≡ verdict ts (HaveParameter o (tys ++ ty ∷ []) (xs ++ Some x ∷ []) items) []
+    → verdict ts (ParameterName o tys xs ty x items) [] ≡ verdict ts (HaveParameter o (tys ++ ty ∷ []) (xs ++ Some x ∷ []) items) []
 named_parameter [] o tys xs ty x items = refl
 named_parameter (t ∷ ts) o tys xs ty x items = refl

@@ -26,7 +26,12 @@ pub struct Contents {
 }
 
 /// The name, the type and the initial values of a global of this kind, and what stands behind `;`.
-pub fn cells(alloc: Global, tokens: &[Token], defined: bool, kind: Kind) -> Result<(Ident, Contents, &[Token]), Stop>
+pub fn cells(
+    alloc: Global,
+    tokens: &[Token],
+    defined: bool,
+    kind: Kind,
+) -> Result<(Ident, Contents, &[Token]), Stop>
     ensures follows { (b : Option ℕ) (s : Sort) (items : List ItemTree) → Follows result (verdict tokens.now (HaveKind b kind) (CellsKind s defined items ∷ [])) (λ p. verdict p.2.now (InItems (items ++ machine.cells (data_of s defined kind) p.0 p.1.ty p.1.values ∷ [])) []) }
     ensures shorter { IfOk result (λ p. length p.2.now < length tokens.now) }
 {
@@ -44,7 +49,12 @@ pub fn cells(alloc: Global, tokens: &[Token], defined: bool, kind: Kind) -> Resu
 }
 
 // The type and the initial values of a global, behind its name.
-fn behind_name(alloc: Global, tokens: &[Token], defined: bool, kind: Kind) -> Result<(Contents, &[Token]), Stop>
+fn behind_name(
+    alloc: Global,
+    tokens: &[Token],
+    defined: bool,
+    kind: Kind,
+) -> Result<(Contents, &[Token]), Stop>
     ensures follows { (s : Sort) (x : Ident) (items : List ItemTree) → Follows result (verdict tokens.now (CellName (data_of s defined kind) x items) []) (λ p. verdict p.1.now (InItems (items ++ machine.cells (data_of s defined kind) x p.0.ty p.0.values ∷ [])) []) }
     ensures shorter { IfOk result (λ p. length p.1.now < length tokens.now) }
 {
@@ -69,11 +79,22 @@ fn one_cell(alloc: Global, tokens: &[Token], kind: Kind) -> Result<(Contents, &[
     let mut values = Vec::new(alloc);
     values.push(value)?;
     let values = Seq::of(values);
-    Ok((Contents { ty: Ty::Int(kind), values }, rest))
+    Ok((
+        Contents {
+            ty: Ty::Int(kind),
+            values,
+        },
+        rest,
+    ))
 }
 
 // The length and the initial values of an array, behind `[`.
-fn array(alloc: Global, tokens: &[Token], defined: bool, kind: Kind) -> Result<(Contents, &[Token]), Stop>
+fn array(
+    alloc: Global,
+    tokens: &[Token],
+    defined: bool,
+    kind: Kind,
+) -> Result<(Contents, &[Token]), Stop>
     ensures follows { (s : Sort) (x : Ident) (items : List ItemTree) → Follows result (verdict tokens.now (CellLength (data_of s defined kind) x items) []) (λ p. verdict p.1.now (InItems (items ++ machine.cells (data_of s defined kind) x p.0.ty p.0.values ∷ [])) []) }
     ensures shorter { IfOk result (λ p. length p.1.now < length tokens.now) }
 {
@@ -90,7 +111,13 @@ fn array(alloc: Global, tokens: &[Token], defined: bool, kind: Kind) -> Result<(
 }
 
 // The initial values of an array of this length, behind `]`.
-fn elements(alloc: Global, tokens: &[Token], defined: bool, kind: Kind, len: u32) -> Result<(Contents, &[Token]), Stop>
+fn elements(
+    alloc: Global,
+    tokens: &[Token],
+    defined: bool,
+    kind: Kind,
+    len: u32,
+) -> Result<(Contents, &[Token]), Stop>
     ensures follows { (s : Sort) (x : Ident) (items : List ItemTree) → Follows result (verdict tokens.now (CellArray (data_of s defined kind) x len items) []) (λ p. verdict p.1.now (InItems (items ++ machine.cells (data_of s defined kind) x p.0.ty p.0.values ∷ [])) []) }
     ensures shorter { IfOk result (λ p. length p.1.now < length tokens.now) }
 {
@@ -106,14 +133,25 @@ fn elements(alloc: Global, tokens: &[Token], defined: bool, kind: Kind, len: u32
 }
 
 // The initial values of an array of this length, behind `=`.
-fn some_elements(alloc: Global, tokens: &[Token], kind: Kind, len: u32) -> Result<(Contents, &[Token]), Stop>
+fn some_elements(
+    alloc: Global,
+    tokens: &[Token],
+    kind: Kind,
+    len: u32,
+) -> Result<(Contents, &[Token]), Stop>
     ensures follows { (s : Sort) (d : Bool) (x : Ident) (items : List ItemTree) → Follows result (verdict tokens.now (Expect false sg.OpenBrace (WantCells (data_of s d kind) x len [] items)) []) (λ p. verdict p.1.now (InItems (items ++ machine.cells (data_of s d kind) x p.0.ty p.0.values ∷ [])) []) }
     ensures shorter { IfOk result (λ p. length p.1.now < length tokens.now) }
 {
     let rest = expect_outside(tokens, Sign::OpenBrace)?;
     let (values, rest) = values(alloc, rest, kind)?;
     let rest = ended(rest)?;
-    Ok((Contents { ty: Ty::Array(kind, len), values }, rest))
+    Ok((
+        Contents {
+            ty: Ty::Array(kind, len),
+            values,
+        },
+        rest,
+    ))
 }
 
 // What stands behind the `;` of a global.

@@ -21,21 +21,26 @@ use cas_lex::{ReadCode, Sign, Token, TokenKind};
 use cas_syntax::{Fun, Ident, Item};
 use std::alloc::Global;
 
-/// A function up to its body.
+// A function up to its body.
 #[derive(Debug, Drop)]
-pub struct Head {
-    pub name: Ident,
-    pub form: Form,
-    /// Whether no `extern` stands before it.
-    pub defined: bool,
-    /// The parameters' names, of those that have one.
-    pub params: Vec<Option<Ident>>,
-    /// The places of the locks that it holds.
-    pub held: Seq<Place>,
+struct Head {
+    name: Ident,
+    form: Form,
+    // whether no `extern` stands before it
+    defined: bool,
+    // the parameters' names, of those that have one
+    params: Vec<Option<Ident>>,
+    // the places of the locks that it holds
+    held: Seq<Place>,
 }
 
 /// A function that returns this type, from its name on, and what stands behind it.
-pub fn function(alloc: Global, tokens: &[Token], defined: bool, ret: Ty) -> Result<(Item, &[Token]), Stop>
+pub fn function(
+    alloc: Global,
+    tokens: &[Token],
+    defined: bool,
+    ret: Ty,
+) -> Result<(Item, &[Token]), Stop>
     ensures follows { (items : List ItemTree) → Follows result (verdict tokens.now (WantFunction defined ret items) []) (λ p. verdict p.1.now (InItems (items ++ item_tree p.0 ∷ [])) []) }
     ensures shorter { IfOk result (λ p. length p.1.now < length tokens.now) }
 {
@@ -44,7 +49,12 @@ pub fn function(alloc: Global, tokens: &[Token], defined: bool, ret: Ty) -> Resu
 }
 
 // A function that returns this type, from its name up to its body.
-fn head_at(alloc: Global, tokens: &[Token], defined: bool, ret: Ty) -> Result<(Head, &[Token]), Stop>
+fn head_at(
+    alloc: Global,
+    tokens: &[Token],
+    defined: bool,
+    ret: Ty,
+) -> Result<(Head, &[Token]), Stop>
     ensures follows { (items : List ItemTree) → Follows result (verdict tokens.now (WantFunction defined ret items) []) (λ p. verdict p.1.now (AfterHead p.0.name p.0.form p.0.defined p.0.params.items p.0.held items) []) }
     ensures shorter { IfOk result (λ p. length p.1.now < length tokens.now) }
 {
@@ -91,7 +101,10 @@ fn opened(tokens: &[Token]) -> Result<&[Token], Stop>
     };
     match token.kind {
         TokenKind::Sign(Sign::OpenParen) => Ok(rest),
-        TokenKind::Sign(Sign::OpenBracket | Sign::Equal | Sign::Semicolon) => Err(fault(ReadCode::R7, tokens)),
+        TokenKind::Sign(Sign::OpenBracket | Sign::Equal | Sign::Semicolon) => Err(fault(
+            ReadCode::R7,
+            tokens,
+        )),
         _ => Err(fault(ReadCode::R5, tokens)),
     }
 }
@@ -132,7 +145,14 @@ fn prototype(head: Head) -> Item
 }
 
 // The function with this body, behind `{`, and what stands behind `}`.
-fn define(alloc: Global, tokens: &[Token], name: Ident, form: Form, params: Seq<Ident>, held: Seq<Place>) -> Result<(Item, &[Token]), Stop>
+fn define(
+    alloc: Global,
+    tokens: &[Token],
+    name: Ident,
+    form: Form,
+    params: Seq<Ident>,
+    held: Seq<Place>,
+) -> Result<(Item, &[Token]), Stop>
     ensures follows { (items : List ItemTree) → Follows result (verdict tokens.now (InList 0 no_more) (BodyOf name form params held items ∷ [])) (λ p. verdict p.1.now (InItems (items ++ item_tree p.0 ∷ [])) []) }
     ensures shorter { IfOk result (λ p. length p.1.now < length tokens.now) }
 {

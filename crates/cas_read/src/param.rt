@@ -46,7 +46,15 @@ fn pointed(tokens: &[Token], kind: Kind) -> Result<(Ty, &[Token]), Stop>
         return Ok((Ty::Int(kind), tokens));
     };
     match rest.split_first() {
-        Some((Token { kind: TokenKind::Sign(Sign::Star), .. }, _)) => Err(fault(ReadCode::R7, rest)),
+        Some(
+            (
+                Token {
+                    kind: TokenKind::Sign(Sign::Star),
+                    ..
+                },
+                _,
+            ),
+        ) => Err(fault(ReadCode::R7, rest)),
         _ => Ok((Ty::Ptr(kind), rest)),
     }
 }
