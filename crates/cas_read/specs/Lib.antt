@@ -1,5 +1,6 @@
-pub mod Frames
-pub mod Machine
-pub mod Follow
 pub mod Answers
+pub mod Follow
+pub mod FollowItems
+pub mod Frames
 pub mod Left
+pub mod Machine
