@@ -131,9 +131,12 @@ module _ (limits : Limits) (all : List Token) where
       HoldsAfter limits all ts (m.risen limits (near limits ts) (leaves limits ts) b l x st o)
   risen_holds b l x st start from kind (Some op) p ts e pos le budget hx spelled =
       (start, budget, h.right_at hx le (rw (infix-kind kind op e) at (spelled (level op) (inr (omega arith)))))
-  risen_holds b l x st start from kind None p ts e pos le budget hx spelled =
-      (start, budget, h.then_at hx (let most = question-binds kind in omega (arith, le, most))
-      (rw (question-kind kind (omega (arith, pos, le))) at (spelled 2 (inl (omega arith)))))
+  risen_holds b l x st start from kind None p ts e pos le budget hx spelled = (
+    start,
+    budget,
+    h.then_at hx (let most = question-binds kind in omega (arith, le, most))
+        (rw (question-kind kind (omega (arith, pos, le))) at (spelled 2 (inl (omega arith)))),
+  )
 
   operated_holds : (b l : ℕ) (x : ExprTree) (st : List Frame) (start from : List Token) (kind : TokenKind) (p : Place) (ts : List Token) (o : Outcome) →
       ExprAt limits all st l start from → Budget limits b start (token kind p ∷ ts) →

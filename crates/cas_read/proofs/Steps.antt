@@ -21,11 +21,11 @@ use Rattle.cas_read.specs.Follow.{verdict, taken, takes, closes, next_begins_kin
 
 -- an operator, or none that binds as tightly
 pub takes_operator : (ts : List Token) (t : Token) (rest : List Token) (b l : ℕ) (x : ExprTree) (st : List Frame) → ts ≡ t ∷ rest → l ≤ binding (infix_of t.kind) t.kind
-  → verdict ts (HaveExpr b l x) st ≡ taken rest (counted (within 0) false false b (risen (within 0) false false b l x st (infix_of t.kind)))
+    → verdict ts (HaveExpr b l x) st ≡ taken rest (counted (within 0) false false b (risen (within 0) false false b l x st (infix_of t.kind)))
 takes_operator ts t rest b l x st e h = let e' : nat_le l (binding (infix_of t.kind) t.kind) ≡ true = grind arith in rw (e, e')
 
 pub takes_no_operator : (ts : List Token) (t : Token) (rest : List Token) (b l : ℕ) (x : ExprTree) (st : List Frame) → ts ≡ t ∷ rest → binding (infix_of t.kind) t.kind < l
-  → verdict ts (HaveExpr b l x) st ≡ verdict ts (Given b x) st
+    → verdict ts (HaveExpr b l x) st ≡ verdict ts (Given b x) st
 takes_no_operator ts t rest b l x st e h = let e' : nat_le l (binding (infix_of t.kind) t.kind) ≡ false = grind arith in rw (e, e')
 
 -- values inside expressions
@@ -91,6 +91,7 @@ wants_no_call (t ∷ ts) r st h = by_kind t.kind (opens t.kind ts h)
     opens (k.Name n) [] h e = refl
     opens (k.Name n) (u ∷ us) h e = h
     opens _ ts h e = cc
+
     by_kind : (kind : TokenKind) → (is_name kind ≡ true → next_opens ts ≡ false) → taken ts (value_started (within 0) false false r st t.place kind) ≡ taken ts (outermost (within 0) false false (ValueOf r ∷ st) t.place kind)
     by_kind (k.Name n) h = not_called ts r (at n t.place) st (h refl)
     by_kind _ h = refl

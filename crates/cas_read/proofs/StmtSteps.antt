@@ -84,6 +84,7 @@ first_simple (t ∷ ts) n q st g h = ap (taken ts) (by_kind t.kind g h)
     by_bool : (kind : TokenKind) (is_kind : Bool) → is_kind ≡ false → for_first_started (within 0) false false n q st t.place kind is_kind ≡ nested (within 0) false false (n + 1) (simple_started (within 0) false false (FirstSimple n q ∷ st) t.place kind)
     by_bool kind false h = refl
     by_bool kind true h = cc
+
     by_kind : (kind : TokenKind) → is sg.Semicolon kind ≡ false → begins_kind kind ≡ false → for_first (within 0) false false n q st t.place kind ≡ nested (within 0) false false (n + 1) (simple_started (within 0) false false (FirstSimple n q ∷ st) t.place kind)
     by_kind (k.Sign sg.Semicolon) g h = cc
     by_kind kind g h = by_bool kind (begins_kind kind) h

@@ -33,7 +33,7 @@ block_of at all = let row = row_of (Block all) in let same = items_hidden-the_ro
 
 -- a `for` of its parts
 pub for_parts : (at : Place) (i : Option (Box Stmt Global)) (c : Option Expr) (u : Option (Box Stmt Global)) (b : Box Stmt Global)
-  → form_tree at (For i c u b) ≡ for_ at (boxed_tree i) (optional_tree c) (boxed_tree u) (stmt_tree b.value)
+    → form_tree at (For i c u b) ≡ for_ at (boxed_tree i) (optional_tree c) (boxed_tree u) (stmt_tree b.value)
 for_parts at None c None b = refl
 for_parts at None c (Some u) b = refl
 for_parts at (Some i) c None b = refl

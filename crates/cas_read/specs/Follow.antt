@@ -48,7 +48,7 @@ abbrev pub Follows : {X : Type 0} → Result X Stop → Verdict → (X → Verdi
 Follows (Ok x) v next = v ≡ next x
 Follows (Err e) v next = Fails e v
 
--- the operators of the code
+-- the operators of the code, as the machine has them
 
 abbrev pub infix_shape : o.Infix → Infix
 infix_shape (ov.Both op) = always_both op
@@ -107,6 +107,7 @@ abbrev pub next_is_else : List Token → Bool
 next_is_else [] = false
 next_is_else (t ∷ rest) = is_else (within 0) false false t.kind
 
+-- whether a token is `}`
 abbrev pub is_closing_brace : TokenKind → Bool
 is_closing_brace (k.Sign sg.CloseBrace) = true
 is_closing_brace _ = false
@@ -138,6 +139,8 @@ nests_simple (t ∷ rest) n st = taken rest (nested (within 0) false false n (si
 abbrev pub nests_kind : List Token → (around : ℕ) → List Frame → Verdict
 nests_kind [] n st = Err (record { code = R6; left = 0 })
 nests_kind (t ∷ rest) n st = taken rest (nested (within 0) false false n (want_kind (within 0) false false None st t.kind))
+
+-- a statement, or none, as a tree; and so where it has its own place in memory
 
 abbrev pub option_tree : Option Stmt → StmtOption
 option_tree None = absent

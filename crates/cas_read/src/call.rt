@@ -70,7 +70,15 @@ pub fn arguments(alloc: Global, tokens: &[Token]) -> Result<(Seq<Expr>, &[Token]
     ensures shorter { IfOk result (λ p. length p.1.now < length tokens.now) }
 {
     match tokens.split_first() {
-        Some((Token { kind: TokenKind::Sign(Sign::CloseParen), .. }, rest)) => Ok((Seq::of(Vec::new(alloc)), rest)),
+        Some(
+            (
+                Token {
+                    kind: TokenKind::Sign(Sign::CloseParen),
+                    ..
+                },
+                rest,
+            ),
+        ) => Ok((Seq::of(Vec::new(alloc)), rest)),
         _ => some_arguments(alloc, tokens),
     }
 }

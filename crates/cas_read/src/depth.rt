@@ -17,11 +17,7 @@ pub fn too_deep(kind: &TokenKind) -> ReadCode
     match kind {
         TokenKind::Name(_)
         | TokenKind::Sign(
-            Sign::Semicolon
-            | Sign::OpenBrace
-            | Sign::Star
-            | Sign::PlusPlus
-            | Sign::MinusMinus,
+            Sign::Semicolon | Sign::OpenBrace | Sign::Star | Sign::PlusPlus | Sign::MinusMinus,
         )
         | TokenKind::Word(
             Word::If
@@ -44,7 +40,8 @@ pub fn too_deep_simple(kind: &TokenKind) -> ReadCode
     ensures { (st : List Frame) (p : Place) → machine.limited false (machine.simple_started (within 0) false false st p kind.now) ≡ Err result }
 {
     match kind {
-        TokenKind::Name(_) | TokenKind::Sign(Sign::Star | Sign::PlusPlus | Sign::MinusMinus) => ReadCode::R8,
+        TokenKind::Name(_) | TokenKind::Sign(Sign::Star | Sign::PlusPlus | Sign::MinusMinus) =>
+            ReadCode::R8,
         _ => wrong(kind),
     }
 }

@@ -31,7 +31,12 @@ pub fn outermost(alloc: Global, tokens: &[Token]) -> Result<(Expr, usize, &[Toke
 /// An expression of operators that bind as tightly as `least`, with the tokens that the outermost expression then has
 /// and what stands behind.
 #[cycle(expr)]
-pub fn expr(alloc: Global, tokens: &[Token], used: usize, least: u8) -> Result<(Expr, usize, &[Token]), Stop>
+pub fn expr(
+    alloc: Global,
+    tokens: &[Token],
+    used: usize,
+    least: u8,
+) -> Result<(Expr, usize, &[Token]), Stop>
     requires { 0 < least }
     ensures follows { (st : List Frame) → Follows result (verdict tokens.now (WantExpr used least) st) (λ p. verdict p.2.now (Given p.1 (expr_tree p.0)) st) }
     ensures shorter { IfOk result (λ p. length p.2.now < length tokens.now) }
@@ -73,10 +78,30 @@ fn operand(alloc: Global, tokens: &[Token], used: usize) -> Result<(Expr, usize,
             count(used, rest)?;
             address(alloc, rest, used + 1)
         }
-        TokenKind::Sign(Sign::Minus) => prefixed(alloc, rest, used, Prefix::Operates(UnaryOperator::Neg)),
-        TokenKind::Sign(Sign::Plus) => prefixed(alloc, rest, used, Prefix::Operates(UnaryOperator::Plus)),
-        TokenKind::Sign(Sign::Tilde) => prefixed(alloc, rest, used, Prefix::Operates(UnaryOperator::BitNot)),
-        TokenKind::Sign(Sign::Not) => prefixed(alloc, rest, used, Prefix::Operates(UnaryOperator::Not)),
+        TokenKind::Sign(Sign::Minus) => prefixed(
+            alloc,
+            rest,
+            used,
+            Prefix::Operates(UnaryOperator::Neg),
+        ),
+        TokenKind::Sign(Sign::Plus) => prefixed(
+            alloc,
+            rest,
+            used,
+            Prefix::Operates(UnaryOperator::Plus),
+        ),
+        TokenKind::Sign(Sign::Tilde) => prefixed(
+            alloc,
+            rest,
+            used,
+            Prefix::Operates(UnaryOperator::BitNot),
+        ),
+        TokenKind::Sign(Sign::Not) => prefixed(
+            alloc,
+            rest,
+            used,
+            Prefix::Operates(UnaryOperator::Not),
+        ),
         TokenKind::Sign(Sign::Star) => prefixed(alloc, rest, used, Prefix::Points),
         _ => Err(fault(wrong(&token.kind), tokens)),
     }
@@ -85,7 +110,12 @@ fn operand(alloc: Global, tokens: &[Token], used: usize) -> Result<(Expr, usize,
 // The operand behind what stands before it, behind which these tokens stand.
 #[cycle(expr)]
 #[tactic(auto, using(crate::proofs::Steps::given_before))]
-fn prefixed(alloc: Global, tokens: &[Token], used: usize, prefix: Prefix) -> Result<(Expr, usize, &[Token]), Stop>
+fn prefixed(
+    alloc: Global,
+    tokens: &[Token],
+    used: usize,
+    prefix: Prefix,
+) -> Result<(Expr, usize, &[Token]), Stop>
     ensures follows { (l : ℕ) (st : List Frame) → Follows result (taken tokens.now (counted (within 0) false false used (Ok (WantExpr (used + 1) 12, Before l (prefix_shape prefix) ∷ st)))) (λ p. verdict p.2.now (HaveExpr p.1 l (expr_tree p.0)) st) }
     ensures shorter { IfOk result (λ p. length p.2.now < length tokens.now) }
 {
@@ -96,7 +126,13 @@ fn prefixed(alloc: Global, tokens: &[Token], used: usize, prefix: Prefix) -> Res
 
 // What begins with a name, or with the address of what it names.
 #[cycle(expr)]
-pub fn named(alloc: Global, tokens: &[Token], used: usize, addressed: bool, name: Ident) -> Result<(Expr, usize, &[Token]), Stop>
+pub fn named(
+    alloc: Global,
+    tokens: &[Token],
+    used: usize,
+    addressed: bool,
+    name: Ident,
+) -> Result<(Expr, usize, &[Token]), Stop>
     ensures follows { (l : ℕ) (st : List Frame) → Follows result (verdict tokens.now (Named used l addressed name) st) (λ p. verdict p.2.now (HaveExpr p.1 l (expr_tree p.0)) st) }
     ensures no_longer { IfOk result (λ p. length p.2.now ≤ length tokens.now) }
 {
@@ -113,14 +149,24 @@ pub fn named(alloc: Global, tokens: &[Token], used: usize, addressed: bool, name
 // An element, behind `[`.
 #[cycle(expr)]
 #[tactic(auto, using(crate::proofs::Steps::given_in_brackets))]
-fn element(alloc: Global, tokens: &[Token], used: usize, addressed: bool, name: Ident) -> Result<(Expr, usize, &[Token]), Stop>
+fn element(
+    alloc: Global,
+    tokens: &[Token],
+    used: usize,
+    addressed: bool,
+    name: Ident,
+) -> Result<(Expr, usize, &[Token]), Stop>
     ensures follows { (l : ℕ) (st : List Frame) → Follows result (taken tokens.now (counted (within 0) false false used (Ok (WantExpr (used + 1) 1, InBrackets l addressed name ∷ st)))) (λ p. verdict p.2.now (HaveExpr p.1 l (expr_tree p.0)) st) }
     ensures shorter { IfOk result (λ p. length p.2.now < length tokens.now) }
 {
     count(used, tokens)?;
     let (index, used, rest) = expr(alloc, tokens, used + 1, 1)?;
     let rest = closed(rest, used, Sign::CloseBracket)?;
-    Ok((build::element(alloc, addressed, name, index)?, used + 1, rest))
+    Ok((
+        build::element(alloc, addressed, name, index)?,
+        used + 1,
+        rest,
+    ))
 }
 
 // What stands behind `(`: a cast, or an expression in parentheses.
@@ -149,7 +195,11 @@ fn cast(alloc: Global, tokens: &[Token], used: usize) -> Result<(Expr, usize, &[
     let Some(used) = used else { unreachable!() };
     let rest = closed(rest, used, Sign::CloseParen)?;
     let (operand, used, rest) = expr(alloc, rest, used + 1, 12)?;
-    Ok((build::prefixed(alloc, Prefix::Casts(kind), operand)?, used, rest))
+    Ok((
+        build::prefixed(alloc, Prefix::Casts(kind), operand)?,
+        used,
+        rest,
+    ))
 }
 
 // What begins with a name, behind `&`.
@@ -174,7 +224,13 @@ fn address(alloc: Global, tokens: &[Token], used: usize) -> Result<(Expr, usize,
 // An expression with what stands behind it and an operator.
 #[cycle(expr)]
 #[tactic(auto, using(crate::proofs::Steps::given_right))]
-fn combined(alloc: Global, left: Expr, between: Option<Infix>, tokens: &[Token], used: usize) -> Result<(Expr, usize, &[Token]), Stop>
+fn combined(
+    alloc: Global,
+    left: Expr,
+    between: Option<Infix>,
+    tokens: &[Token],
+    used: usize,
+) -> Result<(Expr, usize, &[Token]), Stop>
     ensures follows { (l : ℕ) (st : List Frame) → Follows result (taken tokens.now (counted (within 0) false false used (risen (within 0) false false used l (expr_tree left) st (infix_shapes between)))) (λ p. verdict p.2.now (HaveExpr p.1 l (expr_tree p.0)) st) }
     ensures shorter { IfOk result (λ p. length p.2.now < length tokens.now) }
 {
@@ -189,7 +245,12 @@ fn combined(alloc: Global, left: Expr, between: Option<Infix>, tokens: &[Token],
 // A condition with the expressions between which it chooses, behind `?`.
 #[cycle(expr)]
 #[tactic(auto, using(crate::proofs::Steps::given_then, crate::proofs::Steps::given_otherwise))]
-fn chosen(alloc: Global, condition: Expr, tokens: &[Token], used: usize) -> Result<(Expr, usize, &[Token]), Stop>
+fn chosen(
+    alloc: Global,
+    condition: Expr,
+    tokens: &[Token],
+    used: usize,
+) -> Result<(Expr, usize, &[Token]), Stop>
     ensures follows { (l : ℕ) (st : List Frame) → Follows result (taken tokens.now (counted (within 0) false false used (Ok (WantExpr (used + 1) 1, Then l (expr_tree condition) ∷ st)))) (λ p. verdict p.2.now (HaveExpr p.1 l (expr_tree p.0)) st) }
     ensures shorter { IfOk result (λ p. length p.2.now < length tokens.now) }
 {
@@ -197,7 +258,11 @@ fn chosen(alloc: Global, condition: Expr, tokens: &[Token], used: usize) -> Resu
     let (chosen, used, rest) = expr(alloc, tokens, used + 1, 1)?;
     let rest = closed(rest, used, Sign::Colon)?;
     let (other, used, rest) = expr(alloc, rest, used + 1, 1)?;
-    Ok((build::conditional(alloc, condition, chosen, other)?, used, rest))
+    Ok((
+        build::conditional(alloc, condition, chosen, other)?,
+        used,
+        rest,
+    ))
 }
 
 // What stands behind a sign of an outermost expression that has so many tokens before it.

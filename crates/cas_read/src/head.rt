@@ -39,7 +39,11 @@ pub fn do_end(alloc: Global, tokens: &[Token]) -> Result<(Expr, &[Token]), Stop>
 
 /// What a `for` does first, with its `;`. So many statements stand around the `for`.
 #[tactic(auto, using(crate::proofs::StmtSteps::first_local, crate::proofs::StmtSteps::first_simple, crate::proofs::StmtSteps::had_first_simple))]
-pub fn first(alloc: Global, tokens: &[Token], around: usize) -> Result<(Option<Stmt>, &[Token]), Stop>
+pub fn first(
+    alloc: Global,
+    tokens: &[Token],
+    around: usize,
+) -> Result<(Option<Stmt>, &[Token]), Stop>
     requires { around < DEPTH_LIMIT }
     ensures follows { (q : Place) (st : List Frame) → Follows result (verdict tokens.now (ForFirst around q) st) (λ p. verdict p.1.now (ForSecond around q (option_tree p.0)) st) }
     ensures shorter { IfOk result (λ p. length p.1.now < length tokens.now) }
@@ -104,7 +108,11 @@ pub fn second(alloc: Global, tokens: &[Token]) -> Result<(Option<Expr>, &[Token]
 
 /// What a `for` does after each turn, with its `)`. So many statements stand around the `for`.
 #[tactic(auto, using(crate::proofs::StmtSteps::third_simple, crate::proofs::StmtSteps::had_third))]
-pub fn third(alloc: Global, tokens: &[Token], around: usize) -> Result<(Option<Stmt>, &[Token]), Stop>
+pub fn third(
+    alloc: Global,
+    tokens: &[Token],
+    around: usize,
+) -> Result<(Option<Stmt>, &[Token]), Stop>
     requires { around < DEPTH_LIMIT }
     ensures follows { (q : Place) (i : StmtOption) (c : Option ExprTree) (st : List Frame) → Follows result (verdict tokens.now (ForThird around q i c) st) (λ p. verdict p.1.now (WantStmt (around + 1)) (ForBody q i c (option_tree p.0) ∷ st)) }
     ensures shorter { IfOk result (λ p. length p.1.now < length tokens.now) }

@@ -85,7 +85,11 @@ fn unsigned(tokens: &[Token], used: Option<usize>) -> Result<(Kind, Option<usize
 }
 
 // This kind, behind whose words so far `int` may stand.
-fn may_end_int(tokens: &[Token], used: Option<usize>, kind: Kind) -> Result<(Kind, Option<usize>, &[Token]), Stop>
+fn may_end_int(
+    tokens: &[Token],
+    used: Option<usize>,
+    kind: Kind,
+) -> Result<(Kind, Option<usize>, &[Token]), Stop>
     ensures follows { (st : List Frame) → Follows result (verdict tokens.now (MayEndInt used kind) st) (λ p. verdict p.2.now (HaveKind p.1 p.0) st) }
     ensures counts { IfOk result (λ p. are_counted p.1 ≡ are_counted used) }
     ensures no_longer { IfOk result (λ p. length p.2.now ≤ length tokens.now) }

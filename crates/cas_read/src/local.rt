@@ -18,7 +18,12 @@ use std::alloc::Global;
 
 /// Locals that stand in so many statements, up to `;`, which are put behind all, and what stands behind.
 #[tactic(auto, using(crate::proofs::StmtSteps::listed_kind, crate::proofs::StmtSteps::listed_too_deep, crate::proofs::StmtSteps::had_locals_kind))]
-pub fn locals_in<'a>(alloc: Global, tokens: &'a [Token], around: usize, all: &mut Vec<Stmt>) -> Result<&'a [Token], Stop>
+pub fn locals_in<'a>(
+    alloc: Global,
+    tokens: &'a [Token],
+    around: usize,
+    all: &mut Vec<Stmt>,
+) -> Result<&'a [Token], Stop>
     requires { next_begins_kind tokens.now ≡ true }
     ensures follows { (st : List Frame) → Follows result (begins_listed tokens.now around (stmt_trees all.old.items) st) (λ rest. verdict rest.now (InList around (stmt_trees all.new.items)) st) }
     ensures shorter { IfOk result (λ rest. length rest.now < length tokens.now) }
@@ -32,7 +37,12 @@ pub fn locals_in<'a>(alloc: Global, tokens: &'a [Token], around: usize, all: &mu
 
 /// Locals of this kind up to `;`, which are put behind all, and what stands behind.
 #[tactic(auto, using(crate::proofs::Steps::had_local, crate::proofs::Trees::stmts_push))]
-pub fn locals<'a>(alloc: Global, kind: Kind, tokens: &'a [Token], all: &mut Vec<Stmt>) -> Result<&'a [Token], Stop>
+pub fn locals<'a>(
+    alloc: Global,
+    kind: Kind,
+    tokens: &'a [Token],
+    all: &mut Vec<Stmt>,
+) -> Result<&'a [Token], Stop>
     ensures follows { (n : ℕ) (st : List Frame) → Follows result (verdict tokens.now (WantLocal kind) (Locals n kind (stmt_trees all.old.items) ∷ st)) (λ rest. verdict rest.now (InList n (stmt_trees all.new.items)) st) }
     ensures shorter { IfOk result (λ rest. length rest.now < length tokens.now) }
 {
@@ -70,7 +80,12 @@ pub fn local(alloc: Global, kind: Kind, tokens: &[Token]) -> Result<(Stmt, &[Tok
 }
 
 // A variable or an array, behind its name.
-fn variable(alloc: Global, kind: Kind, name: Ident, tokens: &[Token]) -> Result<(Stmt, &[Token]), Stop>
+fn variable(
+    alloc: Global,
+    kind: Kind,
+    name: Ident,
+    tokens: &[Token],
+) -> Result<(Stmt, &[Token]), Stop>
     ensures follows { (st : List Frame) → Follows result (verdict tokens.now (LocalName kind name) st) (λ p. verdict p.1.now (HaveLocal (stmt_tree p.0)) st) }
     ensures no_longer { IfOk result (λ p. length p.1.now ≤ length tokens.now) }
 {
@@ -103,7 +118,12 @@ fn pointer(alloc: Global, kind: Kind, tokens: &[Token]) -> Result<(Stmt, &[Token
 }
 
 // A pointer, behind its name.
-fn named_pointer(alloc: Global, kind: Kind, name: Ident, tokens: &[Token]) -> Result<(Stmt, &[Token]), Stop>
+fn named_pointer(
+    alloc: Global,
+    kind: Kind,
+    name: Ident,
+    tokens: &[Token],
+) -> Result<(Stmt, &[Token]), Stop>
     ensures follows { (st : List Frame) → Follows result (verdict tokens.now (LocalPointer kind name) st) (λ p. verdict p.1.now (HaveLocal (stmt_tree p.0)) st) }
     ensures no_longer { IfOk result (λ p. length p.1.now ≤ length tokens.now) }
 {
@@ -130,7 +150,15 @@ fn array(kind: Kind, name: Ident, tokens: &[Token]) -> Result<(Stmt, &[Token]), 
     };
     let rest = expect(rest, Sign::CloseBracket)?;
     match rest.split_first() {
-        Some((Token { kind: TokenKind::Sign(Sign::OpenBracket | Sign::Equal), .. }, _)) => Err(fault(ReadCode::R7, rest)),
+        Some(
+            (
+                Token {
+                    kind: TokenKind::Sign(Sign::OpenBracket | Sign::Equal),
+                    ..
+                },
+                _,
+            ),
+        ) => Err(fault(ReadCode::R7, rest)),
         _ => Ok((declared(Ty::Array(kind, len), name, Init::Nothing), rest)),
     }
 }

@@ -8,9 +8,9 @@ ghost use Rattle.cas_read.specs.Frames.{Frame, HaveExpr, Given};
 ghost use Rattle.cas_read.specs.Machine as machine;
 ghost use Rattle.cas_read.specs.Follow.{verdict, taken, infix_shape, infix_shapes};
 
+use cas_base::Kind;
 use cas_lex::{Sign, Token, TokenKind};
 use cas_syntax::{BinaryOperator, UnaryOperator};
-use cas_base::Kind;
 
 /// What stands before an operand.
 #[derive(Clone, Copy, Debug)]

@@ -22,7 +22,13 @@ pub fn block(place: Place, all: Vec<Stmt>) -> Stmt
 }
 
 /// An `if`.
-pub fn if_stmt(alloc: Global, place: Place, condition: Expr, chosen: Stmt, other: Option<Stmt>) -> Result<Stmt, Stop>
+pub fn if_stmt(
+    alloc: Global,
+    place: Place,
+    condition: Expr,
+    chosen: Stmt,
+    other: Option<Stmt>,
+) -> Result<Stmt, Stop>
     ensures value { IfOk result (λ s. stmt_tree s ≡ tree.if_ place (expr_tree condition) (stmt_tree chosen) (option_tree other)) }
     ensures memory { IfErr result (λ e. e ≡ Memory) }
 {
@@ -54,7 +60,14 @@ pub fn do_stmt(alloc: Global, place: Place, body: Stmt, condition: Expr) -> Resu
 
 /// A `for`.
 #[tactic(auto, using(crate::proofs::Trees::for_parts))]
-pub fn for_stmt(alloc: Global, place: Place, first: Option<Stmt>, condition: Option<Expr>, after: Option<Stmt>, body: Stmt) -> Result<Stmt, Stop>
+pub fn for_stmt(
+    alloc: Global,
+    place: Place,
+    first: Option<Stmt>,
+    condition: Option<Expr>,
+    after: Option<Stmt>,
+    body: Stmt,
+) -> Result<Stmt, Stop>
     ensures value { IfOk result (λ s. stmt_tree s ≡ tree.for_ place (option_tree first) (optional_tree condition) (option_tree after) (stmt_tree body)) }
     ensures memory { IfErr result (λ e. e ≡ Memory) }
 {

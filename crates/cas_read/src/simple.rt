@@ -80,7 +80,12 @@ fn given(alloc: Global, name: Ident, tokens: &[Token]) -> Result<(Stmt, &[Token]
 
 // What is assigned to a target, behind it; the statement's place is given.
 #[tactic(auto, using(crate::proofs::Steps::given_assigned))]
-fn changed(alloc: Global, place: Place, target: LValue, tokens: &[Token]) -> Result<(Stmt, &[Token]), Stop>
+fn changed(
+    alloc: Global,
+    place: Place,
+    target: LValue,
+    tokens: &[Token],
+) -> Result<(Stmt, &[Token]), Stop>
     ensures follows { (st : List Frame) → Follows result (verdict tokens.now (AfterTarget place (target_tree target)) st) (λ p. verdict p.1.now (HaveSimple (stmt_tree p.0)) st) }
     ensures shorter { IfOk result (λ p. length p.1.now < length tokens.now) }
 {
@@ -100,7 +105,13 @@ fn changed(alloc: Global, place: Place, target: LValue, tokens: &[Token]) -> Res
 
 // The assignment of an expression, behind its sign.
 #[tactic(auto, using(crate::proofs::Steps::given_assigned))]
-fn assigned(alloc: Global, place: Place, target: LValue, operator: Option<BinaryOperator>, tokens: &[Token]) -> Result<(Stmt, &[Token]), Stop>
+fn assigned(
+    alloc: Global,
+    place: Place,
+    target: LValue,
+    operator: Option<BinaryOperator>,
+    tokens: &[Token],
+) -> Result<(Stmt, &[Token]), Stop>
     ensures follows { (st : List Frame) → Follows result (verdict tokens.now WantOutermost (AssignedTo place (target_tree target) operator ∷ st)) (λ p. verdict p.1.now (HaveSimple (stmt_tree p.0)) st) }
     ensures shorter { IfOk result (λ p. length p.1.now < length tokens.now) }
 {
@@ -110,7 +121,12 @@ fn assigned(alloc: Global, place: Place, target: LValue, operator: Option<Binary
 }
 
 // What `++` or `--` steps that stands before it.
-fn stepped(alloc: Global, place: Place, operator: BinaryOperator, tokens: &[Token]) -> Result<(Stmt, &[Token]), Stop>
+fn stepped(
+    alloc: Global,
+    place: Place,
+    operator: BinaryOperator,
+    tokens: &[Token],
+) -> Result<(Stmt, &[Token]), Stop>
     ensures follows { (st : List Frame) → Follows result (verdict tokens.now (WantTarget place operator) st) (λ p. verdict p.1.now (HaveSimple (stmt_tree p.0)) st) }
     ensures shorter { IfOk result (λ p. length p.1.now < length tokens.now) }
 {
@@ -137,7 +153,15 @@ fn stepped_name(alloc: Global, name: Ident, tokens: &[Token]) -> Result<(LValue,
     ensures no_longer { IfOk result (λ p. length p.1.now ≤ length tokens.now) }
 {
     match tokens.split_first() {
-        Some((Token { kind: TokenKind::Sign(Sign::OpenBracket), .. }, rest)) => element(alloc, name, rest),
+        Some(
+            (
+                Token {
+                    kind: TokenKind::Sign(Sign::OpenBracket),
+                    ..
+                },
+                rest,
+            ),
+        ) => element(alloc, name, rest),
         _ => Ok((LValue::Name(name), tokens)),
     }
 }

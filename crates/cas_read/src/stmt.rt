@@ -59,7 +59,13 @@ fn started(alloc: Global, tokens: &[Token], around: usize) -> Result<(Stmt, &[To
     }
     let place = token.place;
     match token.kind {
-        TokenKind::Sign(Sign::Semicolon) => Ok((Stmt { place, form: StmtForm::Skip }, rest)),
+        TokenKind::Sign(Sign::Semicolon) => Ok((
+            Stmt {
+                place,
+                form: StmtForm::Skip,
+            },
+            rest,
+        )),
         TokenKind::Sign(Sign::OpenBrace) => {
             let (all, _, rest) = list(alloc, rest, around + 1)?;
             Ok((block(place, all), rest))
@@ -81,7 +87,11 @@ fn started(alloc: Global, tokens: &[Token], around: usize) -> Result<(Stmt, &[To
 /// The statements up to `}` that stand in so many others, the place of the `}`, and what stands behind it.
 #[cycle(stmt)]
 #[tactic(auto, using(crate::proofs::StmtSteps::goes_on_in_list))]
-pub fn list(alloc: Global, tokens: &[Token], around: usize) -> Result<(Vec<Stmt>, Place, &[Token]), Stop>
+pub fn list(
+    alloc: Global,
+    tokens: &[Token],
+    around: usize,
+) -> Result<(Vec<Stmt>, Place, &[Token]), Stop>
     requires { around ≤ DEPTH_LIMIT }
     ensures follows { (st : List Frame) → Follows result (verdict tokens.now (InList around no_more) st) (λ p. taken p.2.now (machine.list_closed (within 0) false false (stmt_trees p.0.items) st p.1)) }
     ensures shorter { IfOk result (λ p. length p.2.now < length tokens.now) }
@@ -105,7 +115,12 @@ pub fn list(alloc: Global, tokens: &[Token], around: usize) -> Result<(Vec<Stmt>
 // A statement or the locals of a list, which are put behind all, and what stands behind.
 #[cycle(stmt)]
 #[tactic(auto, using(crate::proofs::StmtSteps::listed_stmt, crate::proofs::StmtSteps::had_listed, crate::proofs::Trees::stmts_push))]
-fn listed<'a>(alloc: Global, tokens: &'a [Token], around: usize, all: &mut Vec<Stmt>) -> Result<&'a [Token], Stop>
+fn listed<'a>(
+    alloc: Global,
+    tokens: &'a [Token],
+    around: usize,
+    all: &mut Vec<Stmt>,
+) -> Result<&'a [Token], Stop>
     requires { around ≤ DEPTH_LIMIT }
     ensures follows { (st : List Frame) → Follows result (begins_listed tokens.now around (stmt_trees all.old.items) st) (λ rest. verdict rest.now (InList around (stmt_trees all.new.items)) st) }
     ensures shorter { IfOk result (λ rest. length rest.now < length tokens.now) }
@@ -121,7 +136,12 @@ fn listed<'a>(alloc: Global, tokens: &'a [Token], around: usize, all: &mut Vec<S
 // An `if`, behind its word.
 #[cycle(stmt)]
 #[tactic(auto, using(crate::proofs::StmtSteps::given_if))]
-fn conditional(alloc: Global, place: Place, tokens: &[Token], around: usize) -> Result<(Stmt, &[Token]), Stop>
+fn conditional(
+    alloc: Global,
+    place: Place,
+    tokens: &[Token],
+    around: usize,
+) -> Result<(Stmt, &[Token]), Stop>
     requires { around < DEPTH_LIMIT }
     ensures follows { (st : List Frame) → Follows result (verdict tokens.now (Expect true sg.OpenParen WantOutermost) (IfCondition around place ∷ st)) (λ p. verdict p.1.now (HaveStmt (stmt_tree p.0)) st) }
     ensures shorter { IfOk result (λ p. length p.1.now < length tokens.now) }
@@ -136,7 +156,11 @@ fn conditional(alloc: Global, place: Place, tokens: &[Token], around: usize) -> 
 // What stands behind the first statement of an `if`: the other one, where `else` stands.
 #[cycle(stmt)]
 #[tactic(auto, using(crate::proofs::StmtSteps::no_else, crate::proofs::StmtSteps::had_else))]
-fn otherwise(alloc: Global, tokens: &[Token], around: usize) -> Result<(Option<Stmt>, &[Token]), Stop>
+fn otherwise(
+    alloc: Global,
+    tokens: &[Token],
+    around: usize,
+) -> Result<(Option<Stmt>, &[Token]), Stop>
     requires { around < DEPTH_LIMIT }
     ensures follows { (q : Place) (c : ExprTree) (a : StmtTree) (st : List Frame) → Follows result (verdict tokens.now (HaveStmt a) (IfThen around q c ∷ st)) (λ p. verdict p.1.now (HaveStmt (if_ q c a (option_tree p.0))) st) }
     ensures no_longer { IfOk result (λ p. length p.1.now ≤ length tokens.now) }
@@ -151,7 +175,12 @@ fn otherwise(alloc: Global, tokens: &[Token], around: usize) -> Result<(Option<S
 // A `while`, behind its word.
 #[cycle(stmt)]
 #[tactic(auto, using(crate::proofs::StmtSteps::given_while, crate::proofs::StmtSteps::had_while))]
-fn while_loop(alloc: Global, place: Place, tokens: &[Token], around: usize) -> Result<(Stmt, &[Token]), Stop>
+fn while_loop(
+    alloc: Global,
+    place: Place,
+    tokens: &[Token],
+    around: usize,
+) -> Result<(Stmt, &[Token]), Stop>
     requires { around < DEPTH_LIMIT }
     ensures follows { (st : List Frame) → Follows result (verdict tokens.now (Expect true sg.OpenParen WantOutermost) (WhileCondition around place ∷ st)) (λ p. verdict p.1.now (HaveStmt (stmt_tree p.0)) st) }
     ensures shorter { IfOk result (λ p. length p.1.now < length tokens.now) }
@@ -164,7 +193,12 @@ fn while_loop(alloc: Global, place: Place, tokens: &[Token], around: usize) -> R
 
 // A `do`, behind its word.
 #[cycle(stmt)]
-fn do_loop(alloc: Global, place: Place, tokens: &[Token], around: usize) -> Result<(Stmt, &[Token]), Stop>
+fn do_loop(
+    alloc: Global,
+    place: Place,
+    tokens: &[Token],
+    around: usize,
+) -> Result<(Stmt, &[Token]), Stop>
     requires { around < DEPTH_LIMIT }
     ensures follows { (st : List Frame) → Follows result (verdict tokens.now (WantStmt (around + 1)) (DoBody place ∷ st)) (λ p. verdict p.1.now (HaveStmt (stmt_tree p.0)) st) }
     ensures shorter { IfOk result (λ p. length p.1.now < length tokens.now) }
@@ -177,7 +211,12 @@ fn do_loop(alloc: Global, place: Place, tokens: &[Token], around: usize) -> Resu
 // A `for`, behind its word.
 #[cycle(stmt)]
 #[tactic(auto, using(crate::proofs::StmtSteps::had_for))]
-fn for_loop(alloc: Global, place: Place, tokens: &[Token], around: usize) -> Result<(Stmt, &[Token]), Stop>
+fn for_loop(
+    alloc: Global,
+    place: Place,
+    tokens: &[Token],
+    around: usize,
+) -> Result<(Stmt, &[Token]), Stop>
     requires { around < DEPTH_LIMIT }
     ensures follows { (st : List Frame) → Follows result (verdict tokens.now (Expect true sg.OpenParen (ForFirst around place)) st) (λ p. verdict p.1.now (HaveStmt (stmt_tree p.0)) st) }
     ensures shorter { IfOk result (λ p. length p.1.now < length tokens.now) }

@@ -72,11 +72,3 @@ pub fn wrong(kind: &TokenKind) -> ReadCode
         _ => ReadCode::R5,
     }
 }
-
-/// The fault of these tokens where the first can't stand here, inside a function's body.
-pub fn refused(tokens: &[Token]) -> Stop {
-    match tokens.first() {
-        Some(token) => fault(wrong(&token.kind), tokens),
-        None => fault(ReadCode::R6, tokens),
-    }
-}

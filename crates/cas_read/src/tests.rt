@@ -36,11 +36,23 @@ fn each_form_is_read(rt: HostRuntime) -> Result<(), Fail> {
     let items = [
         ("", "0"),
         ("lock L; extern lock M;", "2"),
-        ("shared(L) int x; shared(L) unsigned char y = 3; extern shared(L) short int z[4];", "3"),
-        ("const int t[3] = { 1, -2, 3u, }; const short u = -1; extern const signed v;", "3"),
-        ("int f(void); int *g(int, char *p) holds(L, M); void h(); extern unsigned short k(unsigned);", "4"),
+        (
+            "shared(L) int x; shared(L) unsigned char y = 3; extern shared(L) short int z[4];",
+            "3",
+        ),
+        (
+            "const int t[3] = { 1, -2, 3u, }; const short u = -1; extern const signed v;",
+            "3",
+        ),
+        (
+            "int f(void); int *g(int, char *p) holds(L, M); void h(); extern unsigned short k(unsigned);",
+            "4",
+        ),
         ("void w(int me) { }", "1"),
-        ("signed char f(signed short a, unsigned int b, signed int *c) holds(L) { return; }", "1"),
+        (
+            "signed char f(signed short a, unsigned int b, signed int *c) holds(L) { return; }",
+            "1",
+        ),
         ("@", "1:1 R1"),
         ("lock", "1:5 R6"),
         ("lock 3;", "1:6 R5"),
@@ -71,16 +83,37 @@ fn each_form_is_read(rt: HostRuntime) -> Result<(), Fail> {
         (";", "1"),
         ("{ ; { } }", "1"),
         ("int a, *b, c[3], d = 1, *e = f(), g = f(1, 2);", "1"),
-        ("x = 1; x[1] = 2; *x = 3; *(x + 1) = 4; x = f(x); f(); f(1, x[2]);", "1"),
-        ("x += 1; x -= 1; x *= 1; x /= 1; x %= 1; x <<= 1; x >>= 1; x &= 1; x |= 1; x ^= 1;", "1"),
-        ("x++; ++x; x--; --x; x[1]++; ++x[1]; ++*x; --*(x + 1); *x++;", "1"),
+        (
+            "x = 1; x[1] = 2; *x = 3; *(x + 1) = 4; x = f(x); f(); f(1, x[2]);",
+            "1",
+        ),
+        (
+            "x += 1; x -= 1; x *= 1; x /= 1; x %= 1; x <<= 1; x >>= 1; x &= 1; x |= 1; x ^= 1;",
+            "1",
+        ),
+        (
+            "x++; ++x; x--; --x; x[1]++; ++x[1]; ++*x; --*(x + 1); *x++;",
+            "1",
+        ),
         ("if (x) y = 1; else if (z) y = 2; else { }", "1"),
         ("while (x) break; do continue; while (x);", "1"),
-        ("for (;;) ; for (x = 1; x < 3; x++) ; for (int i = 0; i; f()) ;", "1"),
+        (
+            "for (;;) ; for (x = 1; x < 3; x++) ; for (int i = 0; i; f()) ;",
+            "1",
+        ),
         ("return; return x; lock(L); unlock(L); print(x);", "1"),
-        ("x = a ? b : c ? d : e; x = a || b && c | d ^ e & f == g != h;", "1"),
-        ("x = a < b > c <= d >= e << f >> g + h - i * j / k % l;", "1"),
-        ("x = -a + +b - ~c * !d; x = *p + *(p + 1); x = &y; x = &y[1]; x = (int) a + (unsigned short int) -b;", "1"),
+        (
+            "x = a ? b : c ? d : e; x = a || b && c | d ^ e & f == g != h;",
+            "1",
+        ),
+        (
+            "x = a < b > c <= d >= e << f >> g + h - i * j / k % l;",
+            "1",
+        ),
+        (
+            "x = -a + +b - ~c * !d; x = *p + *(p + 1); x = &y; x = &y[1]; x = (int) a + (unsigned short int) -b;",
+            "1",
+        ),
         ("x = (a);", "1"),
         ("x", "1:14 R5"),
     ];
@@ -133,7 +166,13 @@ fn each_fault_at_its_place(rt: HostRuntime) -> Result<(), Fail> {
 }
 
 // So many times one text, between two others.
-fn repeated(alloc: Global, before: &str, text: &str, count: usize, behind: &str) -> Result<String, AllocError> {
+fn repeated(
+    alloc: Global,
+    before: &str,
+    text: &str,
+    count: usize,
+    behind: &str,
+) -> Result<String, AllocError> {
     let mut whole = String::new(alloc);
     whole.push_str(before)?;
     for _ in 0..count {

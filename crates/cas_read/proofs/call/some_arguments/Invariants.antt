@@ -6,9 +6,9 @@ use Rattle.cas_read.proofs.call.some_arguments.Given as goal
 
 abbrev pub invariant-loop-all : goal.invariant-loop-all
 invariant-loop-all l = record {
-    follows : (caller : Caller) (st : List Frame) → verdict l.tokens WantOutermost (Argument caller [] ∷ st) ≡ verdict l.rest WantOutermost (Argument caller (map expr_tree l.all.items) ∷ st);
-    shorter : length l.rest ≤ length l.tokens;
-  }
+  follows : (caller : Caller) (st : List Frame) → verdict l.tokens WantOutermost (Argument caller [] ∷ st) ≡ verdict l.rest WantOutermost (Argument caller (map expr_tree l.all.items) ∷ st);
+  shorter : length l.rest ≤ length l.tokens;
+}
 
 abbrev pub decreases-loop-all : goal.decreases-loop-all
 decreases-loop-all l = length l.rest

@@ -36,9 +36,9 @@ decreases-chosen l = 4 * length l.tokens.now + 3
 
 abbrev pub invariant-expr-loop-between : goal.invariant-expr-loop-between
 invariant-expr-loop-between l = record {
-    follows : (st : List Frame) → verdict l.tokens (WantExpr l.fn.used l.least) st ≡ verdict l.rest (HaveExpr l.used l.least (expr_tree l.left)) st;
-    shorter : length l.rest < length l.tokens;
-  }
+  follows : (st : List Frame) → verdict l.tokens (WantExpr l.fn.used l.least) st ≡ verdict l.rest (HaveExpr l.used l.least (expr_tree l.left)) st;
+  shorter : length l.rest < length l.tokens;
+}
 
 abbrev pub decreases-expr-loop-between : goal.decreases-expr-loop-between
 decreases-expr-loop-between l = length l.rest
