@@ -1,3 +1,6 @@
 pub mod Answers
+pub mod Follow
+pub mod FollowItems
 pub mod Frames
+pub mod Left
 pub mod Machine

@@ -1,26 +1,35 @@
-//! STUB FOR DEVELOPMENT ONLY.
+//! The reader of module texts: `read_module` answers the module that the grammar gives a text, or the text's first
+//! fault. The reading functions follow a machine (`specs/Machine.antt`), each by an equation on the machine's verdict
+//! (`specs/Follow.antt`); `proofs/` shows that the machine takes what the grammar spells and nothing else. Nobody has
+//! to trust the machine.
 #![tactic(auto)]
 
-ghost use Rattle.std.specs.Prelude.{◌≡◌, ◌⊎◌, ◌<◌, ◌+◌, ◌^◌, length, IfOk, IfErr, MatchResult, IsErrAnd};
-ghost use Rattle.cas_base.specs.declared.place.Place.{Place};
-ghost use Rattle.cas_lex.specs.declared.code.ReadCode.{ReadCode};
-ghost use Rattle.cas_read.specs.Answers.{IfAt};
-ghost use Rattle.cas_read.specs.declared.fault.ReadFault.TheVariants.{Memory, At};
-ghost use Rattle.cas_syntax.specs.Reading.{IsReadAs, HasReadFault};
-ghost use Rattle.cas_syntax.specs.Tree.{module_tree, ModuleTree};
-
-mod fault;
-pub use cas_lex::ReadCode;
-pub use fault::ReadFault;
-use cas_syntax::Module;
-use std::alloc::Global;
-
-pub fn read_module(_alloc: Global, bytes: &[u8]) -> Result<Module, ReadFault>
-    requires { length bytes.now + 1 < 2 ^ 32 }
-    ensures found { IfOk result (λ m. IsReadAs bytes.now (module_tree m)) }
-    ensures fault { IfErr result (λ e. IfAt (HasReadFault bytes.now) e) }
-{
-    let _ = bytes;
-    Err(ReadFault::Memory)
-}
+mod build;
+mod call;
+mod cells;
+mod depth;
+mod expr;
+mod front;
+mod function;
+mod head;
+mod held;
+mod item;
+mod kind;
 pub mod laws;
+mod limit;
+mod local;
+mod operator;
+mod param;
+mod parts;
+mod plain;
+mod read;
+mod simple;
+mod stmt;
+mod stop;
+mod target;
+#[cfg(test)]
+mod tests;
+mod values;
+
+pub use cas_lex::ReadCode;
+pub use read::{ReadFault, read_module};

@@ -1,0 +1,126 @@
+//! The parts of a `for` that stand before its body, and what stands behind the body of a `do`.
+
+ghost use Rattle.std.specs.Prelude.{◌≡◌, ◌<◌, ◌≤◌, ◌+◌, ◌∷◌, ℕ, length, List, IfOk, Option, true};
+ghost use Rattle.cas_base.specs.declared.place.Place.{Place};
+ghost use Rattle.cas_syntax.specs.Tree.{ExprTree, StmtTree, StmtOption, present, stmt_tree, expr_tree, optional_tree, do_};
+ghost use Rattle.cas_read.specs.Frames.{Frame, DoBody, HaveStmt, WantStmt, ForFirst, ForSecond, ForThird, ForBody, FirstKind, HaveSimple};
+ghost use Rattle.cas_read.specs.Follow.{Follows, verdict, option_tree, next_begins_kind, nests_kind, nests_simple};
+
+use crate::depth::too_deep_simple;
+use crate::expr::outermost;
+use crate::front::{behind, expect};
+use crate::kind::{begins_kind_at, kind};
+use crate::limit::DEPTH_LIMIT;
+use crate::local::local;
+use crate::plain::opened;
+use crate::simple::simple;
+use crate::stop::{Stop, fault, wrong};
+use cas_lex::{ReadCode, Sign, Token, TokenKind, Word};
+use cas_syntax::{Expr, Stmt};
+use std::alloc::Global;
+
+/// The condition behind the body of a `do`, with its `;`.
+#[tactic(auto, using(crate::proofs::StmtSteps::given_done))]
+pub fn do_end(alloc: Global, tokens: &[Token]) -> Result<(Expr, &[Token]), Stop>
+    ensures follows { (q : Place) (a : StmtTree) (st : List Frame) → Follows result (verdict tokens.now (HaveStmt a) (DoBody q ∷ st)) (λ p. verdict p.1.now (HaveStmt (do_ q a (expr_tree p.0))) st) }
+    ensures shorter { IfOk result (λ p. length p.1.now < length tokens.now) }
+{
+    let Some((token, rest)) = tokens.split_first() else {
+        return Err(fault(ReadCode::R6, tokens));
+    };
+    let TokenKind::Word(Word::While) = token.kind else {
+        return Err(fault(wrong(&token.kind), tokens));
+    };
+    let (condition, _, rest) = opened(alloc, rest)?;
+    let rest = expect(rest, Sign::CloseParen)?;
+    let rest = expect(rest, Sign::Semicolon)?;
+    Ok((condition, rest))
+}
+
+/// What a `for` does first, with its `;`. So many statements stand around the `for`.
+#[tactic(auto, using(crate::proofs::StmtSteps::first_local, crate::proofs::StmtSteps::first_simple, crate::proofs::StmtSteps::had_first_simple))]
+pub fn first(
+    alloc: Global,
+    tokens: &[Token],
+    around: usize,
+) -> Result<(Option<Stmt>, &[Token]), Stop>
+    requires { around < DEPTH_LIMIT }
+    ensures follows { (q : Place) (st : List Frame) → Follows result (verdict tokens.now (ForFirst around q) st) (λ p. verdict p.1.now (ForSecond around q (option_tree p.0)) st) }
+    ensures shorter { IfOk result (λ p. length p.1.now < length tokens.now) }
+{
+    if let Some(rest) = behind(tokens, Sign::Semicolon) {
+        return Ok((None, rest));
+    }
+    if begins_kind_at(tokens) {
+        let (local, rest) = first_local(alloc, tokens, around + 1)?;
+        return Ok((Some(local), rest));
+    }
+    let (simple, rest) = simple_in(alloc, tokens, around + 1)?;
+    let rest = expect(rest, Sign::Semicolon)?;
+    Ok((Some(simple), rest))
+}
+
+// A local that stands in so many statements, with its `;`.
+#[tactic(auto, using(crate::proofs::StmtSteps::nests_kind_within, crate::proofs::StmtSteps::nests_kind_too_deep, crate::proofs::StmtSteps::had_first_kind, crate::proofs::StmtSteps::had_first_local))]
+fn first_local(alloc: Global, tokens: &[Token], around: usize) -> Result<(Stmt, &[Token]), Stop>
+    requires { next_begins_kind tokens.now ≡ true }
+    ensures follows { (n : ℕ) (q : Place) (st : List Frame) → Follows result (nests_kind tokens.now around (FirstKind n q ∷ st)) (λ p. verdict p.1.now (ForSecond n q (present (stmt_tree p.0))) st) }
+    ensures shorter { IfOk result (λ p. length p.1.now < length tokens.now) }
+{
+    if around >= DEPTH_LIMIT {
+        return Err(fault(ReadCode::R8, tokens));
+    }
+    let (kind, _, rest) = kind(tokens, None)?;
+    let (local, rest) = local(alloc, kind, rest)?;
+    let rest = expect(rest, Sign::Semicolon)?;
+    Ok((local, rest))
+}
+
+// An assignment or a call that stands in so many statements.
+#[tactic(auto, using(crate::proofs::StmtSteps::nests_simple_within))]
+fn simple_in(alloc: Global, tokens: &[Token], around: usize) -> Result<(Stmt, &[Token]), Stop>
+    ensures follows { (st : List Frame) → Follows result (nests_simple tokens.now around st) (λ p. verdict p.1.now (HaveSimple (stmt_tree p.0)) st) }
+    ensures shorter { IfOk result (λ p. length p.1.now < length tokens.now) }
+{
+    let Some((token, _)) = tokens.split_first() else {
+        return Err(fault(ReadCode::R6, tokens));
+    };
+    if around < DEPTH_LIMIT {
+        simple(alloc, tokens)
+    } else {
+        Err(fault(too_deep_simple(&token.kind), tokens))
+    }
+}
+
+/// The condition of a `for`, with its `;`.
+#[tactic(auto, using(crate::proofs::StmtSteps::second_value, crate::proofs::StmtSteps::given_second))]
+pub fn second(alloc: Global, tokens: &[Token]) -> Result<(Option<Expr>, &[Token]), Stop>
+    ensures follows { (n : ℕ) (q : Place) (i : StmtOption) (st : List Frame) → Follows result (verdict tokens.now (ForSecond n q i) st) (λ p. verdict p.1.now (ForThird n q i (optional_tree p.0)) st) }
+    ensures shorter { IfOk result (λ p. length p.1.now < length tokens.now) }
+{
+    if let Some(rest) = behind(tokens, Sign::Semicolon) {
+        return Ok((None, rest));
+    }
+    let (condition, _, rest) = outermost(alloc, tokens)?;
+    let rest = expect(rest, Sign::Semicolon)?;
+    Ok((Some(condition), rest))
+}
+
+/// What a `for` does after each turn, with its `)`. So many statements stand around the `for`.
+#[tactic(auto, using(crate::proofs::StmtSteps::third_simple, crate::proofs::StmtSteps::had_third))]
+pub fn third(
+    alloc: Global,
+    tokens: &[Token],
+    around: usize,
+) -> Result<(Option<Stmt>, &[Token]), Stop>
+    requires { around < DEPTH_LIMIT }
+    ensures follows { (q : Place) (i : StmtOption) (c : Option ExprTree) (st : List Frame) → Follows result (verdict tokens.now (ForThird around q i c) st) (λ p. verdict p.1.now (WantStmt (around + 1)) (ForBody q i c (option_tree p.0) ∷ st)) }
+    ensures shorter { IfOk result (λ p. length p.1.now < length tokens.now) }
+{
+    if let Some(rest) = behind(tokens, Sign::CloseParen) {
+        return Ok((None, rest));
+    }
+    let (simple, rest) = simple_in(alloc, tokens, around + 1)?;
+    let rest = expect(rest, Sign::CloseParen)?;
+    Ok((Some(simple), rest))
+}

@@ -1,0 +1,84 @@
+//! Reading of module texts.
+
+ghost use Rattle.std.specs.Prelude.{◌≡◌, ◌<◌, ◌≤◌, ◌+◌, ◌^◌, length, IfOk, IfErr};
+ghost use Rattle.cas_base.specs.declared.place.Place.{Place};
+ghost use Rattle.cas_lex.specs.declared.code.ReadCode.{ReadCode};
+ghost use Rattle.cas_syntax.specs.Reading.{IsReadAs, HasReadFault};
+ghost use Rattle.cas_syntax.specs.Tree.{ModuleTree, module_tree};
+ghost use Rattle.cas_read.specs.Answers as answers;
+ghost use Rattle.cas_read.specs.Left as spec;
+
+use crate::item::items;
+use crate::stop::Stop;
+use cas_base::{Place, Seq};
+use cas_lex::{LexFault, ReadCode, Token, end_of, lex};
+use cas_syntax::Module;
+use std::alloc::Global;
+
+/// Why a text is read as no module.
+#[derive(Clone, Copy, Debug, PartialEq, Eq)]
+pub enum ReadFault {
+    /// Want of memory.
+    Memory,
+    /// The text's first fault.
+    At { code: ReadCode, place: Place },
+}
+
+/// The module that a text is read as.
+///
+/// Errors: `At` exactly with the text's first fault. `Memory`.
+#[tactic(auto, using(crate::proofs::Reader::answered_module, crate::proofs::Reader::answered_fault, crate::proofs::Reader::only_module, crate::proofs::Reader::only_fault))]
+pub fn read_module(alloc: Global, bytes: &[u8]) -> Result<Module, ReadFault>
+    requires { length bytes.now + 1 < 2 ^ 32 }
+    ensures found { IfOk result (λ m. IsReadAs bytes.now (module_tree m)) }
+    ensures fault { IfErr result (λ e. answers.IfAt (HasReadFault bytes.now) e) }
+
+    // and no other module, and no other fault
+    ensures only { (m : ModuleTree) → IsReadAs bytes.now m → answers.IsRead m result }
+    ensures fault_only { (code : ReadCode) (p : Place) → HasReadFault bytes.now code p → answers.IsFault code p result }
+{
+    read(alloc, bytes)
+}
+
+#[tactic(auto, using(crate::proofs::Reader::reads_lexical, crate::proofs::Reader::reads_fault, crate::proofs::Reader::left_within))]
+fn read(alloc: Global, bytes: &[u8]) -> Result<Module, ReadFault>
+    requires { length bytes.now + 1 < 2 ^ 32 }
+    ensures { answers.IsAnswer bytes.now result }
+{
+    let tokens = match lex(alloc, bytes) {
+        Ok(tokens) => tokens,
+        Err(fault) => return Err(lexical(fault)),
+    };
+    match items(alloc, tokens.as_slice()) {
+        Ok(items) => Ok(Module {
+            items: Seq::of(items),
+        }),
+        Err(Stop::Memory) => Err(ReadFault::Memory),
+        Err(Stop::At { code, left }) => {
+            let place = place_left(tokens.as_slice(), end_of(bytes), left);
+            Err(ReadFault::At { code, place })
+        }
+    }
+}
+
+// The lexer's fault as the reader's.
+fn lexical(fault: LexFault) -> ReadFault
+    ensures { result ≡ answers.lexical_fault fault }
+{
+    match fault {
+        LexFault::Memory => ReadFault::Memory,
+        LexFault::At { code, place } => ReadFault::At { code, place },
+    }
+}
+
+// The place of the token where so many are left, itself included; where none is left, the end.
+#[tactic(auto, using(crate::proofs::Faults::place_left_at, crate::proofs::Faults::place_left_end))]
+fn place_left(tokens: &[Token], end: Place, left: usize) -> Place
+    requires { left ≤ length tokens.now }
+    ensures { result ≡ spec.place_left tokens.now end left }
+{
+    match tokens.get(tokens.len() - left) {
+        Some(token) => token.place,
+        None => end,
+    }
+}

@@ -1,0 +1,101 @@
+//! Initial values of globals.
+
+ghost use Rattle.std.specs.Prelude.{◌≡◌, ◌<◌, ◌≤◌, ◌++◌, ◌∷◌, [], ℕ, Bool, length, List, Option, Some, None, IfOk};
+ghost use Rattle.cas_base.specs.declared.kind.Ty.TheVariants.{Int, Array};
+ghost use Rattle.cas_syntax.specs.declared.tree.Ident.{Ident};
+ghost use Rattle.cas_syntax.specs.Tree.{ItemTree};
+ghost use Rattle.cas_read.specs.Frames.{Sort, CellValue, CellNegative, WantCells, NegativeCells, HaveCells, MoreCells, CellsEnd};
+ghost use Rattle.cas_read.specs.Follow.{Follows, verdict};
+ghost use Rattle.cas_read.specs.FollowItems.{data_of, has_value_or_end};
+
+use crate::stop::{Stop, fault};
+use cas_base::{Kind, Seq, narrow, sub};
+use cas_lex::{ReadCode, Sign, Token, TokenKind};
+use std::alloc::Global;
+
+/// An initial value of a cell of this kind, and what stands behind it.
+pub fn value(tokens: &[Token], kind: Kind) -> Result<(u32, &[Token]), Stop>
+    ensures single { (s : Sort) (d : Bool) (x : Ident) (items : List ItemTree) → Follows result (verdict tokens.now (CellValue (data_of s d kind) x items) []) (λ p. verdict p.1.now (CellsEnd (data_of s d kind) x (Int kind) (p.0 ∷ []) items) []) }
+    ensures listed { (s : Sort) (d : Bool) (x : Ident) (n : ℕ) (vs : List ℕ) (items : List ItemTree) → Follows result (verdict tokens.now (WantCells (data_of s d kind) x n vs items) []) (λ p. verdict p.1.now (HaveCells (data_of s d kind) x n (vs ++ p.0 ∷ []) items) []) }
+    ensures shorter { IfOk result (λ p. length p.1.now < length tokens.now) }
+{
+    let Some((token, rest)) = tokens.split_first() else {
+        return Err(fault(ReadCode::R6, tokens));
+    };
+    match token.kind {
+        TokenKind::Literal(value, _) => Ok((narrow(value, kind), rest)),
+        TokenKind::Sign(Sign::Minus) => negative(rest, kind),
+        _ => Err(fault(ReadCode::R5, tokens)),
+    }
+}
+
+// A negative value of a cell of this kind, behind `-`.
+fn negative(tokens: &[Token], kind: Kind) -> Result<(u32, &[Token]), Stop>
+    ensures single { (s : Sort) (d : Bool) (x : Ident) (items : List ItemTree) → Follows result (verdict tokens.now (CellNegative (data_of s d kind) x items) []) (λ p. verdict p.1.now (CellsEnd (data_of s d kind) x (Int kind) (p.0 ∷ []) items) []) }
+    ensures listed { (s : Sort) (d : Bool) (x : Ident) (n : ℕ) (vs : List ℕ) (items : List ItemTree) → Follows result (verdict tokens.now (NegativeCells (data_of s d kind) x n vs items) []) (λ p. verdict p.1.now (HaveCells (data_of s d kind) x n (vs ++ p.0 ∷ []) items) []) }
+    ensures shorter { IfOk result (λ p. length p.1.now < length tokens.now) }
+{
+    let Some((token, rest)) = tokens.split_first() else {
+        return Err(fault(ReadCode::R6, tokens));
+    };
+    match token.kind {
+        TokenKind::Literal(value, _) => Ok((narrow(sub(0, value), kind), rest)),
+        _ => Err(fault(ReadCode::R5, tokens)),
+    }
+}
+
+/// The initial values of cells of this kind, behind `{`, and what stands behind `}`.
+pub fn values(alloc: Global, tokens: &[Token], kind: Kind) -> Result<(Seq<u32>, &[Token]), Stop>
+    ensures follows { (s : Sort) (d : Bool) (x : Ident) (n : ℕ) (items : List ItemTree) → Follows result (verdict tokens.now (WantCells (data_of s d kind) x n [] items) []) (λ p. verdict p.1.now (CellsEnd (data_of s d kind) x (Array kind n) p.0 items) []) }
+    ensures shorter { IfOk result (λ p. length p.1.now < length tokens.now) }
+{
+    let (first, mut rest) = value(tokens, kind)?;
+    let mut all = Vec::new(alloc);
+    all.push(first)?;
+    'values: loop {
+        let (next, after) = next_value(rest, kind)?;
+        rest = after;
+        match next {
+            Some(value) => all.push(value)?,
+            None => return Ok((Seq::of(all), rest)),
+        }
+    }
+}
+
+// A further value behind one of a list, or none where the list ends.
+fn next_value(tokens: &[Token], kind: Kind) -> Result<(Option<u32>, &[Token]), Stop>
+    ensures follows { (s : Sort) (d : Bool) (x : Ident) (n : ℕ) (vs : List ℕ) (items : List ItemTree) → Follows result (verdict tokens.now (HaveCells (data_of s d kind) x n vs items) []) (λ p. has_value_or_end p.0 p.1.now (data_of s d kind) x n vs items) }
+    ensures shorter { IfOk result (λ p. length p.1.now < length tokens.now) }
+{
+    let Some((token, rest)) = tokens.split_first() else {
+        return Err(fault(ReadCode::R6, tokens));
+    };
+    match token.kind {
+        TokenKind::Sign(Sign::Comma) => value_or_end(rest, kind),
+        TokenKind::Sign(Sign::CloseBrace) => Ok((None, rest)),
+        _ => Err(fault(ReadCode::R5, tokens)),
+    }
+}
+
+// A further value behind a comma, or none where the list ends.
+fn value_or_end(tokens: &[Token], kind: Kind) -> Result<(Option<u32>, &[Token]), Stop>
+    ensures follows { (s : Sort) (d : Bool) (x : Ident) (n : ℕ) (vs : List ℕ) (items : List ItemTree) → Follows result (verdict tokens.now (MoreCells (data_of s d kind) x n vs items) []) (λ p. has_value_or_end p.0 p.1.now (data_of s d kind) x n vs items) }
+    ensures shorter { IfOk result (λ p. length p.1.now < length tokens.now) }
+{
+    let Some((token, rest)) = tokens.split_first() else {
+        return Err(fault(ReadCode::R6, tokens));
+    };
+    match token.kind {
+        TokenKind::Sign(Sign::CloseBrace) => Ok((None, rest)),
+        _ => further_value(tokens, kind),
+    }
+}
+
+// A further value of a list.
+fn further_value(tokens: &[Token], kind: Kind) -> Result<(Option<u32>, &[Token]), Stop>
+    ensures follows { (s : Sort) (d : Bool) (x : Ident) (n : ℕ) (vs : List ℕ) (items : List ItemTree) → Follows result (verdict tokens.now (WantCells (data_of s d kind) x n vs items) []) (λ p. has_value_or_end p.0 p.1.now (data_of s d kind) x n vs items) }
+    ensures shorter { IfOk result (λ p. length p.1.now < length tokens.now) }
+{
+    let (value, rest) = value(tokens, kind)?;
+    Ok((Some(value), rest))
+}
