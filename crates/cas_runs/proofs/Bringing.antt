@@ -1,8 +1,8 @@
 -- Where blocks are moved, the outside leaves both threads alike, and what they hold keeps to the layer of calls.
-use Rattle.std.proofs.Common.{◌≡◌, ℕ, zero, suc, ◌+◌, ◌<◌, ◌≤◌, List, [], ◌∷◌, Option, Some, None, Bool, true, false, if◌then◌else◌, length, slice_get, slice_set, nat_eq, inl, inr, refl, sym, ap, ◌∙◌, subst, ⊎_elim, arith, eqb-true}
+use Rattle.std.proofs.Common.{◌≡◌, ℕ, zero, suc, ◌+◌, ◌<◌, ◌≤◌, List, [], ◌∷◌, Option, Some, None, Bool, true, false, if◌then◌else◌, length, slice_get, slice_set, nat_eq, nat_lt, inl, inr, refl, sym, ap, ◌∙◌, subst, ⊎_elim, arith, eqb-true}
 use Rattle.std.proofs.lemmas.Option.{slice_get_within}
 use Rattle.cas_runs.specs.Label.{NameBytes, Shown, Word, Place, Object, Crossing}
-use Rattle.cas_runs.specs.Naming.{Home, Own, Theirs, Value, Number, Pointer, Part, Layout, Named, Naming, Memory, and_then, all_named_by, reaches, reached_in, can_show, can_show_all, same_home, objects_of, same_objects, value_at, taken, all_taken, written, with_block, left_in, new_block, Crossed, brought}
+use Rattle.cas_runs.specs.Naming.{Home, Own, Theirs, Value, Number, Pointer, Part, Layout, parts_at, some_reaches, Named, Naming, Memory, and_then, all_named_by, reaches, reached_in, can_show, can_show_all, same_home, objects_of, same_objects, value_at, taken, all_taken, written, with_block, left_in, new_block, Crossed, brought}
 use Rattle.cas_runs.specs.Machine.{Block}
 use Rattle.cas_runs.specs.Access.{Holding, value_in, length_of}
 use Rattle.cas_runs.specs.Forms.{LengthsAlike, Stored, MemoryKeeps}
@@ -129,27 +129,32 @@ module _ {F A G B : Type 0} (target : Activations F A) (source : Activations G B
       let here : reached_in (Some (record { home = Theirs k; part = n.part })) (Theirs k) at ≡ true = subst (λ v. reached_in (Some (record { home = v; part = n.part })) (Theirs k) at ≡ true) homes h in
       subst (λ (v : Option Named). reached_in v (Theirs k) at ≡ true) (sym m.1) (subst (λ (v : Named). reached_in (Some v) (Theirs k) at ≡ true) (sym at_theirs) here)
 
-  shows_too : (ms ns : Naming) → NamingMoved place sizes ms ns → (v w : Value) → SameMoved place v w → can_show layout ns w ≡ true → can_show placed ms v ≡ true
-  shows_too ms ns e v (Number u) s h = ap (λ o. can_show placed ms o) (let same : v ≡ Number u = sym (let there : Number u ≡ v = cc s in there) in same)
-  shows_too ms ns e v (Pointer (Theirs k) at) s h = subst (λ o. can_show placed ms o ≡ true) (let same : Pointer (Theirs k) at ≡ v = cc s in same) (reached_too ms ns e k at (slice_get ns k) refl h)
-  shows_too ms ns e v (Pointer (Own f a b) at) s h = by (place f b) refl s
+  shows_too : (begun : ℕ) (ms ns : Naming) → NamingMoved place sizes ms ns → (v w : Value) → SameMoved place v w → can_show (parts_at layout begun) ns w ≡ true → can_show (parts_at placed begun) ms v ≡ true
+  shows_too begun ms ns e v (Number u) s h = ap (λ o. can_show (parts_at placed begun) ms o) (let same : v ≡ Number u = sym (let there : Number u ≡ v = cc s in there) in same)
+  shows_too begun ms ns e v (Pointer (Theirs k) at) s h = subst (λ o. can_show (parts_at placed begun) ms o ≡ true) (let same : Pointer (Theirs k) at ≡ v = cc s in same) (reached_too ms ns e k at (slice_get ns k) refl h)
+  shows_too begun ms ns e v (Pointer (Own f a b) at) s h = by (place f b) refl s
     where
-      by : (o : Option Spot) → place f b ≡ o → pointer_in f a o at ≡ Some v → can_show placed ms v ≡ true
+      by : (o : Option Spot) → place f b ≡ o → pointer_in f a o at ≡ Some v → can_show (parts_at placed begun) ms v ≡ true
       by None i j = absurd (cc j)
       by (Some to) i j =
           let same : Pointer (Own f a to.block) (to.offset + at) ≡ v = cc j in
-          let p = part_reached (layout f b) at h in
-          let parts = is.parts f b to i at p.place p.part p.found in
-          subst (λ o. can_show placed ms o ≡ true) same (reached_by (placed f to.block) (to.offset + at) p.place (moved_part to.offset p.part) parts.0)
+          subst (λ o. can_show (parts_at placed begun) ms o ≡ true) same (has_begun (nat_lt a begun) h)
+        where
+          has_begun : (t : Bool) → some_reaches (if t then layout f b else []) at ≡ true → some_reaches (if t then placed f to.block else []) (to.offset + at) ≡ true
+          has_begun false g = absurd (cc g)
+          has_begun true g =
+              let p = part_reached (layout f b) at g in
+              let parts = is.parts f b to i at p.place p.part p.found in
+              reached_by (placed f to.block) (to.offset + at) p.place (moved_part to.offset p.part) parts.0
 
-  all_show_too : (ms ns : Naming) → NamingMoved place sizes ms ns → (vs ws : List Value) → AllMoved place vs ws → can_show_all layout ns ws ≡ true → can_show_all placed ms vs ≡ true
-  all_show_too ms ns e [] [] s h = refl
-  all_show_too ms ns e [] (w ∷ ws) s h = absurd s
-  all_show_too ms ns e (v ∷ vs) [] s h = absurd s
-  all_show_too ms ns e (v ∷ vs) (w ∷ ws) s h = by (λ g. all_show_too ms ns e vs ws s.1 g) (λ g. shows_too ms ns e v w s.0 g) (can_show layout ns w) refl h
+  all_show_too : (begun : ℕ) (ms ns : Naming) → NamingMoved place sizes ms ns → (vs ws : List Value) → AllMoved place vs ws → can_show_all (parts_at layout begun) ns ws ≡ true → can_show_all (parts_at placed begun) ms vs ≡ true
+  all_show_too begun ms ns e [] [] s h = refl
+  all_show_too begun ms ns e [] (w ∷ ws) s h = absurd s
+  all_show_too begun ms ns e (v ∷ vs) [] s h = absurd s
+  all_show_too begun ms ns e (v ∷ vs) (w ∷ ws) s h = by (λ g. all_show_too begun ms ns e vs ws s.1 g) (λ g. shows_too begun ms ns e v w s.0 g) (can_show (parts_at layout begun) ns w) refl h
     where
-      by : (can_show_all layout ns ws ≡ true → can_show_all placed ms vs ≡ true) → (can_show layout ns w ≡ true → can_show placed ms v ≡ true) → (t : Bool) → can_show layout ns w ≡ t → (if t then can_show_all layout ns ws else false) ≡ true → (if can_show placed ms v then can_show_all placed ms vs else false) ≡ true
-      by rest first true i j = ap (λ (t : Bool). if t then can_show_all placed ms vs else false) (first i) ∙ rest j
+      by : (can_show_all (parts_at layout begun) ns ws ≡ true → can_show_all (parts_at placed begun) ms vs ≡ true) → (can_show (parts_at layout begun) ns w ≡ true → can_show (parts_at placed begun) ms v ≡ true) → (t : Bool) → can_show (parts_at layout begun) ns w ≡ t → (if t then can_show_all (parts_at layout begun) ns ws else false) ≡ true → (if can_show (parts_at placed begun) ms v then can_show_all (parts_at placed begun) ms vs else false) ≡ true
+      by rest first true i j = ap (λ (t : Bool). if t then can_show_all (parts_at placed begun) ms vs else false) (first i) ∙ rest j
       by rest first false i j = absurd (cc j)
 
   -- What crosses.
@@ -160,27 +165,27 @@ module _ {F A G B : Type 0} (target : Activations F A) (source : Activations G B
       Found : Type 0
       Found = (ms : Naming) × (crosses_as placed vs p h crossing ≡ Some ms) × AlikeMoved place sizes (with_naming p ms) h (with_naming q ns) k
 
-      shown : (ms ns' : Naming) → NamingMoved place sizes ms ns' → same_share h.share crossing.share ≡ true → all_named_by placed p.naming vs crossing.values ≡ Some ms → (u : Bool) → same_objects (objects_of k.memory ns') crossing.objects ≡ u → if_shown u ns' ≡ Some ns → (ms : Naming) × (crosses_as placed vs p h crossing ≡ Some ms) × AlikeMoved place sizes (with_naming p ms) h (with_naming q ns) k
+      shown : (ms ns' : Naming) → NamingMoved place sizes ms ns' → same_share h.share crossing.share ≡ true → all_named_by (parts_at placed p.begun) p.naming vs crossing.values ≡ Some ms → (u : Bool) → same_objects (objects_of k.memory ns') crossing.objects ≡ u → if_shown u ns' ≡ Some ns → (ms : Naming) × (crosses_as placed vs p h crossing ≡ Some ms) × AlikeMoved place sizes (with_naming p ms) h (with_naming q ns) k
       shown ms ns' moves share named false i j = absurd (cc j)
       shown ms ns' moves share named true i j =
           let same : ns' ≡ ns = cc j in
           let objects = all_shown_same target source made place sizes placed layout is h.memory k.memory a.memory ms ns' moves in (
             ms,
-            ap (λ (t : Bool). if t then and_then (all_named_by placed p.naming vs crossing.values) (λ v. if_shown (same_objects (objects_of h.memory v) crossing.objects) v) else None) share
+            ap (λ (t : Bool). if t then and_then (all_named_by (parts_at placed p.begun) p.naming vs crossing.values) (λ v. if_shown (same_objects (objects_of h.memory v) crossing.objects) v) else None) share
                 ∙ ap (λ (o : Option Naming). and_then o (λ v. if_shown (same_objects (objects_of h.memory v) crossing.objects) v)) named
                 ∙ ap (λ os. if_shown (same_objects os crossing.objects) ms) objects ∙ ap (λ u. if_shown u ms) i,
             record { begun = a.begun; share = a.share; memory = a.memory; naming = subst (λ v. NamingMoved place sizes ms v) same moves },
           )
 
-      names : same_share h.share crossing.share ≡ true → (o : Option Naming) → all_named_by layout q.naming ws crossing.values ≡ o → and_then o (λ v. if_shown (same_objects (objects_of k.memory v) crossing.objects) v) ≡ Some ns → (ms : Naming) × (crosses_as placed vs p h crossing ≡ Some ms) × AlikeMoved place sizes (with_naming p ms) h (with_naming q ns) k
+      names : same_share h.share crossing.share ≡ true → (o : Option Naming) → all_named_by (parts_at layout q.begun) q.naming ws crossing.values ≡ o → and_then o (λ v. if_shown (same_objects (objects_of k.memory v) crossing.objects) v) ≡ Some ns → (ms : Naming) × (crosses_as placed vs p h crossing ≡ Some ms) × AlikeMoved place sizes (with_naming p ms) h (with_naming q ns) k
       names share None i j = absurd (cc j)
       names share (Some ns') i j =
-          let m = all_names_too target source made place sizes placed layout is vs ws s p.naming q.naming a.naming crossing.values ns' i in
-          shown m.0 ns' m.2 share m.1 (same_objects (objects_of k.memory ns') crossing.objects) refl j
+          let m = all_names_too target source made place sizes placed layout is q.begun vs ws s p.naming q.naming a.naming crossing.values ns' i in
+          shown m.0 ns' m.2 share (subst (λ n. all_named_by (parts_at placed n) p.naming vs crossing.values ≡ Some m.0) (sym a.begun) m.1) (same_objects (objects_of k.memory ns') crossing.objects) refl j
 
-      by : (t : Bool) → same_share k.share crossing.share ≡ t → (if t then and_then (all_named_by layout q.naming ws crossing.values) (λ v. if_shown (same_objects (objects_of k.memory v) crossing.objects) v) else None) ≡ Some ns → (ms : Naming) × (crosses_as placed vs p h crossing ≡ Some ms) × AlikeMoved place sizes (with_naming p ms) h (with_naming q ns) k
+      by : (t : Bool) → same_share k.share crossing.share ≡ t → (if t then and_then (all_named_by (parts_at layout q.begun) q.naming ws crossing.values) (λ v. if_shown (same_objects (objects_of k.memory v) crossing.objects) v) else None) ≡ Some ns → (ms : Naming) × (crosses_as placed vs p h crossing ≡ Some ms) × AlikeMoved place sizes (with_naming p ms) h (with_naming q ns) k
       by false i j = absurd (cc j)
-      by true i j = names (subst (λ v. same_share v crossing.share ≡ true) (sym a.share) i) (all_named_by layout q.naming ws crossing.values) refl j
+      by true i j = names (subst (λ v. same_share v crossing.share ≡ true) (sym a.share) i) (all_named_by (parts_at layout q.begun) q.naming ws crossing.values) refl j
 
 module _ {F A G B : Type 0} (target : Activations F A) (source : Activations G B) (setting : Setting) (placed : Layout) (ts : List F) (ss : List G) (made : F → G → Type 0) (place : Placing) (sizes : NameBytes → ℕ → ℕ) (match : ℕ → A → Holding → Block → B → Holding → Block → Type 0) (is : IsPlacing target source made place sizes placed setting.layout) where
   abbrev R : Relation F A G B
@@ -226,7 +231,7 @@ module _ {F A G B : Type 0} (target : Activations F A) (source : Activations G B
       alike = with_memory p q h k (without_own target f n h) (without_own source g n k) a a.share (blocks_moved target source made place sizes placed setting.layout is gone end f g m n n refl h.memory k.memory a.memory);
       later = tt;
     };
-    shows = λ p q h k a vs ws s e. all_show_too target source made place sizes placed setting.layout is p.naming q.naming a.naming vs ws (to_moved vs ws s) e;
+    shows = λ p q h k a vs ws s e. subst (λ n. can_show_all (parts_at placed n) p.naming vs ≡ true) (sym a.begun) (all_show_too target source made place sizes placed setting.layout is q.begun p.naming q.naming a.naming vs ws (to_moved vs ws s) e);
     crosses = λ p q h k a vs ws s crossing ns e. crosses_moved target source made place sizes placed setting.layout is p q h k a vs ws (to_moved vs ws s) crossing ns e;
     hears = λ n p q h k a crossing.
         let both = left target source made place sizes placed setting.layout is crossing.objects h.memory k.memory a.memory p.naming q.naming a.naming 0 in (

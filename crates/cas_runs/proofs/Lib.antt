@@ -5,10 +5,13 @@ pub mod Determined
 pub mod Keeping
 pub mod Lifted
 pub mod Lifting
+pub mod Objects
 pub mod Performing
 pub mod Placing
 pub mod Refining
+pub mod Ruling
 pub mod Sanity
+pub mod Shares
 pub mod Showing
 pub mod Stepping
 pub mod Tests

@@ -2,14 +2,14 @@
 use Rattle.std.proofs.Common.{◌≡◌, ℕ, ◌+◌, ◌≤◌, List, [], ◌∷◌, ◌⊎◌, Option, Some, None, Bool, true, false, if◌then◌else◌, inl, inr, refl, sym, ap, ◌∙◌, subst, ⊎_elim, arith}
 use Rattle.cas_runs.specs.Label.{NameBytes, same_name, Share, Crossing, RunLabel, Lock, Unlock, Out, Done, Enter, Back, Call, Leave}
 use Rattle.cas_runs.specs.Outside.{MayBring}
-use Rattle.cas_runs.specs.Naming.{Value, Naming, can_show_all, all_taken}
+use Rattle.cas_runs.specs.Naming.{Value, Naming, all_taken}
 use Rattle.cas_runs.specs.Machine.{Act, Quiet, Says, Crosses, Locks, Hears, Bad, Stops, Ended, Taken, Full, Prints, Machine, CanCross, Leads, IsBad, Block, nothing, begun, onward, and_step}
 use Rattle.cas_runs.specs.Refines.{Within, Subsequence, done, keep, skip, Refines}
 use Rattle.cas_runs.specs.Simulation.{halts, fails_halting, step_halting, BadSoon, now, soon, Follows, related, fails as fails_follows, step, FollowsBy, by, fails_before, step_before, crosses, fails_crossing, step_crossing, Answers, Fine, Simulates}
 use Rattle.cas_runs.specs.Bounds.{IsTariff, Tariff, BySize, ByForms, step_price, first_price, waiting_price}
 use Rattle.cas_runs.specs.Access.{Holding, Then, words_in, with_lock, without_lock, performed}
 use Rattle.cas_runs.specs.Unit.{Setting, laid_out, guard_of}
-use Rattle.cas_runs.specs.Calls.{Last, Goes, Takes, Gives, Puts, Calls, Tails, Returns, Scene, Frame, Waits, Outer, Past, Thread, Away, Runs, Leaves, Over, nothing_touched, crosses_as, with_naming, to_outside, calls_by, leaves_by, crosses_if, leaves, goes_back, returns, resumes, comes_back, with_share, takes_lock, takes, gives_lock, gives, find, with_own, without_own, set_blocks, gone, one_begun, begins, calls_in, enters_at, enters, below, called, calls_out, calls, acts, hears, machine}
+use Rattle.cas_runs.specs.Calls.{Last, Goes, Takes, Gives, Puts, Calls, Tails, Returns, Scene, Frame, Waits, Outer, Past, Thread, Away, Runs, Leaves, Over, nothing_touched, can_cross, crosses_as, with_naming, to_outside, calls_by, leaves_by, crosses_if, leaves, goes_back, returns, resumes, comes_back, with_share, takes_lock, takes, gives_lock, gives, find, with_own, without_own, set_blocks, gone, one_begun, begins, calls_in, enters_at, enters, below, called, calls_out, calls, acts, hears, machine}
 use Rattle.cas_runs.specs.Passing.{Relation, AllSame, t_step, s_step, Stands, Going, matched, fails, goes, Ready, ReadyIf, WaitAlike, PassesOn, OnlyPasses, TailAlike, tail, passing, LastAlike, Meets, meets, fails_first, goes_first, FailsSoon, fails_now, goes_on, Does, Passes, SameIf, brought_in, heard, Keeps, Pays, AllMade}
 use Rattle.cas_runs.proofs.Refining.{steps_refine, within_more}
 use Rattle.cas_runs.proofs.Showing.{some_crossing}
@@ -233,8 +233,8 @@ module _ {F A G B : Type 0} (r : Relation F A G B) (is : Keeps r) (pays : Pays r
     each_leave (Back crossing) y c e = absurd c
 
     -- the source's crossing has a label where it can be shown
-    crosses_too : (next : RunLabel → Option (Thread F A)) (next' : RunLabel → Option (Thread G B)) (label : Crossing → RunLabel) → ((crossing : Crossing) → CanCross (label crossing)) → ((crossing : Crossing) → next' (label crossing) ≡ to_outside ys q k (crosses_as r.setting.layout ws q k crossing)) → ((l : RunLabel) (y : Thread G B) → CanCross l → next' l ≡ Some y → EachOut l (next l) y) → (b d : Block) (z : Thread G B) → (t : Bool) → can_show_all r.setting.layout q.naming ws ≡ t → S.act z ≡ crosses_if t next' → Ans ls (crosses_if (can_show_all r.placed p.naming vs) next) b z d
-    crosses_too next next' label can shown each b d z false e f = answers_bad ls (crosses_if (can_show_all r.placed p.naming vs) next) b z d (subst (λ (v : Act (Thread G B)). IsBad v) (sym f) tt)
+    crosses_too : (next : RunLabel → Option (Thread F A)) (next' : RunLabel → Option (Thread G B)) (label : Crossing → RunLabel) → ((crossing : Crossing) → CanCross (label crossing)) → ((crossing : Crossing) → next' (label crossing) ≡ to_outside ys q k (crosses_as r.setting.layout ws q k crossing)) → ((l : RunLabel) (y : Thread G B) → CanCross l → next' l ≡ Some y → EachOut l (next l) y) → (b d : Block) (z : Thread G B) → (t : Bool) → can_cross r.setting.layout q ws ≡ t → S.act z ≡ crosses_if t next' → Ans ls (crosses_if (can_cross r.placed p vs) next) b z d
+    crosses_too next next' label can shown each b d z false e f = answers_bad ls (crosses_if (can_cross r.placed p vs) next) b z d (subst (λ (v : Act (Thread G B)). IsBad v) (sym f) tt)
     crosses_too next next' label can shown each b d z true e f =
         let some = some_crossing r.setting.layout ws q k e in
         let has : next' (label some.crossing) ≡ Some (Away ys (with_naming q some.naming) k) = shown some.crossing ∙ ap (λ (o : Option Naming). to_outside ys q k o) some.crosses in
@@ -242,14 +242,14 @@ module _ {F A G B : Type 0} (r : Relation F A G B) (is : Keeps r) (pays : Pays r
         (crosses next' f (label some.crossing) (Away ys (with_naming q some.naming) k) (can some.crossing) has each)
 
     leaves_too : (b d : Block) (z : Thread G B) → S.act z ≡ leaves r.setting.layout ws ys q k → Ans ls (leaves r.placed vs xs p h) b z d
-    leaves_too b d z e = crosses_too (leaves_by r.placed vs xs p h) (leaves_by r.setting.layout ws ys q k) (λ crossing. Leave crossing) (λ crossing. tt) (λ crossing. refl) each_leave b d z (can_show_all r.setting.layout q.naming ws) refl e
+    leaves_too b d z e = crosses_too (leaves_by r.placed vs xs p h) (leaves_by r.setting.layout ws ys q k) (λ crossing. Leave crossing) (λ crossing. tt) (λ crossing. refl) each_leave b d z (can_cross r.setting.layout q ws) refl e
 
   each_calls : (ls : List RunLabel) (p q : Past) (h k : Holding) → r.alike p h q k → (vs ws : List Value) → AllSame r vs ws → (xs : List (Frame F A)) (ys : List (Frame G B)) → Frames h k p.begun xs ys → (function : NameBytes) (b d : Block) (z : Thread G B) → (o : Bool) → outward ≡ o → S.act z ≡ calls_out r.source r.setting scene_s o function ws ys q k → Ans ls (calls_out r.target there scene_t o function vs xs p h) b z d
   each_calls ls p q h k alike vs ws same xs ys fr function b d z false out e = now (subst (λ (v : Act (Thread G B)). IsBad v) (sym e) tt)
   each_calls ls p q h k alike vs ws same xs ys fr function b d z true out e =
       crosses_too ls p q h k alike vs ws same xs ys fr out (calls_by r.placed function vs xs p h) (calls_by r.setting.layout function ws ys q k) (λ crossing. Call function crossing) (λ crossing. tt)
       (λ crossing. ap (λ (t : Bool). if t then to_outside ys q k (crosses_as r.setting.layout ws q k crossing) else None) (same_name_self function))
-      (each_call ls p q h k alike vs ws same xs ys fr out function) b d z (can_show_all r.setting.layout q.naming ws) refl e
+      (each_call ls p q h k alike vs ws same xs ys fr out function) b d z (can_cross r.setting.layout q ws) refl e
 
   -- Calls within.
 

@@ -2,7 +2,7 @@
 use Rattle.std.proofs.Common.{◌≡◌, ℕ, zero, suc, ◌+◌, ◌-◌, ◌<◌, ◌≤◌, List, [], ◌∷◌, ◌++◌, ◌⊎◌, Option, Some, None, Bool, true, false, ◌&&◌, if◌then◌else◌, length, slice_get, nat_eq, nat_lt, nat_le, inl, inr, refl, sym, ap, ◌∙◌, subst, ⊎_elim, arith, eqb-true, leb-true, ltb-true, ltb-false, leb-false}
 use Rattle.std.proofs.lemmas.Option.{slice_get_within}
 use Rattle.cas_runs.specs.Label.{NameBytes, Shown, Word, Place, Inside, Outside}
-use Rattle.cas_runs.specs.Naming.{Home, Own, Theirs, Value, Number, Pointer, Part, Layout, Named, Naming, Memory, parts_of, same_home, same_part, is_it, one_later, number_of, is_place, part_by, again, if_new, first_time, named_by, and_then, all_named_by, cells, content, contents, contents_in, object_of, objects_of, refilled, overwritten, written, with_block, filled, new_block}
+use Rattle.cas_runs.specs.Naming.{Home, Own, Theirs, Value, Number, Pointer, Part, Layout, Named, Naming, Memory, parts_at, same_home, same_part, is_it, one_later, number_of, is_place, part_by, again, if_new, first_time, named_by, and_then, all_named_by, cells, content, contents, contents_in, object_of, objects_of, refilled, overwritten, written, with_block, filled, new_block}
 use Rattle.cas_runs.specs.Calls.{Activations, zeros, set_blocks, fresh, gone}
 use Rattle.cas_runs.specs.Placing.{Spot, Placing, pointer_in, moved, SameMoved, AllMoved, CellsMoved, BlockMoved, ObjectMoved, MemoryMoved, moved_part, NamedMoved, NamingMoved, IsPlacing}
 use Rattle.cas_runs.proofs.Tests.{and_both, both_true, eq_self, same_home_self, same_home_from}
@@ -131,7 +131,7 @@ cells_after place offset vs ws from n us h i w e =
 
 -- The blocks of an activation.
 
-set_elsewhere : (words : ℕ → Option (List Value)) (m : Memory) (name : NameBytes) (serial k : ℕ) (sizes : List ℕ) (home : Home) → ((j : ℕ) → j < length sizes → home ≡ Own name serial (k + j) → ⊥) → set_blocks words m name serial k sizes home ≡ m home
+pub set_elsewhere : (words : ℕ → Option (List Value)) (m : Memory) (name : NameBytes) (serial k : ℕ) (sizes : List ℕ) (home : Home) → ((j : ℕ) → j < length sizes → home ≡ Own name serial (k + j) → ⊥) → set_blocks words m name serial k sizes home ≡ m home
 set_elsewhere words m name serial k [] home h = refl
 set_elsewhere words m name serial k (size ∷ sizes) home h =
     set_elsewhere words (with_block m (Own name serial k) (words size)) name serial (k + 1) sizes home (λ j less e.
@@ -139,7 +139,7 @@ set_elsewhere words m name serial k (size ∷ sizes) home h =
     h (suc j) (omega (arith, less)) (e ∙ own_same name serial _ _ next))
     ∙ with_elsewhere m (Own name serial k) home (words size) (λ e. let none : k ≡ k + 0 = omega arith in h 0 (omega arith) (e ∙ own_same name serial _ _ none))
 
-set_there : (words : ℕ → Option (List Value)) (m : Memory) (name : NameBytes) (serial k : ℕ) (sizes : List ℕ) (j i size : ℕ) → slice_get sizes j ≡ Some size → i ≡ k + j → set_blocks words m name serial k sizes (Own name serial i) ≡ words size
+pub set_there : (words : ℕ → Option (List Value)) (m : Memory) (name : NameBytes) (serial k : ℕ) (sizes : List ℕ) (j i size : ℕ) → slice_get sizes j ≡ Some size → i ≡ k + j → set_blocks words m name serial k sizes (Own name serial i) ≡ words size
 set_there words m name serial k [] j i size e f = absurd (cc e)
 set_there words m name serial k (x ∷ sizes) zero i size e f =
     let here : i ≡ k = omega (arith, f) in
@@ -449,9 +449,9 @@ module _ {F A G B : Type 0} (target : Activations F A) (source : Activations G B
       by more too false i false j g = ap one_later (more (none_later (number_of ns (Own f a b) part) g))
 
   -- the target can name what crosses so too
-  record NamesToo (ms : Naming) (v : Value) (x : Shown) (ns' : Naming) : Type 0 where
+  record NamesToo (begun : ℕ) (ms : Naming) (v : Value) (x : Shown) (ns' : Naming) : Type 0 where
     naming : Naming
-    named : named_by placed ms v x ≡ Some naming
+    named : named_by (parts_at placed begun) ms v x ≡ Some naming
     moves : NamingMoved place sizes naming ns'
 
   names_again : (ms ns : Naming) → NamingMoved place sizes ms ns → (home' : Home) (at' : ℕ) (home : Home) (at : ℕ) → PointsTo home' at' home at → (k pl : ℕ) (ns' : Naming) → (o : Option Named) → slice_get ns k ≡ o → again o ns home at pl ≡ Some ns' → (ms' : Naming) × (again (slice_get ms k) ms home' at' pl ≡ Some ms') × NamingMoved place sizes ms' ns'
@@ -468,77 +468,82 @@ module _ {F A G B : Type 0} (target : Activations F A) (source : Activations G B
           let same : ns ≡ ns' = cc j in
           (ms, ap (λ (o : Option Named). again o ms home' at' pl) m.1 ∙ ap (λ (t : Bool). if t then Some ms else None) (again_moved m.0 home n.part moves home' at at' pl points both.1), subst (λ v. NamingMoved place sizes ms v) same e)
 
-  names_first : (ms ns : Naming) → NamingMoved place sizes ms ns → (home' : Home) (at' : ℕ) (home : Home) (at : ℕ) → PointsTo home' at' home at → (pl : ℕ) (ns' : Naming) → (o : Option Part) → part_by (parts_of layout home) at pl ≡ o → first_time o ns home ≡ Some ns' → (ms' : Naming) × (first_time (part_by (parts_of placed home') at' pl) ms home' ≡ Some ms') × NamingMoved place sizes ms' ns'
-  names_first ms ns e home' at' home at points pl ns' None g h = absurd (cc h)
-  names_first ms ns e home' at' (Theirs k) at points pl ns' (Some part) g h = absurd (cc g)
-  names_first ms ns e home' at' (Own f a b) at points pl ns' (Some part) g h = by (number_of ns (Own f a b) part) refl h
+  names_first : (begun : ℕ) (ms ns : Naming) → NamingMoved place sizes ms ns → (home' : Home) (at' : ℕ) (home : Home) (at : ℕ) → PointsTo home' at' home at → (pl : ℕ) (ns' : Naming) → (o : Option Part) → part_by (parts_at layout begun home) at pl ≡ o → first_time o ns home ≡ Some ns' → (ms' : Naming) × (first_time (part_by (parts_at placed begun home') at' pl) ms home' ≡ Some ms') × NamingMoved place sizes ms' ns'
+  names_first begun ms ns e home' at' home at points pl ns' None g h = absurd (cc h)
+  names_first begun ms ns e home' at' (Theirs k) at points pl ns' (Some part) g h = absurd (cc h)
+  names_first begun ms ns e home' at' (Own f a b) at points pl ns' (Some part) g h = has_begun (nat_lt a begun) refl g
     where
-      by : (o : Option ℕ) → number_of ns (Own f a b) part ≡ o → if_new o ns (record { home = Own f a b; part = part }) ≡ Some ns' → (ms' : Naming) × (first_time (part_by (parts_of placed home') at' pl) ms home' ≡ Some ms') × NamingMoved place sizes ms' ns'
-      by (Some k) i j = absurd (cc j)
-      by None i j =
-          let to = points.0 in
-          let parts = is.parts f b to points.1 at pl part g in
-          let same : ns ++ record { home = Own f a b; part = part } ∷ [] ≡ ns' = cc j in
-          let new : Named = record { home = Own f a to.block; part = moved_part to.offset part } in
-          let there : first_time (part_by (parts_of placed (Own f a to.block)) (to.offset + at) pl) ms (Own f a to.block) ≡ Some (ms ++ new ∷ []) =
-          ap (λ (o : Option Part). first_time o ms (Own f a to.block)) parts.0 ∙ ap (λ (o : Option ℕ). if_new o ms new) (number_moved f a b to part points.1 parts.1 parts.2 ms ns e i) in (
-            ms ++ new ∷ [],
-            subst (λ v. first_time (part_by (parts_of placed v) at' pl) ms v ≡ Some (ms ++ new ∷ [])) (sym points.2) (subst (λ v. first_time (part_by (parts_of placed (Own f a to.block)) v pl) ms (Own f a to.block) ≡ Some (ms ++ new ∷ [])) (sym points.3) there),
-            subst (λ v. NamingMoved place sizes (ms ++ new ∷ []) v) same (naming_more ms ns e new (record { home = Own f a b; part = part }) (to, points.1, refl, parts.1, parts.2)),
-          )
+      has_begun : (t : Bool) → nat_lt a begun ≡ t → part_by (if t then layout f b else []) at pl ≡ Some part → (ms' : Naming) × (first_time (part_by (parts_at placed begun home') at' pl) ms home' ≡ Some ms') × NamingMoved place sizes ms' ns'
+      has_begun false i j = absurd (cc j)
+      has_begun true i j = by (number_of ns (Own f a b) part) refl h
+        where
+          by : (o : Option ℕ) → number_of ns (Own f a b) part ≡ o → if_new o ns (record { home = Own f a b; part = part }) ≡ Some ns' → (ms' : Naming) × (first_time (part_by (parts_at placed begun home') at' pl) ms home' ≡ Some ms') × NamingMoved place sizes ms' ns'
+          by (Some k) u v = absurd (cc v)
+          by None u v =
+              let to = points.0 in
+              let parts = is.parts f b to points.1 at pl part j in
+              let same : ns ++ record { home = Own f a b; part = part } ∷ [] ≡ ns' = cc v in
+              let new : Named = record { home = Own f a to.block; part = moved_part to.offset part } in
+              let found : part_by (parts_at placed begun (Own f a to.block)) (to.offset + at) pl ≡ Some (moved_part to.offset part) = ap (λ (t : Bool). part_by (if t then placed f to.block else []) (to.offset + at) pl) i ∙ parts.0 in
+              let there : first_time (part_by (parts_at placed begun (Own f a to.block)) (to.offset + at) pl) ms (Own f a to.block) ≡ Some (ms ++ new ∷ []) =
+              ap (λ (o : Option Part). first_time o ms (Own f a to.block)) found ∙ ap (λ (o : Option ℕ). if_new o ms new) (number_moved f a b to part points.1 parts.1 parts.2 ms ns e u) in (
+                ms ++ new ∷ [],
+                subst (λ w. first_time (part_by (parts_at placed begun w) at' pl) ms w ≡ Some (ms ++ new ∷ [])) (sym points.2) (subst (λ w. first_time (part_by (parts_at placed begun (Own f a to.block)) w pl) ms (Own f a to.block) ≡ Some (ms ++ new ∷ [])) (sym points.3) there),
+                subst (λ w. NamingMoved place sizes (ms ++ new ∷ []) w) same (naming_more ms ns e new (record { home = Own f a b; part = part }) (to, points.1, refl, parts.1, parts.2)),
+              )
 
-  names_pointer : (ms ns : Naming) → NamingMoved place sizes ms ns → (home' : Home) (at' : ℕ) (home : Home) (at : ℕ) → PointsTo home' at' home at → (x : Shown) (ns' : Naming) → named_by layout ns (Pointer home at) x ≡ Some ns' → NamesToo ms (Pointer home' at') x ns'
-  names_pointer ms ns e home' at' home at points (Word y) ns' h = absurd (cc h)
-  names_pointer ms ns e home' at' home at points (Place k pl) ns' h = by (nat_lt k (length ns)) refl (nat_eq k (length ns)) refl h
+  names_pointer : (begun : ℕ) (ms ns : Naming) → NamingMoved place sizes ms ns → (home' : Home) (at' : ℕ) (home : Home) (at : ℕ) → PointsTo home' at' home at → (x : Shown) (ns' : Naming) → named_by (parts_at layout begun) ns (Pointer home at) x ≡ Some ns' → NamesToo begun ms (Pointer home' at') x ns'
+  names_pointer begun ms ns e home' at' home at points (Word y) ns' h = absurd (cc h)
+  names_pointer begun ms ns e home' at' home at points (Place k pl) ns' h = by (nat_lt k (length ns)) refl (nat_eq k (length ns)) refl h
     where
       same_count : length ns ≡ length ms
       same_count = sym (naming_length ms ns e)
 
-      by : (t : Bool) → nat_lt k (length ns) ≡ t → (u : Bool) → nat_eq k (length ns) ≡ u → (if t then again (slice_get ns k) ns home at pl else (if u then first_time (part_by (parts_of layout home) at pl) ns home else None)) ≡ Some ns' → NamesToo ms (Pointer home' at') (Place k pl) ns'
+      by : (t : Bool) → nat_lt k (length ns) ≡ t → (u : Bool) → nat_eq k (length ns) ≡ u → (if t then again (slice_get ns k) ns home at pl else (if u then first_time (part_by (parts_at layout begun home) at pl) ns home else None)) ≡ Some ns' → NamesToo begun ms (Pointer home' at') (Place k pl) ns'
       by true i u j g =
           let n = names_again ms ns e home' at' home at points k pl ns' (slice_get ns k) refl g in
           record {
             naming = n.0;
-            named = ap (λ (t : Bool). if t then again (slice_get ms k) ms home' at' pl else (if nat_eq k (length ms) then first_time (part_by (parts_of placed home') at' pl) ms home' else None)) (subst (λ v. nat_lt k v ≡ true) same_count i) ∙ n.1;
+            named = ap (λ (t : Bool). if t then again (slice_get ms k) ms home' at' pl else (if nat_eq k (length ms) then first_time (part_by (parts_at placed begun home') at' pl) ms home' else None)) (subst (λ v. nat_lt k v ≡ true) same_count i) ∙ n.1;
             moves = n.2;
           }
       by false i true j g =
-          let n = names_first ms ns e home' at' home at points pl ns' (part_by (parts_of layout home) at pl) refl g in
+          let n = names_first begun ms ns e home' at' home at points pl ns' (part_by (parts_at layout begun home) at pl) refl g in
           record {
             naming = n.0;
-            named = ap (λ (t : Bool). if t then again (slice_get ms k) ms home' at' pl else (if nat_eq k (length ms) then first_time (part_by (parts_of placed home') at' pl) ms home' else None)) (subst (λ v. nat_lt k v ≡ false) same_count i)
-                ∙ ap (λ (t : Bool). if t then first_time (part_by (parts_of placed home') at' pl) ms home' else None) (subst (λ v. nat_eq k v ≡ true) same_count j) ∙ n.1;
+            named = ap (λ (t : Bool). if t then again (slice_get ms k) ms home' at' pl else (if nat_eq k (length ms) then first_time (part_by (parts_at placed begun home') at' pl) ms home' else None)) (subst (λ v. nat_lt k v ≡ false) same_count i)
+                ∙ ap (λ (t : Bool). if t then first_time (part_by (parts_at placed begun home') at' pl) ms home' else None) (subst (λ v. nat_eq k v ≡ true) same_count j) ∙ n.1;
             moves = n.2;
           }
       by false i false j g = absurd (cc g)
 
-  names_too : (ms ns : Naming) → NamingMoved place sizes ms ns → (v w : Value) → SameMoved place v w → (x : Shown) (ns' : Naming) → named_by layout ns w x ≡ Some ns' → NamesToo ms v x ns'
-  names_too ms ns e v (Number u) s (Place k pl) ns' h = absurd (cc h)
-  names_too ms ns e v (Number u) s (Word y) ns' h = subst (λ o. NamesToo ms o (Word y) ns') (let same : Number u ≡ v = cc s in same) (by (nat_eq u y) refl h)
+  names_too : (begun : ℕ) (ms ns : Naming) → NamingMoved place sizes ms ns → (v w : Value) → SameMoved place v w → (x : Shown) (ns' : Naming) → named_by (parts_at layout begun) ns w x ≡ Some ns' → NamesToo begun ms v x ns'
+  names_too begun ms ns e v (Number u) s (Place k pl) ns' h = absurd (cc h)
+  names_too begun ms ns e v (Number u) s (Word y) ns' h = subst (λ o. NamesToo begun ms o (Word y) ns') (let same : Number u ≡ v = cc s in same) (by (nat_eq u y) refl h)
     where
-      by : (t : Bool) → nat_eq u y ≡ t → (if t then Some ns else None) ≡ Some ns' → NamesToo ms (Number u) (Word y) ns'
+      by : (t : Bool) → nat_eq u y ≡ t → (if t then Some ns else None) ≡ Some ns' → NamesToo begun ms (Number u) (Word y) ns'
       by true i g = let same : ns ≡ ns' = cc g in record { naming = ms; named = ap (λ (t : Bool). if t then Some ms else None) i; moves = subst (λ o. NamingMoved place sizes ms o) same e }
       by false i g = absurd (cc g)
-  names_too ms ns e v (Pointer (Theirs k) at) s x ns' h = subst (λ o. NamesToo ms o x ns') (let same : Pointer (Theirs k) at ≡ v = cc s in same) (names_pointer ms ns e (Theirs k) at (Theirs k) at (refl, refl) x ns' h)
-  names_too ms ns e v (Pointer (Own f a b) at) s x ns' h = by (place f b) refl s
+  names_too begun ms ns e v (Pointer (Theirs k) at) s x ns' h = subst (λ o. NamesToo begun ms o x ns') (let same : Pointer (Theirs k) at ≡ v = cc s in same) (names_pointer begun ms ns e (Theirs k) at (Theirs k) at (refl, refl) x ns' h)
+  names_too begun ms ns e v (Pointer (Own f a b) at) s x ns' h = by (place f b) refl s
     where
-      by : (o : Option Spot) → place f b ≡ o → pointer_in f a o at ≡ Some v → NamesToo ms v x ns'
+      by : (o : Option Spot) → place f b ≡ o → pointer_in f a o at ≡ Some v → NamesToo begun ms v x ns'
       by None i j = absurd (cc j)
       by (Some to) i j =
           let same : Pointer (Own f a to.block) (to.offset + at) ≡ v = cc j in
-          subst (λ o. NamesToo ms o x ns') same (names_pointer ms ns e (Own f a to.block) (to.offset + at) (Own f a b) at (to, i, refl, refl) x ns' h)
+          subst (λ o. NamesToo begun ms o x ns') same (names_pointer begun ms ns e (Own f a to.block) (to.offset + at) (Own f a b) at (to, i, refl, refl) x ns' h)
 
-  pub all_names_too : (vs ws : List Value) → AllMoved place vs ws → (ms ns : Naming) → NamingMoved place sizes ms ns → (xs : List Shown) (ns' : Naming) → all_named_by layout ns ws xs ≡ Some ns' → (ms' : Naming) × (all_named_by placed ms vs xs ≡ Some ms') × NamingMoved place sizes ms' ns'
-  all_names_too [] [] s ms ns e [] ns' h = let same : ns ≡ ns' = cc h in (ms, refl, subst (λ v. NamingMoved place sizes ms v) same e)
-  all_names_too [] [] s ms ns e (x ∷ xs) ns' h = absurd (cc h)
-  all_names_too [] (w ∷ ws) s ms ns e xs ns' h = absurd s
-  all_names_too (v ∷ vs) [] s ms ns e xs ns' h = absurd s
-  all_names_too (v ∷ vs) (w ∷ ws) s ms ns e [] ns' h = absurd (cc h)
-  all_names_too (v ∷ vs) (w ∷ ws) s ms ns e (x ∷ xs) ns' h = by (λ ms2 ns2 e2 g. all_names_too vs ws s.1 ms2 ns2 e2 xs ns' g) (named_by layout ns w x) refl h
+  pub all_names_too : (begun : ℕ) (vs ws : List Value) → AllMoved place vs ws → (ms ns : Naming) → NamingMoved place sizes ms ns → (xs : List Shown) (ns' : Naming) → all_named_by (parts_at layout begun) ns ws xs ≡ Some ns' → (ms' : Naming) × (all_named_by (parts_at placed begun) ms vs xs ≡ Some ms') × NamingMoved place sizes ms' ns'
+  all_names_too begun [] [] s ms ns e [] ns' h = let same : ns ≡ ns' = cc h in (ms, refl, subst (λ v. NamingMoved place sizes ms v) same e)
+  all_names_too begun [] [] s ms ns e (x ∷ xs) ns' h = absurd (cc h)
+  all_names_too begun [] (w ∷ ws) s ms ns e xs ns' h = absurd s
+  all_names_too begun (v ∷ vs) [] s ms ns e xs ns' h = absurd s
+  all_names_too begun (v ∷ vs) (w ∷ ws) s ms ns e [] ns' h = absurd (cc h)
+  all_names_too begun (v ∷ vs) (w ∷ ws) s ms ns e (x ∷ xs) ns' h = by (λ ms2 ns2 e2 g. all_names_too begun vs ws s.1 ms2 ns2 e2 xs ns' g) (named_by (parts_at layout begun) ns w x) refl h
     where
-      by : ((ms2 ns2 : Naming) → NamingMoved place sizes ms2 ns2 → all_named_by layout ns2 ws xs ≡ Some ns' → (ms' : Naming) × (all_named_by placed ms2 vs xs ≡ Some ms') × NamingMoved place sizes ms' ns') → (o : Option Naming) → named_by layout ns w x ≡ o → and_then o (λ ms. all_named_by layout ms ws xs) ≡ Some ns' → (ms' : Naming) × (all_named_by placed ms (v ∷ vs) (x ∷ xs) ≡ Some ms') × NamingMoved place sizes ms' ns'
+      by : ((ms2 ns2 : Naming) → NamingMoved place sizes ms2 ns2 → all_named_by (parts_at layout begun) ns2 ws xs ≡ Some ns' → (ms' : Naming) × (all_named_by (parts_at placed begun) ms2 vs xs ≡ Some ms') × NamingMoved place sizes ms' ns') → (o : Option Naming) → named_by (parts_at layout begun) ns w x ≡ o → and_then o (λ ms. all_named_by (parts_at layout begun) ms ws xs) ≡ Some ns' → (ms' : Naming) × (all_named_by (parts_at placed begun) ms (v ∷ vs) (x ∷ xs) ≡ Some ms') × NamingMoved place sizes ms' ns'
       by more None i j = absurd (cc j)
       by more (Some ns2) i j =
-          let first = names_too ms ns e v w s.0 x ns2 i in
+          let first = names_too begun ms ns e v w s.0 x ns2 i in
           let rest = more first.naming ns2 first.moves j in
-          (rest.0, ap (λ (o : Option Naming). and_then o (λ ms. all_named_by placed ms vs xs)) first.named ∙ rest.1, rest.2)
+          (rest.0, ap (λ (o : Option Naming). and_then o (λ ms. all_named_by (parts_at placed begun) ms vs xs)) first.named ∙ rest.1, rest.2)

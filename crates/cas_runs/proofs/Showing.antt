@@ -3,9 +3,9 @@ use Rattle.std.proofs.Common.{◌≡◌, ℕ, zero, suc, ◌+◌, ◌-◌, ◌�
 use Rattle.std.proofs.lemmas.Bool.Decides.{nat_tests}
 use Rattle.std.proofs.lemmas.Option.{slice_get_within}
 use Rattle.cas_runs.specs.Label.{NameBytes, Shown, Word, Place, Crossing}
-use Rattle.cas_runs.specs.Naming.{Home, Own, Theirs, Value, Number, Pointer, Part, Layout, Named, Naming, parts_of, same_home, same_part, is_it, one_later, number_of, is_place, part_by, again, if_new, first_time, named_by, and_then, all_named_by, reaches, some_reaches, reached_in, can_show, can_show_all, objects_of, same_objects}
+use Rattle.cas_runs.specs.Naming.{Home, Own, Theirs, Value, Number, Pointer, Part, Layout, parts_at, Named, Naming, same_home, same_part, is_it, one_later, number_of, is_place, part_by, again, if_new, first_time, named_by, and_then, all_named_by, reaches, some_reaches, reached_in, can_show, can_show_all, objects_of, same_objects}
 use Rattle.cas_runs.specs.Access.{Holding}
-use Rattle.cas_runs.specs.Calls.{Past, if_shown, crosses_as}
+use Rattle.cas_runs.specs.Calls.{Past, if_shown, can_cross, crosses_as}
 use Rattle.cas_runs.proofs.Tests.{and_both, both_true, eq_self, same_objects_self, same_share_self}
 
 -- The part that a place is of.
@@ -95,41 +95,41 @@ same_place p q at place e f =
 
 -- A pointer that can be shown.
 
-record ShownAs (layout : Layout) (ns : Naming) (v : Value) : Type 0 where
+record ShownAs (parts : Home → List Part) (ns : Naming) (v : Value) : Type 0 where
   shown : Shown
   naming : Naming
-  named : named_by layout ns v shown ≡ Some naming
+  named : named_by parts ns v shown ≡ Some naming
 
-shown_again : (layout : Layout) (ns : Naming) (home : Home) (at place k : ℕ) (n : Named) → slice_get ns k ≡ Some n → same_home n.home home ≡ true → is_place n.part at place ≡ true → named_by layout ns (Pointer home at) (Place k place) ≡ Some ns
-shown_again layout ns home at place k n e f g =
+shown_again : (parts : Home → List Part) (ns : Naming) (home : Home) (at place k : ℕ) (n : Named) → slice_get ns k ≡ Some n → same_home n.home home ≡ true → is_place n.part at place ≡ true → named_by parts ns (Pointer home at) (Place k place) ≡ Some ns
+shown_again parts ns home at place k n e f g =
     let within = slice_get_within ns k n e in
-    ap (λ (t : Bool). if t then again (slice_get ns k) ns home at place else (if nat_eq k (length ns) then first_time (part_by (parts_of layout home) at place) ns home else None)) (lt-ltb k (length ns) within)
+    ap (λ (t : Bool). if t then again (slice_get ns k) ns home at place else (if nat_eq k (length ns) then first_time (part_by (parts home) at place) ns home else None)) (lt-ltb k (length ns) within)
     ∙ ap (λ (o : Option Named). again o ns home at place) e ∙ ap (λ (t : Bool). if t then Some ns else None) (both_true _ _ f g)
 
-shown_first : (layout : Layout) (ns : Naming) (home : Home) (at place : ℕ) (p : Part) → part_by (parts_of layout home) at place ≡ Some p → number_of ns home p ≡ None → named_by layout ns (Pointer home at) (Place (length ns) place) ≡ Some (ns ++ record { home = home; part = p } ∷ [])
-shown_first layout ns home at place p e f =
+shown_first : (parts : Home → List Part) (ns : Naming) (f : NameBytes) (a b : ℕ) (at place : ℕ) (p : Part) → part_by (parts (Own f a b)) at place ≡ Some p → number_of ns (Own f a b) p ≡ None → named_by parts ns (Pointer (Own f a b) at) (Place (length ns) place) ≡ Some (ns ++ record { home = Own f a b; part = p } ∷ [])
+shown_first parts ns f a b at place p e i =
     let not_less : nat_lt (length ns) (length ns) ≡ false = grind (arith, nat_tests) in
-    ap (λ (t : Bool). if t then again (slice_get ns (length ns)) ns home at place else (if nat_eq (length ns) (length ns) then first_time (part_by (parts_of layout home) at place) ns home else None)) not_less
-    ∙ ap (λ (t : Bool). if t then first_time (part_by (parts_of layout home) at place) ns home else None) (eq_self (length ns))
-    ∙ ap (λ (o : Option Part). first_time o ns home) e ∙ ap (λ (o : Option ℕ). if_new o ns (record { home = home; part = p })) f
+    ap (λ (t : Bool). if t then again (slice_get ns (length ns)) ns (Own f a b) at place else (if nat_eq (length ns) (length ns) then first_time (part_by (parts (Own f a b)) at place) ns (Own f a b) else None)) not_less
+    ∙ ap (λ (t : Bool). if t then first_time (part_by (parts (Own f a b)) at place) ns (Own f a b) else None) (eq_self (length ns))
+    ∙ ap (λ (o : Option Part). first_time o ns (Own f a b)) e ∙ ap (λ (o : Option ℕ). if_new o ns (record { home = Own f a b; part = p })) i
 
-shown_part : (layout : Layout) (ns : Naming) (home : Home) (at place : ℕ) (p : Part) → part_by (parts_of layout home) at place ≡ Some p → is_place p at place ≡ true → (o : Option ℕ) → number_of ns home p ≡ o → ShownAs layout ns (Pointer home at)
-shown_part layout ns home at place p e f None g = record { shown = Place (length ns) place; naming = ns ++ record { home = home; part = p } ∷ []; named = shown_first layout ns home at place p e g }
-shown_part layout ns home at place p e f (Some k) g =
-    let n = numbered ns home p k g in
-    let is = and_both (same_home n.it.home home) (same_part n.it.part p) n.is in
-    record { shown = Place k place; naming = ns; named = shown_again layout ns home at place k n.it n.there is.0 (same_place n.it.part p at place is.1 f) }
+shown_part : (parts : Home → List Part) (ns : Naming) (f : NameBytes) (a b : ℕ) (at place : ℕ) (p : Part) → part_by (parts (Own f a b)) at place ≡ Some p → is_place p at place ≡ true → (o : Option ℕ) → number_of ns (Own f a b) p ≡ o → ShownAs parts ns (Pointer (Own f a b) at)
+shown_part parts ns f a b at place p e i None g = record { shown = Place (length ns) place; naming = ns ++ record { home = Own f a b; part = p } ∷ []; named = shown_first parts ns f a b at place p e g }
+shown_part parts ns f a b at place p e i (Some k) g =
+    let n = numbered ns (Own f a b) p k g in
+    let is = and_both (same_home n.it.home (Own f a b)) (same_part n.it.part p) n.is in
+    record { shown = Place k place; naming = ns; named = shown_again parts ns (Own f a b) at place k n.it n.there is.0 (same_place n.it.part p at place is.1 i) }
 
-shown_theirs : (layout : Layout) (ns : Naming) (k at : ℕ) (o : Option Named) → slice_get ns k ≡ o → reached_in o (Theirs k) at ≡ true → ShownAs layout ns (Pointer (Theirs k) at)
-shown_theirs layout ns k at None e f = absurd (cc f)
-shown_theirs layout ns k at (Some n) e f =
+shown_theirs : (parts : Home → List Part) (ns : Naming) (k at : ℕ) (o : Option Named) → slice_get ns k ≡ o → reached_in o (Theirs k) at ≡ true → ShownAs parts ns (Pointer (Theirs k) at)
+shown_theirs parts ns k at None e f = absurd (cc f)
+shown_theirs parts ns k at (Some n) e f =
     let is = and_both (same_home n.home (Theirs k)) (reaches n.part at) f in
-    record { shown = Place k (at - n.part.from); naming = ns; named = shown_again layout ns (Theirs k) at (at - n.part.from) k n e is.0 (reached_place n.part at is.1) }
+    record { shown = Place k (at - n.part.from); naming = ns; named = shown_again parts ns (Theirs k) at (at - n.part.from) k n e is.0 (reached_place n.part at is.1) }
 
-shown_as : (layout : Layout) (ns : Naming) (v : Value) → can_show layout ns v ≡ true → ShownAs layout ns v
-shown_as layout ns (Number w) e = record { shown = Word w; naming = ns; named = ap (λ (t : Bool). if t then Some ns else None) (eq_self w) }
-shown_as layout ns (Pointer (Own f a b) at) e = let p = part_reached (layout f b) at e in shown_part layout ns (Own f a b) at p.place p.part p.found p.is (number_of ns (Own f a b) p.part) refl
-shown_as layout ns (Pointer (Theirs k) at) e = shown_theirs layout ns k at (slice_get ns k) refl e
+shown_as : (parts : Home → List Part) (ns : Naming) (v : Value) → can_show parts ns v ≡ true → ShownAs parts ns v
+shown_as parts ns (Number w) e = record { shown = Word w; naming = ns; named = ap (λ (t : Bool). if t then Some ns else None) (eq_self w) }
+shown_as parts ns (Pointer (Own f a b) at) e = let p = part_reached (parts (Own f a b)) at e in shown_part parts ns f a b at p.place p.part p.found p.is (number_of ns (Own f a b) p.part) refl
+shown_as parts ns (Pointer (Theirs k) at) e = shown_theirs parts ns k at (slice_get ns k) refl e
 
 -- What a naming grows by is the unit's own.
 
@@ -148,9 +148,13 @@ grows_again (Some n) ns home at place ms e = by (same_home n.home home && is_pla
     by true f = grown ns ns ms same (cc f)
     by false f = absurd (cc f)
 
-grows_first : (layout : Layout) (ns : Naming) (home : Home) (at place : ℕ) (ms : Naming) → first_time (part_by (parts_of layout home) at place) ns home ≡ Some ms → Grows ns ms
-grows_first layout ns (Theirs k) at place ms e = absurd (cc e)
-grows_first layout ns (Own f a b) at place ms e = by (part_by (layout f b) at place) e
+grows_first : (parts : Home → List Part) (ns : Naming) (home : Home) (at place : ℕ) (ms : Naming) → first_time (part_by (parts home) at place) ns home ≡ Some ms → Grows ns ms
+grows_first parts ns (Theirs k) at place ms e = none (part_by (parts (Theirs k)) at place) e
+  where
+    none : (o : Option Part) → first_time o ns (Theirs k) ≡ Some ms → Grows ns ms
+    none None g = absurd (cc g)
+    none (Some p) g = absurd (cc g)
+grows_first parts ns (Own f a b) at place ms e = by (part_by (parts (Own f a b)) at place) e
   where
     new : (p : Part) (o : Option ℕ) → if_new o ns (record { home = Own f a b; part = p }) ≡ Some ms → Grows ns ms
     new p None g = grown ns _ ms (own f a b p) (cc g)
@@ -160,19 +164,19 @@ grows_first layout ns (Own f a b) at place ms e = by (part_by (layout f b) at pl
     by None g = absurd (cc g)
     by (Some p) g = new p (number_of ns (Own f a b) p) g
 
-grows : (layout : Layout) (ns : Naming) (v : Value) (x : Shown) (ms : Naming) → named_by layout ns v x ≡ Some ms → Grows ns ms
-grows layout ns (Number v) (Word w) ms e = by (nat_eq v w) e
+grows : (parts : Home → List Part) (ns : Naming) (v : Value) (x : Shown) (ms : Naming) → named_by parts ns v x ≡ Some ms → Grows ns ms
+grows parts ns (Number v) (Word w) ms e = by (nat_eq v w) e
   where
     by : (t : Bool) → (if t then Some ns else None) ≡ Some ms → Grows ns ms
     by true f = grown ns ns ms same (cc f)
     by false f = absurd (cc f)
-grows layout ns (Number v) (Place k place) ms e = absurd (cc e)
-grows layout ns (Pointer home at) (Word w) ms e = absurd (cc e)
-grows layout ns (Pointer home at) (Place k place) ms e = by (nat_lt k (length ns)) (nat_eq k (length ns)) e
+grows parts ns (Number v) (Place k place) ms e = absurd (cc e)
+grows parts ns (Pointer home at) (Word w) ms e = absurd (cc e)
+grows parts ns (Pointer home at) (Place k place) ms e = by (nat_lt k (length ns)) (nat_eq k (length ns)) e
   where
-    by : (t u : Bool) → (if t then again (slice_get ns k) ns home at place else (if u then first_time (part_by (parts_of layout home) at place) ns home else None)) ≡ Some ms → Grows ns ms
+    by : (t u : Bool) → (if t then again (slice_get ns k) ns home at place else (if u then first_time (part_by (parts home) at place) ns home else None)) ≡ Some ms → Grows ns ms
     by true u f = grows_again (slice_get ns k) ns home at place ms f
-    by false true f = grows_first layout ns home at place ms f
+    by false true f = grows_first parts ns home at place ms f
     by false false f = absurd (cc f)
 
 reached_longer : (ns : Naming) (f : NameBytes) (a b : ℕ) (part : Part) (i k at : ℕ) → reached_in (slice_get (ns ++ record { home = Own f a b; part = part } ∷ []) i) (Theirs k) at ≡ reached_in (slice_get ns i) (Theirs k) at
@@ -181,32 +185,32 @@ reached_longer [] f a b part (suc i) k at = refl
 reached_longer (n ∷ ns) f a b part zero k at = refl
 reached_longer (n ∷ ns) f a b part (suc i) k at = reached_longer ns f a b part i k at
 
-shows_longer : (layout : Layout) (ns : Naming) (w : Value) {ms : Naming} → Grows ns ms → can_show layout ms w ≡ can_show layout ns w
-shows_longer layout ns (Number w) g = refl
-shows_longer layout ns (Pointer (Own f a b) at) g = refl
-shows_longer layout ns (Pointer (Theirs k) at) same = refl
-shows_longer layout ns (Pointer (Theirs k) at) (own f a b part) = reached_longer ns f a b part k k at
+shows_longer : (parts : Home → List Part) (ns : Naming) (w : Value) {ms : Naming} → Grows ns ms → can_show parts ms w ≡ can_show parts ns w
+shows_longer parts ns (Number w) g = refl
+shows_longer parts ns (Pointer (Own f a b) at) g = refl
+shows_longer parts ns (Pointer (Theirs k) at) same = refl
+shows_longer parts ns (Pointer (Theirs k) at) (own f a b part) = reached_longer ns f a b part k k at
 
-show_all_longer : (layout : Layout) (ns ms : Naming) → Grows ns ms → (ws : List Value) → can_show_all layout ms ws ≡ can_show_all layout ns ws
-show_all_longer layout ns ms g [] = refl
-show_all_longer layout ns ms g (w ∷ ws) =
-    ap (λ (t : Bool). if t then can_show_all layout ms ws else false) (shows_longer layout ns w g)
-    ∙ ap (λ (t : Bool). if can_show layout ns w then t else false) (show_all_longer layout ns ms g ws)
+show_all_longer : (parts : Home → List Part) (ns ms : Naming) → Grows ns ms → (ws : List Value) → can_show_all parts ms ws ≡ can_show_all parts ns ws
+show_all_longer parts ns ms g [] = refl
+show_all_longer parts ns ms g (w ∷ ws) =
+    ap (λ (t : Bool). if t then can_show_all parts ms ws else false) (shows_longer parts ns w g)
+    ∙ ap (λ (t : Bool). if can_show parts ns w then t else false) (show_all_longer parts ns ms g ws)
 
-record AllShownAs (layout : Layout) (ns : Naming) (vs : List Value) : Type 0 where
+record AllShownAs (parts : Home → List Part) (ns : Naming) (vs : List Value) : Type 0 where
   shown : List Shown
   naming : Naming
-  named : all_named_by layout ns vs shown ≡ Some naming
+  named : all_named_by parts ns vs shown ≡ Some naming
 
-all_shown : (layout : Layout) (ns : Naming) (vs : List Value) → can_show_all layout ns vs ≡ true → AllShownAs layout ns vs
-all_shown layout ns [] e = record { shown = []; naming = ns; named = refl }
-all_shown layout ns (v ∷ vs) e = by (λ ms h. all_shown layout ms vs h) (can_show layout ns v) refl e
+all_shown : (parts : Home → List Part) (ns : Naming) (vs : List Value) → can_show_all parts ns vs ≡ true → AllShownAs parts ns vs
+all_shown parts ns [] e = record { shown = []; naming = ns; named = refl }
+all_shown parts ns (v ∷ vs) e = by (λ ms h. all_shown parts ms vs h) (can_show parts ns v) refl e
   where
-    by : ((ms : Naming) → can_show_all layout ms vs ≡ true → AllShownAs layout ms vs) → (t : Bool) → can_show layout ns v ≡ t → (if t then can_show_all layout ns vs else false) ≡ true → AllShownAs layout ns (v ∷ vs)
+    by : ((ms : Naming) → can_show_all parts ms vs ≡ true → AllShownAs parts ms vs) → (t : Bool) → can_show parts ns v ≡ t → (if t then can_show_all parts ns vs else false) ≡ true → AllShownAs parts ns (v ∷ vs)
     by more true f g =
-        let x = shown_as layout ns v f in
-        let rest = more x.naming (show_all_longer layout ns x.naming (grows layout ns v x.shown x.naming x.named) vs ∙ g) in
-        record { shown = x.shown ∷ rest.shown; naming = rest.naming; named = ap (λ (o : Option Naming). and_then o (λ ms. all_named_by layout ms vs rest.shown)) x.named ∙ rest.named }
+        let x = shown_as parts ns v f in
+        let rest = more x.naming (show_all_longer parts ns x.naming (grows parts ns v x.shown x.naming x.named) vs ∙ g) in
+        record { shown = x.shown ∷ rest.shown; naming = rest.naming; named = ap (λ (o : Option Naming). and_then o (λ ms. all_named_by parts ms vs rest.shown)) x.named ∙ rest.named }
     by more false f g = absurd (cc g)
 
 -- what can be shown crosses by some label
@@ -215,14 +219,14 @@ pub record SomeCrossing (layout : Layout) (values : List Value) (past : Past) (h
   pub naming : Naming
   pub crosses : crosses_as layout values past h crossing ≡ Some naming
 
-pub some_crossing : (layout : Layout) (values : List Value) (past : Past) (h : Holding) → can_show_all layout past.naming values ≡ true → SomeCrossing layout values past h
+pub some_crossing : (layout : Layout) (values : List Value) (past : Past) (h : Holding) → can_cross layout past values ≡ true → SomeCrossing layout values past h
 some_crossing layout values past h e =
-    let x = all_shown layout past.naming values e in
+    let x = all_shown (parts_at layout past.begun) past.naming values e in
     let crossing : Crossing = record { values = x.shown; share = h.share; objects = objects_of h.memory x.naming } in
     record {
       crossing = crossing;
       naming = x.naming;
-      crosses = ap (λ (t : Bool). if t then and_then (all_named_by layout past.naming values x.shown) (λ ns. if_shown (same_objects (objects_of h.memory ns) crossing.objects) ns) else None) (same_share_self h.share)
+      crosses = ap (λ (t : Bool). if t then and_then (all_named_by (parts_at layout past.begun) past.naming values x.shown) (λ ns. if_shown (same_objects (objects_of h.memory ns) crossing.objects) ns) else None) (same_share_self h.share)
           ∙ ap (λ (o : Option Naming). and_then o (λ ns. if_shown (same_objects (objects_of h.memory ns) crossing.objects) ns)) x.named
           ∙ ap (λ (t : Bool). if_shown t x.naming) (same_objects_self crossing.objects);
     }

@@ -1,6 +1,8 @@
 -- What the tests of the definitions tell.
-use Rattle.std.proofs.Common.{◌≡◌, ℕ, List, [], ◌∷◌, Bool, true, false, ◌&&◌, if◌then◌else◌, nat_eq, Option, Some, None, refl, ap, ◌∙◌, arith, eqb-true}
+use Rattle.std.proofs.Common.{◌≡◌, ℕ, List, [], ◌∷◌, Bool, true, false, ◌&&◌, if◌then◌else◌, nat_eq, Option, Some, None, zero, suc, refl, sym, ap, ◌∙◌, arith, eqb-true}
 use Rattle.std.proofs.lemmas.Bool.Decides.{nat_tests}
+use Rattle.cas_base.specs.declared.kind.Kind.{Kind}
+use Rattle.cas_base.specs.declared.kind.Kind.TheVariants.{I8, U8, I16, U16, I32, U32}
 use Rattle.cas_runs.specs.Label.{NameBytes, same_name, Object, Owner, Inside, Outside, Share}
 use Rattle.cas_runs.specs.Naming.{Home, Own, Theirs, same_home, kind_number, same_owner, same_content, same_contents, same_state, same_object, same_objects}
 use Rattle.cas_runs.specs.Calls.{same_words, same_share}
@@ -84,3 +86,96 @@ same_share_self [] = refl
 same_share_self (h ∷ hs) =
     ap (λ (t : Bool). if t then (if same_words h.words h.words then same_share hs hs else false) else false) (eq_self h.lock)
     ∙ ap (λ (t : Bool). if t then same_share hs hs else false) (same_words_self h.words) ∙ same_share_self hs
+
+-- What is the same by its test is equal.
+
+abbrev kind_of : ℕ → Kind
+kind_of zero = I8
+kind_of (suc zero) = U8
+kind_of (suc (suc zero)) = I16
+kind_of (suc (suc (suc zero))) = U16
+kind_of (suc (suc (suc (suc zero)))) = I32
+kind_of (suc (suc (suc (suc (suc n))))) = U32
+
+kind_again : (k : Kind) → kind_of (kind_number k) ≡ k
+kind_again I8 = refl
+kind_again U8 = refl
+kind_again I16 = refl
+kind_again U16 = refl
+kind_again I32 = refl
+kind_again U32 = refl
+
+kind_from : (k j : Kind) → nat_eq (kind_number k) (kind_number j) ≡ true → k ≡ j
+kind_from k j e = sym (kind_again k) ∙ ap kind_of (eqb-true (kind_number k) (kind_number j) e) ∙ kind_again j
+
+owner_from : (o p : Owner) → same_owner o p ≡ true → o ≡ p
+owner_from Inside Inside e = refl
+owner_from Inside Outside e = absurd (cc e)
+owner_from Outside Inside e = absurd (cc e)
+owner_from Outside Outside e = refl
+
+content_from : (c d : Option ℕ) → same_content c d ≡ true → c ≡ d
+content_from None None e = refl
+content_from None (Some w) e = absurd (cc e)
+content_from (Some v) None e = absurd (cc e)
+content_from (Some v) (Some w) e = ap (λ n. Some n) (eqb-true v w e)
+
+contents_from : (cs ds : List (Option ℕ)) → same_contents cs ds ≡ true → cs ≡ ds
+contents_from [] [] e = refl
+contents_from [] (d ∷ ds) e = absurd (cc e)
+contents_from (c ∷ cs) [] e = absurd (cc e)
+contents_from (c ∷ cs) (d ∷ ds) e =
+    let both = and_both (same_content c d) (same_contents cs ds) e in
+    let one = content_from c d both.0 in
+    let rest = contents_from cs ds both.1 in
+    cc (one, rest)
+
+state_from : (o p : Option (List (Option ℕ))) → same_state o p ≡ true → o ≡ p
+state_from None None e = refl
+state_from None (Some ws) e = absurd (cc e)
+state_from (Some vs) None e = absurd (cc e)
+state_from (Some vs) (Some ws) e = ap (λ v. Some v) (contents_from vs ws e)
+
+object_from : (o p : Object) → same_object o p ≡ true → o ≡ p
+object_from o p e =
+    let one = and_both (same_owner o.owner p.owner && nat_eq (kind_number o.kind) (kind_number p.kind) && nat_eq o.size p.size) (same_state o.contents p.contents) e in
+    let two = and_both (same_owner o.owner p.owner && nat_eq (kind_number o.kind) (kind_number p.kind)) (nat_eq o.size p.size) one.0 in
+    let three = and_both (same_owner o.owner p.owner) (nat_eq (kind_number o.kind) (kind_number p.kind)) two.0 in
+    ap (λ (v : Owner). record { owner = v; kind = o.kind; size = o.size; contents = o.contents }) (owner_from o.owner p.owner three.0)
+    ∙ ap (λ (v : Kind). record { owner = p.owner; kind = v; size = o.size; contents = o.contents }) (kind_from o.kind p.kind three.1)
+    ∙ ap (λ (v : ℕ). record { owner = p.owner; kind = p.kind; size = v; contents = o.contents }) (eqb-true o.size p.size two.1)
+    ∙ ap (λ (v : Option (List (Option ℕ))). record { owner = p.owner; kind = p.kind; size = p.size; contents = v }) (state_from o.contents p.contents one.1)
+
+pub objects_from : (os ps : List Object) → same_objects os ps ≡ true → os ≡ ps
+objects_from [] [] e = refl
+objects_from [] (p ∷ ps) e = absurd (cc e)
+objects_from (o ∷ os) [] e = absurd (cc e)
+objects_from (o ∷ os) (p ∷ ps) e =
+    let both = and_both (same_object o p) (same_objects os ps) e in
+    let one = object_from o p both.0 in
+    let rest = objects_from os ps both.1 in
+    cc (one, rest)
+
+words_from : (vs ws : List ℕ) → same_words vs ws ≡ true → vs ≡ ws
+words_from [] [] e = refl
+words_from [] (w ∷ ws) e = absurd (cc e)
+words_from (v ∷ vs) [] e = absurd (cc e)
+words_from (v ∷ vs) (w ∷ ws) e = by (nat_eq v w) refl (λ g. words_from vs ws g) e
+  where
+    by : (t : Bool) → nat_eq v w ≡ t → (same_words vs ws ≡ true → vs ≡ ws) → (if t then same_words vs ws else false) ≡ true → v ∷ vs ≡ w ∷ ws
+    by true i more g = let one = eqb-true v w i in let rest = more g in cc (one, rest)
+    by false i more g = absurd (cc g)
+
+pub share_from : (hs ks : Share) → same_share hs ks ≡ true → hs ≡ ks
+share_from [] [] e = refl
+share_from [] (k ∷ ks) e = absurd (cc e)
+share_from (h ∷ hs) [] e = absurd (cc e)
+share_from (h ∷ hs) (k ∷ ks) e = by (nat_eq h.lock k.lock) refl (same_words h.words k.words) refl (λ g. share_from hs ks g) e
+  where
+    by : (t : Bool) → nat_eq h.lock k.lock ≡ t → (u : Bool) → same_words h.words k.words ≡ u → (same_share hs ks ≡ true → hs ≡ ks) → (if t then (if u then same_share hs ks else false) else false) ≡ true → h ∷ hs ≡ k ∷ ks
+    by true i true j more g =
+        let head : h ≡ k = ap (λ (v : ℕ). record { lock = v; words = h.words }) (eqb-true h.lock k.lock i) ∙ ap (λ (v : List ℕ). record { lock = k.lock; words = v }) (words_from h.words k.words j) in
+        let rest = more g in
+        cc (head, rest)
+    by true i false j more g = absurd (cc g)
+    by false i u j more g = absurd (cc g)

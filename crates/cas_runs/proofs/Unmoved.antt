@@ -1,11 +1,11 @@
 -- Passes that leave values and memory as they are: what both threads hold keeps to the layer of calls.
 use Rattle.std.proofs.Common.{◌≡◌, ℕ, ◌<◌, List, [], ◌∷◌, Option, Some, None, true, length, slice_set, refl, sym, ap, ◌∙◌, subst}
 use Rattle.cas_runs.specs.Label.{NameBytes}
-use Rattle.cas_runs.specs.Naming.{Home, Value, Pointer, Memory, can_show_all, all_taken, with_block}
+use Rattle.cas_runs.specs.Naming.{Home, Value, Pointer, Memory, all_taken, with_block}
 use Rattle.cas_runs.specs.Machine.{Block}
 use Rattle.cas_runs.specs.Access.{Holding, value_in, length_of}
 use Rattle.cas_runs.specs.Unit.{Setting}
-use Rattle.cas_runs.specs.Calls.{Activations, Past, set_blocks, fresh, gone, one_begun, with_share, crosses_as, with_naming}
+use Rattle.cas_runs.specs.Calls.{Activations, Past, set_blocks, fresh, gone, one_begun, with_share, can_cross, crosses_as, with_naming}
 use Rattle.cas_runs.specs.Passing.{Relation, AllSame, SameIf, brought_in, heard, Keeps}
 use Rattle.cas_runs.specs.Unmoved.{keeps_values}
 use Rattle.cas_runs.specs.Forms.{LengthsAlike, Stored, MemoryKeeps}
@@ -58,7 +58,7 @@ module _ {F A G B : Type 0} (target : Activations F A) (source : Activations G B
     ends = λ n f g m p q h k a. record { alike = record { past = a.past; holding = set_equal gone f g m n n refl h k a.holding }; later = tt };
     shows = λ p q h k a vs ws s e.
         let past : p ≡ q = a.past in
-        subst (λ (v : Past). can_show_all setting.layout v.naming vs ≡ true) (sym past) (subst (λ us. can_show_all setting.layout q.naming us ≡ true) (sym (to_equal vs ws s)) e);
+        subst (λ (v : Past). can_cross setting.layout v vs ≡ true) (sym past) (subst (λ us. can_cross setting.layout q us ≡ true) (sym (to_equal vs ws s)) e);
     crosses = λ p q h k a vs ws s crossing ns e.
         let past : p ≡ q = a.past in
         let holding : h ≡ k = a.holding in (

@@ -1,7 +1,7 @@
 -- The layer of calls: a language gives the steps of one activation, and calls, crossings, locks, shares, memory and prices are told here once.
 use Rattle.std.specs.Prelude.{ℕ, zero, suc, ◌+◌, nat_eq, Bool, true, false, List, [], ◌∷◌, Option, Some, None, if◌then◌else◌}
 use Rattle.cas_runs.specs.Label.{NameBytes, same_name, Share, Crossing, RunLabel, Enter, Back, Call, Leave}
-use Rattle.cas_runs.specs.Naming.{Own, Value, Number, Layout, Naming, Memory, and_then, all_named_by, can_show_all, objects_of, same_objects, all_taken, with_block, brought}
+use Rattle.cas_runs.specs.Naming.{Own, Value, Number, Layout, parts_at, Naming, Memory, and_then, all_named_by, can_show_all, objects_of, same_objects, all_taken, with_block, brought}
 use Rattle.cas_runs.specs.Machine.{Footprint, Act, Quiet, Says, Crosses, Locks, Hears, Bad, Stops, Ended, Taken, Unlocks, Prints, Ends, Machine}
 use Rattle.cas_runs.specs.Bounds.{Tariff, step_price, first_price, waiting_price}
 use Rattle.cas_runs.specs.Access.{Accesses, Holding, words_in, with_lock, without_lock, Performed, performed}
@@ -94,7 +94,11 @@ if_shown false ns = None
 
 -- the naming by which these values cross so, with the share and with each object that has crossed by then
 abbrev pub crosses_as : Layout → List Value → Past → Holding → Crossing → Option Naming
-crosses_as layout values past h crossing = if same_share h.share crossing.share then and_then (all_named_by layout past.naming values crossing.values) (λ ns. if_shown (same_objects (objects_of h.memory ns) crossing.objects) ns) else None
+crosses_as layout values past h crossing = if same_share h.share crossing.share then and_then (all_named_by (parts_at layout past.begun) past.naming values crossing.values) (λ ns. if_shown (same_objects (objects_of h.memory ns) crossing.objects) ns) else None
+
+-- each of the values can be shown
+abbrev pub can_cross : Layout → Past → List Value → Bool
+can_cross layout past values = can_show_all (parts_at layout past.begun) past.naming values
 
 abbrev pub with_naming : Past → Naming → Past
 with_naming past ns = record { naming = ns; begun = past.begun }
@@ -118,7 +122,7 @@ module _ {F A : Type 0} where
   crosses_if false next = Bad
 
   abbrev pub leaves : Layout → List Value → List (Frame F A) → Past → Holding → Act (Thread F A)
-  leaves layout values stack past h = crosses_if (can_show_all layout past.naming values) (leaves_by layout values stack past h)
+  leaves layout values stack past h = crosses_if (can_cross layout past values) (leaves_by layout values stack past h)
 
   abbrev pub goes_back : F → (serial : ℕ) → Option A → List (Frame F A) → Past → Holding → Act (Thread F A)
   goes_back f serial None stack past h = Bad
@@ -222,7 +226,7 @@ step_at l setting now h = performed setting.edge.cells setting.words (l.form now
 
 module _ {F A : Type 0} (l : Activations F A) (setting : Setting) (scene : Scene F) where
   abbrev pub calls_out : Bool → NameBytes → List Value → List (Frame F A) → Past → Holding → Act (Thread F A)
-  calls_out true function values stack past h = crosses_if (can_show_all setting.layout past.naming values) (calls_by setting.layout function values stack past h)
+  calls_out true function values stack past h = crosses_if (can_cross setting.layout past values) (calls_by setting.layout function values stack past h)
   calls_out false function values stack past h = Bad
 
   -- a call within, or one that crosses

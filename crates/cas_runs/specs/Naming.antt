@@ -30,10 +30,10 @@ abbrev pub ArePlaced : ℕ → ℕ → List Part → Type 0
 ArePlaced from size [] = Unit {0}
 ArePlaced from size (p ∷ ps) = (from ≤ p.from) × (1 ≤ p.size) × (p.from + p.size ≤ size) × ArePlaced (p.from + p.size) size ps
 
--- the objects of a block
-abbrev pub parts_of : Layout → Home → List Part
-parts_of layout (Own function activation block) = layout function block
-parts_of layout (Theirs object) = []
+-- the objects of a block of an activation that has begun, where so many have
+abbrev pub parts_at : Layout → (begun : ℕ) → Home → List Part
+parts_at layout begun (Own function activation block) = if nat_lt activation begun then layout function block else []
+parts_at layout begun (Theirs object) = []
 
 -- an object that has crossed, as the machine has it
 pub record Named : Type 0 where
@@ -92,29 +92,30 @@ abbrev pub if_new : Option ℕ → Naming → Named → Option Naming
 if_new None ns n = Some (ns ++ n ∷ [])
 if_new (Some k) ns n = None
 
--- an object crosses for the first time, and takes the next number
+-- an object of the unit's crosses for the first time, and takes the next number
 abbrev pub first_time : Option Part → Naming → Home → Option Naming
 first_time None ns home = None
-first_time (Some part) ns home = if_new (number_of ns home part) ns (record { home = home; part = part })
+first_time (Some part) ns (Theirs object) = None
+first_time (Some part) ns (Own function activation block) = if_new (number_of ns (Own function activation block) part) ns (record { home = Own function activation block; part = part })
 
 -- the naming after a value has crossed as this: none if it can't be shown so
-abbrev pub named_by : Layout → Naming → Value → Shown → Option Naming
-named_by layout ns (Number v) (Word w) = if nat_eq v w then Some ns else None
-named_by layout ns (Number v) (Place object place) = None
-named_by layout ns (Pointer home at) (Word w) = None
-named_by layout ns (Pointer home at) (Place object place) =
-    if nat_lt object (length ns) then again (slice_get ns object) ns home at place else if nat_eq object (length ns) then first_time (part_by (parts_of layout home) at place) ns home else None
+abbrev pub named_by : (Home → List Part) → Naming → Value → Shown → Option Naming
+named_by parts ns (Number v) (Word w) = if nat_eq v w then Some ns else None
+named_by parts ns (Number v) (Place object place) = None
+named_by parts ns (Pointer home at) (Word w) = None
+named_by parts ns (Pointer home at) (Place object place) =
+    if nat_lt object (length ns) then again (slice_get ns object) ns home at place else if nat_eq object (length ns) then first_time (part_by (parts home) at place) ns home else None
 
 abbrev pub and_then : {A B : Type 0} → Option A → (A → Option B) → Option B
 and_then None go = None
 and_then (Some a) go = go a
 
 -- the same for several values, from the first to the last
-abbrev pub all_named_by : Layout → Naming → List Value → List Shown → Option Naming
-all_named_by layout ns [] [] = Some ns
-all_named_by layout ns [] (x ∷ xs) = None
-all_named_by layout ns (v ∷ vs) [] = None
-all_named_by layout ns (v ∷ vs) (x ∷ xs) = and_then (named_by layout ns v x) (λ ms. all_named_by layout ms vs xs)
+abbrev pub all_named_by : (Home → List Part) → Naming → List Value → List Shown → Option Naming
+all_named_by parts ns [] [] = Some ns
+all_named_by parts ns [] (x ∷ xs) = None
+all_named_by parts ns (v ∷ vs) [] = None
+all_named_by parts ns (v ∷ vs) (x ∷ xs) = and_then (named_by parts ns v x) (λ ms. all_named_by parts ms vs xs)
 
 -- the place is within the part, or at its end
 abbrev pub reaches : Part → (at : ℕ) → Bool
@@ -129,17 +130,17 @@ reached_in None home at = false
 reached_in (Some n) home at = same_home n.home home && reaches n.part at
 
 -- the pointer is to a place of an object, so that it can be shown
-abbrev pub can_point : Layout → Naming → Home → (at : ℕ) → Bool
-can_point layout ns (Own function activation block) at = some_reaches (layout function block) at
-can_point layout ns (Theirs object) at = reached_in (slice_get ns object) (Theirs object) at
+abbrev pub can_point : (Home → List Part) → Naming → Home → (at : ℕ) → Bool
+can_point parts ns (Own function activation block) at = some_reaches (parts (Own function activation block)) at
+can_point parts ns (Theirs object) at = reached_in (slice_get ns object) (Theirs object) at
 
-abbrev pub can_show : Layout → Naming → Value → Bool
-can_show layout ns (Number w) = true
-can_show layout ns (Pointer home at) = can_point layout ns home at
+abbrev pub can_show : (Home → List Part) → Naming → Value → Bool
+can_show parts ns (Number w) = true
+can_show parts ns (Pointer home at) = can_point parts ns home at
 
-abbrev pub can_show_all : Layout → Naming → List Value → Bool
-can_show_all layout ns [] = true
-can_show_all layout ns (v ∷ vs) = if can_show layout ns v then can_show_all layout ns vs else false
+abbrev pub can_show_all : (Home → List Part) → Naming → List Value → Bool
+can_show_all parts ns [] = true
+can_show_all parts ns (v ∷ vs) = if can_show parts ns v then can_show_all parts ns vs else false
 
 -- the words of a block, or none where its activation has returned
 abbrev pub Memory : Type 0

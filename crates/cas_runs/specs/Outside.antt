@@ -62,14 +62,17 @@ pub record Changes (old new : Object) : Type 0 where
   pub size : new.size ≡ old.size
   pub contents : ChangesTo old old.contents new.contents
 
--- a live object of the outside's, which comes for the first time
+-- what a new object may contain: it may be dead
+abbrev pub NewContents : Object → Option (List (Option ℕ)) → Type 0
+NewContents o None = Unit {0}
+NewContents o (Some new) = Fills o new
+
+-- an object of the outside's, which comes for the first time
 pub record IsNew (object : Object) : Type 0 where
   pub owner : object.owner ≡ Outside
   pub least : 1 ≤ object.size
   pub most : object.size ≤ most_cells
-  pub contents : List (Option ℕ)
-  pub live : object.contents ≡ Some contents
-  pub fills : Fills object contents
+  pub contents : NewContents object object.contents
 
 abbrev pub AreNew : List Object → Type 0
 AreNew [] = Unit {0}

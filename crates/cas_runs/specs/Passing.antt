@@ -1,13 +1,13 @@
 -- What a pass shows of one activation, where the calls of both languages are those of the layer: it then refines functions, units and threads.
 use Rattle.std.specs.Prelude.{◌≡◌, ℕ, ◌+◌, ◌≤◌, true, List, [], ◌∷◌, Option, Some, None, ◌⊎◌}
 use Rattle.cas_runs.specs.Label.{NameBytes, Share, Crossing}
-use Rattle.cas_runs.specs.Naming.{Value, Number, Layout, Naming, Crossed, can_show_all, all_taken, brought}
+use Rattle.cas_runs.specs.Naming.{Value, Number, Layout, Naming, Crossed, all_taken, brought}
 use Rattle.cas_runs.specs.Machine.{Block, and_step}
 use Rattle.cas_runs.specs.Refines.{Within, Subsequence}
 use Rattle.cas_runs.specs.Bounds.{IsTariff, step_price, first_price, waiting_price}
 use Rattle.cas_runs.specs.Access.{Then, Holding, Performed}
 use Rattle.cas_runs.specs.Unit.{Setting}
-use Rattle.cas_runs.specs.Calls.{Last, Goes, Takes, Gives, Puts, Calls, Tails, Returns, Activations, Past, crosses_as, with_naming, with_share, with_own, without_own, one_begun, called, step_at, no_past, no_holding}
+use Rattle.cas_runs.specs.Calls.{Last, Goes, Takes, Gives, Puts, Calls, Tails, Returns, Activations, Past, can_cross, crosses_as, with_naming, with_share, with_own, without_own, one_begun, called, step_at, no_past, no_holding}
 
 -- two languages in a setting, where these functions run together, the layout of the target's blocks, and how both are related
 pub record Relation (F A G B : Type 0) : Type 1 where
@@ -159,7 +159,7 @@ module _ {F A G B : Type 0} (r : Relation F A G B) where
     pub shared : (n : ℕ) (p q : Past) (h k : Holding) (share : Share) → r.alike p h q k → Stands n p q h k (with_share h share) (with_share k share)
     pub begins : (f : F) (g : G) → r.made f g → (p q : Past) (h k : Holding) → r.alike p h q k → Stands p.begun (one_begun r.target p) (one_begun r.source q) h k (with_own r.target f p.begun h) (with_own r.source g q.begun k)
     pub ends : (n : ℕ) (f : F) (g : G) → r.made f g → (p q : Past) (h k : Holding) → r.alike p h q k → Stands n p q h k (without_own r.target f n h) (without_own r.source g n k)
-    pub shows : (p q : Past) (h k : Holding) → r.alike p h q k → (vs ws : List Value) → AllSame vs ws → can_show_all r.setting.layout q.naming ws ≡ true → can_show_all r.placed p.naming vs ≡ true
+    pub shows : (p q : Past) (h k : Holding) → r.alike p h q k → (vs ws : List Value) → AllSame vs ws → can_cross r.setting.layout q ws ≡ true → can_cross r.placed p vs ≡ true
     pub crosses : (p q : Past) (h k : Holding) → r.alike p h q k → (vs ws : List Value) → AllSame vs ws → (crossing : Crossing) (ns : Naming) → crosses_as r.setting.layout ws q k crossing ≡ Some ns → (ms : Naming) × (crosses_as r.placed vs p h crossing ≡ Some ms) × r.alike (with_naming p ms) h (with_naming q ns) k
     pub hears : (n : ℕ) (p q : Past) (h k : Holding) → r.alike p h q k → (crossing : Crossing) → Stands n (with_naming p (brought_in p h crossing).naming) (with_naming q (brought_in q k crossing).naming) h k (heard p h crossing) (heard q k crossing) × SameIf (all_taken (brought_in p h crossing).naming crossing.values) (all_taken (brought_in q k crossing).naming crossing.values)
 

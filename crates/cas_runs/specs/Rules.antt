@@ -50,12 +50,15 @@ pub record Leaves (old new : Object) : Type 0 where
   pub size : new.size ≡ old.size
   pub contents : LeavesContents old old.contents new.contents
 
--- a live object of the unit's own
+-- what an object of the unit's own shows at first: it may be dead
+abbrev pub OwnContents : Object → Option (List (Option ℕ)) → Type 0
+OwnContents o None = Unit {0}
+OwnContents o (Some new) = length new ≡ o.size
+
+-- an object of the unit's own
 pub record IsOwn (o : Object) : Type 0 where
   pub owner : o.owner ≡ Inside
-  pub contents : List (Option ℕ)
-  pub live : o.contents ≡ Some contents
-  pub size : length contents ≡ o.size
+  pub contents : OwnContents o o.contents
 
 abbrev pub AreOwn : List Object → Type 0
 AreOwn [] = Unit {0}

@@ -19,4 +19,7 @@ pub use pass::{Pass, run_pass, steps_refine};
 pub use refused::{
     dropped_store_refused, endless_loop_refused, kept_word_refused, self_lock_refused,
 };
-pub use rules::{sections_keep_kinds, sections_keep_rules};
+pub use rules::{
+    functions_keep_rules, sections_keep_kinds, sections_keep_rules, threads_keep_rules,
+    units_keep_rules,
+};

@@ -1,6 +1,10 @@
-ghost use Rattle.std.specs.Prelude.{ℕ, ◌≤◌, List};
-ghost use Rattle.cas_runs.specs.Rules.{KeepsRules, KeepsKinds};
+ghost use Rattle.std.specs.Prelude.{ℕ, ◌≤◌, List, [], ◌∷◌};
+ghost use Rattle.cas_runs.specs.Bounds.{IsTariff};
+ghost use Rattle.cas_runs.specs.Calls.{Activations, language};
+ghost use Rattle.cas_runs.specs.Label.{NameBytes};
+ghost use Rattle.cas_runs.specs.Rules.{KeepsKinds, KeepsRules};
 ghost use Rattle.cas_runs.specs.Sections.{Instruction, StoresWords, one_lock, sections};
+ghost use Rattle.cas_runs.specs.Unit.{IsLayout, Setting};
 
 /// The rules can be kept: a small language of critical sections keeps them, whatever its program does.
 pub fn sections_keep_rules()
@@ -11,4 +15,22 @@ pub fn sections_keep_rules()
 #[tactic(auto, using(crate::proofs::Keeping::sections_in_kind))]
 pub fn sections_keep_kinds()
     ensures { (price : ℕ) (program : List Instruction) → StoresWords program → KeepsKinds one_lock (sections price program) }
+{}
+
+/// The machine of a unit in any language of activations keeps the rules, whatever its functions do.
+#[tactic(auto, using(crate::proofs::Ruling::unit_rules))]
+pub fn units_keep_rules<F, A>()
+    ensures { (l : Activations F A) (setting : Setting) → IsTariff l.tariff → (fs : List F) → IsLayout (language l) fs setting.layout → KeepsRules setting.edge ((language l).unit setting fs) }
+{}
+
+/// So does that of a function alone.
+#[tactic(auto, using(crate::proofs::Ruling::alone_rules))]
+pub fn functions_keep_rules<F, A>()
+    ensures { (l : Activations F A) (setting : Setting) → IsTariff l.tariff → (f : F) → IsLayout (language l) (f ∷ []) setting.layout → KeepsRules setting.edge ((language l).alone setting f) }
+{}
+
+/// And that of a thread of a whole program.
+#[tactic(auto, using(crate::proofs::Ruling::program_rules))]
+pub fn threads_keep_rules<F, A>()
+    ensures { (l : Activations F A) (setting : Setting) → IsTariff l.tariff → (fs : List F) (entry : NameBytes) (thread : ℕ) → IsLayout (language l) fs setting.layout → KeepsRules setting.edge ((language l).thread setting fs entry thread) }
 {}

@@ -3,7 +3,7 @@ use Rattle.std.proofs.Common.{◌≡◌, ℕ, zero, suc, ◌+◌, ◌≤◌, Lis
 use Rattle.std.proofs.lemmas.Bool.Decides.{nat_tests}
 use Rattle.cas_runs.specs.Label.{NameBytes, same_name}
 use Rattle.cas_runs.specs.Naming.{Home, Own, Theirs, Value, Number, Pointer, Part, Layout, ArePlaced, is_place, part_by}
-use Rattle.cas_runs.specs.Bounds.{IsPrice}
+use Rattle.cas_runs.specs.Bounds.{IsPrice, IsTariff}
 use Rattle.cas_runs.specs.Access.{Accesses}
 use Rattle.cas_runs.specs.Unit.{Setting, IsLayout}
 use Rattle.cas_runs.specs.Calls.{Last, language}
@@ -272,3 +272,6 @@ joins_passes setting ts ss h l =
       pays = joins_pay setting ts ss;
       passes = stepwise_passes (Rel setting ts ss) (SameStage ss) (λ n m. Unit {0}) (MemoryMoved (places ss) one_word) (memory_keeps joined apart setting (joins setting.layout) ts ss (Made ts ss) (places ss) one_word (match_at (SameStage ss)) (joins_place setting ts ss l)) (held_plainly setting ts ss) (steps_alike setting ts ss) keeps (λ n x h' b y k c m. m) (λ n x h' b y k c m. m);
     }
+
+pub apart_prices : IsTariff apart.tariff
+apart_prices = (λ a. (record { least = omega arith; most = omega arith }, tt), omega arith, λ f. let two : IsPrice 2 = record { least = omega arith; most = omega arith } in (two, (two, (two, (two, (two, (two, (two, tt))))))))

@@ -3,7 +3,9 @@
 #![tactic(auto)]
 
 mod joining;
+mod laws;
 #[cfg(test)]
 mod tests;
 
 pub use joining::{Apart, Joined, Joining, join, joined_weighs_less, threads_join, units_join};
+pub use laws::{a_unit_fits, apart_keeps_rules, pointer_comes_back};
