@@ -11,8 +11,8 @@ use crate::outcome::lines_of;
 use crate::refusal::Refusal;
 use crate::words::{Command, Run, Wanted, source_text};
 use cas_base::{NoMemory, Text};
-use cas_read::{ReadFault, read_module};
 use cas_outside::{Shelf, ShelfFault, Sink, SinkFault};
+use cas_read::{ReadFault, read_module};
 use std::alloc::Global;
 
 /// Does the work of a command.

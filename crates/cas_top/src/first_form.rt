@@ -150,9 +150,5 @@ fn added(
     let literal = clight::Expr::Lit(value, Kind::I32);
     let left = Box::new(alloc, sum)?;
     let right = Box::new(alloc, literal)?;
-    Ok(Some(clight::Expr::Binary(
-        clight::BinaryOperator::Add,
-        left,
-        right,
-    )))
+    Ok(Some(clight::Expr::Binary(clight::BinaryOperator::Add, left, right)))
 }
