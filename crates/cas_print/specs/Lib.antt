@@ -1,0 +1,4 @@
+pub mod Expressions
+pub mod Items
+pub mod Pieces
+pub mod Statements

@@ -1,0 +1,2 @@
+//! The canonical text of modules.
+#![tactic(auto)]
