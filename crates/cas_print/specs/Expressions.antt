@@ -26,6 +26,10 @@ enclosed false inner rest = inner rest
 abbrev pub at_level : (asked found : ℕ) → (List Piece → List Piece) → List Piece → List Piece
 at_level asked found inner rest = enclosed (nat_lt found asked) inner rest
 
+-- in brackets
+abbrev pub in_brackets : (List Piece → List Piece) → List Piece → List Piece
+in_brackets inner rest = sign sg.OpenBracket ∷ inner (sign sg.CloseBracket ∷ rest)
+
 -- how tightly the outermost operator of an expression binds
 abbrev pub outermost : ExprTree → ℕ
 outermost (binary op a b) = level (always_both op)
@@ -43,11 +47,10 @@ between op found_left left found_right right rest =
 abbrev pub printed_expr : ExprTree → List Piece → List Piece
 printed_expr (literal n k) rest = number n k ∷ rest
 printed_expr (name x) rest = named x.name ∷ rest
-printed_expr (index x a) rest = named x.name ∷ sign sg.OpenBracket ∷ printed_expr a (sign sg.CloseBracket ∷ rest)
+printed_expr (index x a) rest = named x.name ∷ in_brackets (printed_expr a) rest
 printed_expr (deref a) rest = sign sg.Star ∷ at_level 12 (outermost a) (printed_expr a) rest
 printed_expr (address x) rest = sign sg.And ∷ named x.name ∷ rest
-printed_expr (address_index x a) rest =
-    sign sg.And ∷ named x.name ∷ sign sg.OpenBracket ∷ printed_expr a (sign sg.CloseBracket ∷ rest)
+printed_expr (address_index x a) rest = sign sg.And ∷ named x.name ∷ in_brackets (printed_expr a) rest
 printed_expr (unary op a) rest = sign (unary_sign op) ∷ at_level 12 (outermost a) (printed_expr a) rest
 printed_expr (cast k a) rest =
     sign sg.OpenParen ∷ kind_words k (sign sg.CloseParen ∷ at_level 12 (outermost a) (printed_expr a) rest)

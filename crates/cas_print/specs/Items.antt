@@ -2,7 +2,6 @@
 -- tokens `rest`.
 use Rattle.std.specs.Prelude.{ℕ, ◌+◌, ℤ, pos, negsuc, Bool, true, false, List, [], ◌∷◌, drop}
 use Rattle.cas_base.specs.Kind.{value_of}
-use Rattle.cas_base.specs.declared.decl.Decl.{Decl}
 use Rattle.cas_base.specs.declared.decl.Form.{Form}
 use Rattle.cas_base.specs.declared.decl.Form.TheVariants.{Lock, Shared, Table, Function}
 use Rattle.cas_base.specs.declared.kind.Kind.{Kind}
@@ -13,7 +12,7 @@ use Rattle.cas_lex.specs.declared.token.Sign.TheVariants as sg
 use Rattle.cas_syntax.specs.declared.tree.Ident.{Ident}
 use Rattle.cas_syntax.specs.Tree.{FunTree, ItemTree, global, prototype, define, ModuleTree}
 use Rattle.cas_print.specs.Pieces.{Piece, word, sign, end_of_line, named, plain_number, text}
-use Rattle.cas_print.specs.Expressions.{behind_commas, listed}
+use Rattle.cas_print.specs.Expressions.{listed}
 use Rattle.cas_print.specs.Statements.{before_name, behind_name, printed_stmts}
 
 -- an integer

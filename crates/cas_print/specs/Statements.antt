@@ -1,5 +1,5 @@
 -- The canonical tokens of statements. Each function puts those of a tree before the tokens `rest`.
-use Rattle.std.specs.Prelude.{Bool, true, false, not, List, [], ◌∷◌, Option, Some, None}
+use Rattle.std.specs.Prelude.{Bool, true, false, not, List, ◌∷◌, Option, Some, None}
 use Rattle.cas_base.specs.declared.kind.Ty.{Ty}
 use Rattle.cas_base.specs.declared.kind.Ty.TheVariants.{Void, Int, Ptr, Array}
 use Rattle.cas_lex.specs.declared.token.Word.TheVariants as w
@@ -10,7 +10,7 @@ use Rattle.cas_syntax.specs.declared.tree.BinaryOperator.{BinaryOperator}
 use Rattle.cas_syntax.specs.Tree.{ExprTree, name, TargetTree, to_name, to_index, to_deref, InitTree, nothing, value, called, StmtTree, skip, declare, assign, call, block, if_, while_, do_, for_, break_, continue_, return_, lock, unlock, print, StmtOption, absent, present, StmtList, no_more, one_more}
 use Rattle.cas_syntax.specs.Operators.{assigning_sign}
 use Rattle.cas_print.specs.Pieces.{Piece, word, sign, end_of_line, named, plain_number}
-use Rattle.cas_print.specs.Expressions.{kind_words, enclosed, printed_expr, listed}
+use Rattle.cas_print.specs.Expressions.{kind_words, enclosed, in_brackets, printed_expr, listed}
 
 -- whether an expression is a name alone
 abbrev pub is_name_alone : ExprTree → Bool
@@ -20,7 +20,7 @@ is_name_alone _ = false
 -- what an assignment writes; a pointer that is no name alone stands in parentheses
 abbrev pub printed_target : TargetTree → List Piece → List Piece
 printed_target (to_name x) rest = named x.name ∷ rest
-printed_target (to_index x a) rest = named x.name ∷ sign sg.OpenBracket ∷ printed_expr a (sign sg.CloseBracket ∷ rest)
+printed_target (to_index x a) rest = named x.name ∷ in_brackets (printed_expr a) rest
 printed_target (to_deref a) rest = sign sg.Star ∷ enclosed (not (is_name_alone a)) (printed_expr a) rest
 
 -- the sign, or else `=`

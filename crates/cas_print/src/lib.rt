@@ -1,2 +1,5 @@
 //! The canonical text of modules.
 #![tactic(auto)]
+
+mod expr;
+mod page;
