@@ -2,6 +2,7 @@
 use Rattle.std.specs.Prelude.{Bool, true, false, not, List, ◌∷◌, Option, Some, None}
 use Rattle.cas_base.specs.declared.kind.Ty.{Ty}
 use Rattle.cas_base.specs.declared.kind.Ty.TheVariants.{Void, Int, Ptr, Array}
+use Rattle.cas_lex.specs.declared.token.Word.{Word}
 use Rattle.cas_lex.specs.declared.token.Word.TheVariants as w
 use Rattle.cas_lex.specs.declared.token.Sign.{Sign}
 use Rattle.cas_lex.specs.declared.token.Sign.TheVariants as sg
@@ -11,6 +12,10 @@ use Rattle.cas_syntax.specs.Tree.{ExprTree, name, TargetTree, to_name, to_index,
 use Rattle.cas_syntax.specs.Operators.{assigning_sign}
 use Rattle.cas_print.specs.Pieces.{Piece, word, sign, end_of_line, named, plain_number}
 use Rattle.cas_print.specs.Expressions.{kind_words, enclosed, in_brackets, printed_expr, listed}
+
+-- an expression in parentheses
+abbrev pub in_parentheses : ExprTree → List Piece → List Piece
+in_parentheses a rest = enclosed true (printed_expr a) rest
 
 -- whether an expression is a name alone
 abbrev pub is_name_alone : ExprTree → Bool
@@ -67,6 +72,10 @@ printed_part (assign p target op a) rest = printed_target target (sign (assignme
 printed_part (call p x f bs) rest = printed_result x (printed_call f bs rest)
 printed_part _ rest = rest
 
+-- a local, an assignment or a call
+abbrev pub simple : StmtTree → List Piece → List Piece
+simple a rest = printed_part a (end_of_line sg.Semicolon ∷ rest)
+
 -- the first or the last part of a `for`, or nothing
 abbrev pub printed_part_option : StmtOption → List Piece → List Piece
 printed_part_option absent rest = rest
@@ -77,32 +86,36 @@ abbrev pub printed_optional : Option ExprTree → List Piece → List Piece
 printed_optional None rest = rest
 printed_optional (Some a) rest = printed_expr a rest
 
+-- a statement that is a word alone
+abbrev pub word_alone : Word → List Piece → List Piece
+word_alone which rest = word which ∷ end_of_line sg.Semicolon ∷ rest
+
+-- a statement of this word on a lock
+abbrev pub of_lock : Word → Ident → List Piece → List Piece
+of_lock which x rest = word which ∷ sign sg.OpenParen ∷ named x.name ∷ sign sg.CloseParen ∷ end_of_line sg.Semicolon ∷ rest
+
 abbrev mutual
   -- a statement
   pub printed_stmt : StmtTree → List Piece → List Piece
   printed_stmt (skip p) rest = end_of_line sg.Semicolon ∷ rest
-  printed_stmt (declare p ty x a) rest = printed_part (declare p ty x a) (end_of_line sg.Semicolon ∷ rest)
-  printed_stmt (assign p target op a) rest = printed_part (assign p target op a) (end_of_line sg.Semicolon ∷ rest)
-  printed_stmt (call p x f bs) rest = printed_part (call p x f bs) (end_of_line sg.Semicolon ∷ rest)
+  printed_stmt (declare p ty x a) rest = simple (declare p ty x a) rest
+  printed_stmt (assign p target op a) rest = simple (assign p target op a) rest
+  printed_stmt (call p x f bs) rest = simple (call p x f bs) rest
   printed_stmt (block p bs) rest = end_of_line sg.OpenBrace ∷ printed_stmts bs (end_of_line sg.CloseBrace ∷ rest)
   printed_stmt (if_ p c a b) rest =
-      word w.If ∷ sign sg.OpenParen ∷ printed_expr c (sign sg.CloseParen ∷ printed_stmt a (printed_else b rest))
-  printed_stmt (while_ p c a) rest = word w.While ∷ sign sg.OpenParen ∷ printed_expr c (sign sg.CloseParen ∷ printed_stmt a rest)
+      word w.If ∷ in_parentheses c (printed_stmt a (printed_else b rest))
+  printed_stmt (while_ p c a) rest = word w.While ∷ in_parentheses c (printed_stmt a rest)
   printed_stmt (do_ p a c) rest =
-      word w.Do ∷ printed_stmt a
-      (word w.While ∷ sign sg.OpenParen ∷ printed_expr c (sign sg.CloseParen ∷ end_of_line sg.Semicolon ∷ rest))
+      word w.Do ∷ printed_stmt a (word w.While ∷ in_parentheses c (end_of_line sg.Semicolon ∷ rest))
   printed_stmt (for_ p i c u a) rest =
       word w.For ∷ sign sg.OpenParen ∷ printed_part_option i
       (sign sg.Semicolon ∷ printed_optional c (sign sg.Semicolon ∷ printed_part_option u (sign sg.CloseParen ∷ printed_stmt a rest)))
-  printed_stmt (break_ p) rest = word w.Break ∷ end_of_line sg.Semicolon ∷ rest
-  printed_stmt (continue_ p) rest = word w.Continue ∷ end_of_line sg.Semicolon ∷ rest
+  printed_stmt (break_ p) rest = word_alone w.Break rest
+  printed_stmt (continue_ p) rest = word_alone w.Continue rest
   printed_stmt (return_ p a) rest = word w.Return ∷ printed_optional a (end_of_line sg.Semicolon ∷ rest)
-  printed_stmt (lock p x) rest =
-      word w.Lock ∷ sign sg.OpenParen ∷ named x.name ∷ sign sg.CloseParen ∷ end_of_line sg.Semicolon ∷ rest
-  printed_stmt (unlock p x) rest =
-      word w.Unlock ∷ sign sg.OpenParen ∷ named x.name ∷ sign sg.CloseParen ∷ end_of_line sg.Semicolon ∷ rest
-  printed_stmt (print p a) rest =
-      word w.Print ∷ sign sg.OpenParen ∷ printed_expr a (sign sg.CloseParen ∷ end_of_line sg.Semicolon ∷ rest)
+  printed_stmt (lock p x) rest = of_lock w.Lock x rest
+  printed_stmt (unlock p x) rest = of_lock w.Unlock x rest
+  printed_stmt (print p a) rest = word w.Print ∷ in_parentheses a (end_of_line sg.Semicolon ∷ rest)
 
   -- the second branch of an `if`, or nothing
   pub printed_else : StmtOption → List Piece → List Piece

@@ -111,9 +111,9 @@ fn operand(page: &mut Page, asked: u8, inner: &Expr) -> Result<(), NoMemory>
     }
 }
 
-// Writes an expression in brackets.
+/// Writes an expression in brackets.
 #[cycle(expr)]
-fn in_brackets(page: &mut Page, index: &Expr) -> Result<(), NoMemory>
+pub fn in_brackets(page: &mut Page, index: &Expr) -> Result<(), NoMemory>
     ensures { (rest : List Piece)
         → IfOk result (λ _. followed_by page.new rest ≡ followed_by page.old (spec.in_brackets (spec.printed_expr (expr_tree index.now)) rest)) }
 {

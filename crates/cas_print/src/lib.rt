@@ -3,3 +3,5 @@
 
 mod expr;
 mod page;
+mod part;
+mod stmt;
