@@ -1,12 +1,13 @@
 -- What a page says once a token is written on it.
-use Rattle.std.proofs.Common.{◌≡◌, ℕ, List, [], ◌∷◌, ◌++◌, codes, refl, append_assoc}
+use Rattle.std.proofs.Common.{◌≡◌, ℕ, List, [], ◌∷◌, ◌++◌, codes, refl, append_assoc, ◌∙◌, sym}
+use Rattle.std.proofs.lemmas.List.{append-nil}
 use Rattle.std.specs.Fmt.{decimal}
 use Rattle.cas_base.specs.declared.kind.Kind.{Kind}
 use Rattle.cas_lex.specs.declared.token.Word.{Word}
 use Rattle.cas_lex.specs.declared.token.Sign.{Sign}
 use Rattle.cas_lex.specs.Spellings.{word_spelling, sign_spelling}
 use Rattle.cas_print.specs.Page.{followed_by}
-use Rattle.cas_print.specs.Pieces.{Piece, word, sign, end_of_line, named, number, plain_number, suffix, spelling, separator}
+use Rattle.cas_print.specs.Pieces.{Piece, word, sign, end_of_line, named, number, plain_number, suffix, spelling, separator, text}
 
 -- a token that is written on a page isn't to come any more
 one_written : (new old spelt behind : List ℕ) (rest : List Piece) (p : Piece) → new ≡ old ++ (spelt ++ behind) → spelt ≡ spelling p → behind ≡ separator p ∷ [] →
@@ -39,3 +40,8 @@ number_written new old spelt rest n k is spells =
 pub plain_number_written : (new old : List ℕ) (rest : List Piece) (n : ℕ) → new ≡ old ++ (decimal n ++ codes " ") →
     followed_by new rest ≡ followed_by old (plain_number n ∷ rest)
 plain_number_written new old rest n is = one_written new old (decimal n) _ rest (plain_number n) is refl refl
+
+-- a page that began empty has the text of all that was written
+pub all_written : (page empty : List ℕ) (pieces : List Piece) → empty ≡ [] → followed_by page [] ≡ followed_by empty pieces → page ≡ text pieces
+unfolding followed_by
+all_written page empty pieces nothing h = sym (append-nil page) ∙ h ∙ rw nothing refl

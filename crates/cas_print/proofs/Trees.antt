@@ -1,5 +1,5 @@
 -- Trees as the code holds them, beside those that definitions speak of.
-use Rattle.std.proofs.Common.{◌≡◌, ℕ, ◌<◌, ◌+◌, List, [], ◌∷◌, length, drop, get_or, refl, ap, sym, ◌∙◌}
+use Rattle.std.proofs.Common.{◌≡◌, ℕ, ◌<◌, ◌+◌, List, ◌∷◌, length, drop, get_or, refl, ap, sym, ◌∙◌}
 use Rattle.std.specs.Prelude.{Vec}
 use Rattle.std.specs.declared.alloc.Global.{Global}
 use Rattle.std.proofs.lemmas.List.{drop_more}
@@ -10,7 +10,7 @@ use Rattle.cas_syntax.specs.declared.tree.StmtForm.{StmtForm, Block, Block', Row
 use Rattle.cas_lex.specs.declared.token.Sign.TheVariants as sg
 use Rattle.cas_print.specs.Pieces.{Piece, end_of_line}
 use Rattle.cas_print.specs.Statements.{printed_stmt, printed_stmts}
-use Rattle.cas_syntax.specs.Tree.{StmtTree, StmtList, one_more, block, form_tree, row_trees, stmt_tree, stmt_trees}
+use Rattle.cas_syntax.specs.Tree.{StmtTree, one_more, block, form_tree, row_trees, stmt_tree, stmt_trees}
 
 row_trees-items : (m : Count) (row : Row_of-Stmt m) → row_trees row ≡ stmt_trees (items-the_row-Stmt m row)
 row_trees-items _ end_of-Stmt = refl

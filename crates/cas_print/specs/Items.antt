@@ -70,10 +70,18 @@ abbrev pub printed_parameters : List Ty → List Ident → List Piece → List P
 printed_parameters [] xs rest = word w.Void ∷ rest
 printed_parameters (ty ∷ tys) xs rest = before_name ty (first_name xs (more_parameters tys (drop 1 xs) rest))
 
+-- a name
+abbrev pub printed_name : List ℕ → List Piece → List Piece
+printed_name x rest = named x ∷ rest
+
+-- names with commas between
+abbrev pub printed_names : List (List ℕ) → List Piece → List Piece
+printed_names xs rest = listed printed_name xs rest
+
 -- the locks that a function's caller holds, if there are any
 abbrev pub printed_holds : List (List ℕ) → List Piece → List Piece
 printed_holds [] rest = rest
-printed_holds (x ∷ xs) rest = word w.Holds ∷ sign sg.OpenParen ∷ listed (λ y more. named y ∷ more) (x ∷ xs) (sign sg.CloseParen ∷ rest)
+printed_holds (x ∷ xs) rest = word w.Holds ∷ sign sg.OpenParen ∷ printed_names (x ∷ xs) (sign sg.CloseParen ∷ rest)
 
 -- a function up to its body, with its parameters' names, as far as there are names
 abbrev pub printed_head : Form → (name : List ℕ) → List Ident → List Piece → List Piece
