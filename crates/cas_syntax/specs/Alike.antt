@@ -71,6 +71,7 @@ abbrev pub bare_fun : FunTree → FunTree
 bare_fun f = record {
   decl = f.decl;
   params = map bare_ident f.params;
+  held = map (λ p. nowhere) f.held;
   body = bare_stmts f.body;
   place = nowhere;
   closing = nowhere;
@@ -78,7 +79,7 @@ bare_fun f = record {
 
 abbrev pub bare_item : ItemTree → ItemTree
 bare_item (global d vs p) = global d vs nowhere
-bare_item (prototype d p) = prototype d nowhere
+bare_item (prototype d hs p) = prototype d (map (λ p. nowhere) hs) nowhere
 bare_item (define f) = define (bare_fun f)
 
 abbrev pub bare_module : ModuleTree → ModuleTree

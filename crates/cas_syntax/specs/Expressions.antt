@@ -30,7 +30,7 @@ pub data SpellsKind : Kind → List Token → List Token → Type 0 where
   signed : (p : Place) (t r : List Token) → Perhaps w.Int t r → SpellsKind I32 (word w.Signed p ∷ t) r
   unsigned : (p : Place) (t r : List Token) → Perhaps w.Int t r → SpellsKind U32 (word w.Unsigned p ∷ t) r
 
--- an expression, bs an operand of a place that takes operators of this level and tighter ones
+-- an expression, as an operand of a place that takes operators of this level and tighter ones
 pub data Spells (limits : Limits) : ℕ → ExprTree → List Token → List Token → Type 0 where
   a_literal : (l n : ℕ) (k : Kind) (p : Place) (r : List Token) → Spells limits l (literal n k) (number n k p ∷ r) r
   a_name : (l : ℕ) (x : Ident) (r : List Token) → Spells limits l (name x) (ident x ∷ r) r

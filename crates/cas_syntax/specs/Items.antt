@@ -28,7 +28,7 @@ pub data SpellsExtern : (defined : Bool) → List Token → List Token → Type 
   here : (r : List Token) → SpellsExtern true r r
   elsewhere : (p : Place) (r : List Token) → SpellsExtern false (word w.Extern p ∷ r) r
 
--- an initial value, bs a word of the kind
+-- an initial value, as a word of the kind
 pub data SpellsValue (k : Kind) : (word : ℕ) → List Token → List Token → Type 0 where
   as_it_is : (n : ℕ) (j : Kind) (p : Place) (r : List Token) → SpellsValue k (narrowed n k) (number n j p ∷ r) r
   negative : (n : ℕ) (j : Kind) (p q : Place) (r : List Token) → SpellsValue k (narrowed (word_sub 0 n) k) (sign sg.Minus p ∷ number n j q ∷ r) r
@@ -74,7 +74,7 @@ pub data SpellsReturn (limits : Limits) : Ty → List Token → List Token → T
 pub data SpellsParameter (limits : Limits) : Ty → Option Ident → List Token → List Token → Type 0 where
   unnamed : (ty : Ty) (s r : List Token) → SpellsType limits ty s r → SpellsParameter limits ty None s r
   named : (ty : Ty) (x : Ident) (s r : List Token) → SpellsType limits ty s (ident x ∷ r) → SpellsParameter limits ty (Some x) s r
-  -- left out: an array bs a parameter
+  -- left out: an array as a parameter
   unnamed_array : (ty : Ty) (p : Place) (s r : List Token) → IsLeftOut limits r → SpellsType limits ty s (sign sg.OpenBracket p ∷ r) →
       SpellsParameter limits ty None s r
   named_array : (ty : Ty) (x : Ident) (p : Place) (s r : List Token) → IsLeftOut limits r →
@@ -96,22 +96,29 @@ pub data SpellsParameters (limits : Limits) : List Ty → List (Option Ident) �
       SpellsParameters limits tys xs s r
 
 -- names with commas between
-pub data SpellsNames : List (List ℕ) → List Token → List Token → Type 0 where
-  last_name : (x : Ident) (r : List Token) → SpellsNames (x.name ∷ []) (ident x ∷ r) r
-  one_name : (x : Ident) (xs : List (List ℕ)) (p : Place) (s r : List Token) → SpellsNames xs s r →
-      SpellsNames (x.name ∷ xs) (ident x ∷ sign sg.Comma p ∷ s) r
+pub data SpellsNames : List Ident → List Token → List Token → Type 0 where
+  last_name : (x : Ident) (r : List Token) → SpellsNames (x ∷ []) (ident x ∷ r) r
+  one_name : (x : Ident) (xs : List Ident) (p : Place) (s r : List Token) → SpellsNames xs s r →
+      SpellsNames (x ∷ xs) (ident x ∷ sign sg.Comma p ∷ s) r
 
 -- the locks that a function's caller holds
-pub data SpellsHolds : List (List ℕ) → List Token → List Token → Type 0 where
+pub data SpellsHolds : List Ident → List Token → List Token → Type 0 where
   none_held : (r : List Token) → SpellsHolds [] r r
-  held : (xs : List (List ℕ)) (p q q' : Place) (s r : List Token) → SpellsNames xs s (sign sg.CloseParen q' ∷ r) →
+  held : (xs : List Ident) (p q q' : Place) (s r : List Token) → SpellsNames xs s (sign sg.CloseParen q' ∷ r) →
       SpellsHolds xs (word w.Holds p ∷ sign sg.OpenParen q ∷ s) r
 
--- a function up to its body: its name, its form, and its parameters' names
-pub data SpellsHead (limits : Limits) : Ident → Form → List (Option Ident) → List Token → List Token → Type 0 where
-  head : (x : Ident) (ret : Ty) (tys : List Ty) (xs : List (Option Ident)) (holds : List (List ℕ)) (p q : Place) (s t u r : List Token) →
+-- the names alone, and their places alone
+abbrev pub names_alone : List Ident → List (List ℕ)
+names_alone xs = map (λ x. x.name) xs
+
+abbrev pub places_alone : List Ident → List Place
+places_alone xs = map (λ x. x.place) xs
+
+-- a function up to its body: its name, its form, its parameters' names, and the places of the locks that it holds
+pub data SpellsHead (limits : Limits) : Ident → Form → List (Option Ident) → List Place → List Token → List Token → Type 0 where
+  head : (x : Ident) (ret : Ty) (tys : List Ty) (xs : List (Option Ident)) (holds : List Ident) (p q : Place) (s t u r : List Token) →
       SpellsReturn limits ret s (ident x ∷ sign sg.OpenParen p ∷ t) → SpellsParameters limits tys xs t (sign sg.CloseParen q ∷ u) →
-      SpellsHolds holds u r → SpellsHead limits x (Function ret tys holds) xs s r
+      SpellsHolds holds u r → SpellsHead limits x (Function ret tys (names_alone holds)) xs (places_alone holds) s r
 
 -- a sign that follows a global's type and name, but no function's
 pub data FollowsGlobal : Sign → Type 0 where
@@ -130,12 +137,12 @@ pub data SpellsItem (limits : Limits) : ItemTree → List Token → List Token �
   a_table : (x : Ident) (k : Kind) (ty : Ty) (vs : List ℕ) (d : Bool) (p e : Place) (s t u r : List Token) →
       SpellsExtern d s (word w.Const p ∷ t) → SpellsKind k t u → SpellsCells limits d k x ty vs u (sign sg.Semicolon e ∷ r) →
       SpellsItem limits (global (declared x.name (Table ty) d) vs x.place) s r
-  a_prototype : (x : Ident) (form : Form) (xs : List (Option Ident)) (d : Bool) (e : Place) (s t r : List Token) →
-      SpellsExtern d s t → SpellsHead limits x form xs t (sign sg.Semicolon e ∷ r) →
-      SpellsItem limits (prototype (declared x.name form false) x.place) s r
-  a_function : (x : Ident) (form : Form) (xs : List Ident) (body : StmtList) (p closing : Place) (s t r : List Token) →
-      SpellsHead limits x form (map Some xs) s (sign sg.OpenBrace p ∷ t) → SpellsStmts limits 0 body t (sign sg.CloseBrace closing ∷ r) →
-      SpellsItem limits (define (record { decl = declared x.name form true; params = xs; body = body; place = x.place; closing = closing })) s r
+  a_prototype : (x : Ident) (form : Form) (xs : List (Option Ident)) (held : List Place) (d : Bool) (e : Place) (s t r : List Token) →
+      SpellsExtern d s t → SpellsHead limits x form xs held t (sign sg.Semicolon e ∷ r) →
+      SpellsItem limits (prototype (declared x.name form false) held x.place) s r
+  a_function : (x : Ident) (form : Form) (xs : List Ident) (held : List Place) (body : StmtList) (p closing : Place) (s t r : List Token) →
+      SpellsHead limits x form (map Some xs) held s (sign sg.OpenBrace p ∷ t) → SpellsStmts limits 0 body t (sign sg.CloseBrace closing ∷ r) →
+      SpellsItem limits (define (record { decl = declared x.name form true; params = xs; held = held; body = body; place = x.place; closing = closing })) s r
   -- left out: a global that is neither shared nor constant
   a_plain_global : (x : Ident) (ty : Ty) (d : Bool) (by : Sign) (p : Place) (s t r : List Token) → IsLeftOut limits r →
       FollowsGlobal by → SpellsExtern d s t → SpellsReturn limits ty t (ident x ∷ sign by p ∷ r) →

@@ -14,7 +14,7 @@ use Rattle.cas_syntax.specs.declared.tree.BinaryOperator.TheVariants.{Add, Sub}
 use Rattle.cas_syntax.specs.Tree.{ExprTree, literal, name, TargetTree, to_name, to_index, to_deref, InitTree, nothing, value, called, StmtTree, skip, declare, assign, call, block, if_, while_, do_, for_, break_, continue_, return_, lock, unlock, print, StmtOption, absent, present, StmtList, no_more, one_more}
 use Rattle.cas_syntax.specs.Operators.{assigning_sign}
 use Rattle.cas_syntax.specs.Limits.{Limits, AllowsDepth, IsLeftOut}
-use Rattle.cas_syntax.specs.Tokens.{word, sign, ident, number}
+use Rattle.cas_syntax.specs.Tokens.{word, sign, ident, number, begins_call}
 use Rattle.cas_syntax.specs.Expressions.{SpellsKind, SpellsExpr, SpellsArguments}
 
 -- what an assignment writes
@@ -26,10 +26,15 @@ pub data SpellsTarget (limits : Limits) : TargetTree → List Token → List Tok
   behind_parentheses : (a : ExprTree) (o p q : Place) (s r : List Token) → SpellsExpr limits a s (sign sg.CloseParen q ∷ r) →
       SpellsTarget limits (to_deref a) (sign sg.Star o ∷ sign sg.OpenParen p ∷ s) r
 
+-- the tokens may be the value of an assignment to this target: where a name takes it, what begins as a call is one
+abbrev pub MayBeValue : TargetTree → List Token → Type 0
+MayBeValue (to_name x) tokens = begins_call tokens ≡ false
+MayBeValue target tokens = Unit {0}
+
 -- an assignment or a call, at the place of its first token
 pub data SpellsSimple (limits : Limits) : StmtTree → List Token → List Token → Type 0 where
   sets : (target : TargetTree) (a : ExprTree) (first : Token) (p : Place) (s t r : List Token) →
-      SpellsTarget limits target (first ∷ s) (sign sg.Equal p ∷ t) → SpellsExpr limits a t r →
+      SpellsTarget limits target (first ∷ s) (sign sg.Equal p ∷ t) → MayBeValue target t → SpellsExpr limits a t r →
       SpellsSimple limits (assign first.place target None a) (first ∷ s) r
   changes : (target : TargetTree) (op : BinaryOperator) (by : Sign) (a : ExprTree) (first : Token) (p : Place) (s t r : List Token) →
       assigning_sign op ≡ Some by → SpellsTarget limits target (first ∷ s) (sign by p ∷ t) → SpellsExpr limits a t r →
@@ -53,7 +58,7 @@ pub data SpellsSimple (limits : Limits) : StmtTree → List Token → List Token
 -- what a local begins with
 pub data SpellsInit (limits : Limits) : InitTree → List Token → List Token → Type 0 where
   no_value : (r : List Token) → SpellsInit limits nothing r r
-  a_value : (a : ExprTree) (p : Place) (s r : List Token) → SpellsExpr limits a s r → SpellsInit limits (value a) (sign sg.Equal p ∷ s) r
+  a_value : (a : ExprTree) (p : Place) (s r : List Token) → begins_call s ≡ false → SpellsExpr limits a s r → SpellsInit limits (value a) (sign sg.Equal p ∷ s) r
   a_result : (f : Ident) (bs : List ExprTree) (p q q' : Place) (s r : List Token) → SpellsArguments limits bs s (sign sg.CloseParen q' ∷ r) →
       SpellsInit limits (called f bs) (sign sg.Equal p ∷ ident f ∷ sign sg.OpenParen q ∷ s) r
 
@@ -65,9 +70,9 @@ pub data SpellsLocal (limits : Limits) (k : Kind) : StmtTree → List Token → 
       SpellsLocal limits k (declare x.place (Ptr k) x a) (sign sg.Star p ∷ ident x ∷ s) r
   array : (x : Ident) (n : ℕ) (j : Kind) (p o q : Place) (r : List Token) →
       SpellsLocal limits k (declare x.place (Array k n) x nothing) (ident x ∷ sign sg.OpenBracket p ∷ number n j o ∷ sign sg.CloseBracket q ∷ r) r
-  -- left out: a pointer to a pointer, an array of pointers, an array of arrays, values of an array
-  pointer_to_pointer : (x : Ident) (p q : Place) (r : List Token) → IsLeftOut limits r →
-      SpellsLocal limits k (declare x.place (Ptr k) x nothing) (sign sg.Star p ∷ sign sg.Star q ∷ r) r
+  -- left out: a pointer to a pointer, for which any tree stands, an array of pointers, an array of arrays, values of an array
+  pointer_to_pointer : (p q : Place) (r : List Token) → IsLeftOut limits r →
+      SpellsLocal limits k (skip q) (sign sg.Star p ∷ sign sg.Star q ∷ r) r
   pointers : (x : Ident) (p q : Place) (r : List Token) → IsLeftOut limits r →
       SpellsLocal limits k (declare x.place (Ptr k) x nothing) (sign sg.Star p ∷ ident x ∷ sign sg.OpenBracket q ∷ r) r
   arrays : (x : Ident) (n : ℕ) (j : Kind) (p o q q' : Place) (r : List Token) → IsLeftOut limits r →

@@ -80,6 +80,7 @@ mutual
 pub record FunTree : Type 0 where
   pub decl : Decl
   pub params : List Ident
+  pub held : List Place
   pub body : StmtList
   pub place : Place
   pub closing : Place
@@ -87,7 +88,7 @@ pub record FunTree : Type 0 where
 -- an item of a module
 pub data ItemTree : Type 0 where
   global : Decl → (values : List ℕ) → Place → ItemTree
-  prototype : Decl → Place → ItemTree
+  prototype : Decl → (held : List Place) → Place → ItemTree
   define : FunTree → ItemTree
 
 -- a module: its items in order of text
@@ -161,6 +162,7 @@ abbrev pub fun_tree : Fun → FunTree
 fun_tree f = record {
   decl = f.decl;
   params = f.params;
+  held = f.held;
   body = stmt_trees f.body;
   place = f.place;
   closing = f.closing;
@@ -168,7 +170,7 @@ fun_tree f = record {
 
 abbrev pub item_tree : Item → ItemTree
 item_tree (Global d vs at) = global d vs at
-item_tree (Prototype d at) = prototype d at
+item_tree (Prototype d hs at) = prototype d hs at
 item_tree (Define f) = define (fun_tree f)
 
 abbrev pub module_tree : Module → ModuleTree

@@ -146,6 +146,8 @@ pub struct Fun {
     pub decl: Decl,
     /// The parameters' names, in order. Their types are the declaration's.
     pub params: Seq<Ident>,
+    /// The places of the locks that the declaration `holds`, in order.
+    pub held: Seq<Place>,
     pub body: Seq<Stmt>,
     /// The place of the function's name.
     pub place: Place,
@@ -159,8 +161,8 @@ pub enum Item {
     /// A lock, a shared global or a table, with the initial values that the text gives, each as a word of its
     /// kind.
     Global { decl: Decl, values: Seq<u32>, place: Place },
-    /// A function without its body.
-    Prototype { decl: Decl, place: Place },
+    /// A function without its body, with the places of the locks that the declaration `holds`, in order.
+    Prototype { decl: Decl, held: Seq<Place>, place: Place },
     Define(Fun),
 }
 
