@@ -1,5 +1,5 @@
 -- Types, parameters and held locks whose canonical tokens may stand in a text and spell them, but for places.
-use Rattle.std.proofs.Common.{◌≡◌, ℕ, List, [], ◌∷◌, map, Option, Some, None, refl, ap}
+use Rattle.std.proofs.Common.{◌≡◌, ℕ, List, [], ◌∷◌, map, length, Option, Some, None, refl, ap, arith}
 use Rattle.cas_base.specs.declared.kind.Kind.{Kind}
 use Rattle.cas_base.specs.declared.kind.Ty.{Ty}
 use Rattle.cas_base.specs.declared.kind.Ty.TheVariants.{Void, Int, Ptr, Array}
@@ -7,7 +7,7 @@ use Rattle.cas_base.specs.declared.place.Place.{Place}
 use Rattle.cas_lex.specs.declared.token.Sign.TheVariants as sg
 use Rattle.cas_lex.specs.declared.token.Token.{Token}
 use Rattle.cas_syntax.specs.declared.tree.Ident.{Ident}
-use Rattle.cas_syntax.specs.Alike.{bare_ident}
+use Rattle.cas_syntax.specs.Alike.{nowhere, bare_ident}
 use Rattle.cas_syntax.specs.Reading.{within}
 use Rattle.cas_syntax.specs.Tokens as t
 use Rattle.cas_syntax.specs.Expressions as g
@@ -143,36 +143,56 @@ named_printable at (ty ∷ tys) (x ∷ xs) all =
 
 -- names of locks
 
-abbrev NamesPrintable : (List Piece → Place) → List (List ℕ) → Type 0
-NamesPrintable at xs = Spelling at (printed_names xs) (g3.SpellsNames xs)
+-- the pieces may stand in a text and spell the names, but for places
+abbrev LocksAgain : (List Piece → Place) → List Ident → (List Piece → List Piece) → (List Ident → List Token → List Token → Type 0) → Type 0
+LocksAgain at xs inner IsSpelt = Keeps inner × ((rest : List Piece) →
+    (ys : List Ident) × IsSpelt ys (placed at (inner rest)) (placed at rest) × (g3.names_alone ys ≡ g3.names_alone xs) × (length ys ≡ length xs))
 
-more_names : (at : List Piece → Place) (x y : List ℕ) (ys : List (List ℕ)) → IsPlainName x → NamesPrintable at (y ∷ ys) → NamesPrintable at (x ∷ y ∷ ys)
+abbrev NamesPrintable : (List Piece → Place) → List Ident → Type 0
+NamesPrintable at xs = LocksAgain at xs (printed_names (g3.names_alone xs)) g3.SpellsNames
+
+last_name : (at : List Piece → Place) (x : Ident) → IsPlainName x.name → NamesPrintable at (x ∷ [])
+last_name at x good = ((λ rest sound. (good, sound)), λ rest. (ident_at x.name (at rest) ∷ [], g3.last_name _ _, refl, refl))
+
+more_names : (at : List Piece → Place) (x y : Ident) (ys : List Ident) → IsPlainName x.name → NamesPrintable at (y ∷ ys) → NamesPrintable at (x ∷ y ∷ ys)
 more_names at x y ys good more =
-    ((λ rest sound. (good, (tt, more.0 rest sound))), λ rest. g3.one_name (ident_at x _) (y ∷ ys) _ _ _ (more.1 rest))
+    ((λ rest sound. (good, (tt, more.0 rest sound))),
+    λ rest.
+        let e = more.1 rest in
+        (ident_at x.name (at (sign sg.Comma ∷ printed_names (g3.names_alone (y ∷ ys)) rest)) ∷ e.0, g3.one_name _ e.0 _ _ _ e.1, ap (λ (names : List (List ℕ)). x.name ∷ names) e.2,
+        rw e.3 refl))
 
-join_names : (at : List Piece → Place) (x : List ℕ) (xs : List (List ℕ)) (s r : List Token) → g3.SpellsNames xs s r → IsPlainName x → NamesPrintable at xs → NamesPrintable at (x ∷ xs)
-join_names at x _ s r (g3.last_name y _) good more = more_names at x y.name [] good more
-join_names at x _ s r (g3.one_name y ys p _ _ others) good more = more_names at x y.name ys good more
+join_names : (at : List Piece → Place) (x : Ident) (xs : List Ident) (s r : List Token) → g3.SpellsNames xs s r → IsPlainName x.name → NamesPrintable at xs → NamesPrintable at (x ∷ xs)
+join_names at x _ s r (g3.last_name y _) good more = more_names at x y [] good more
+join_names at x _ s r (g3.one_name y ys p _ _ others) good more = more_names at x y ys good more
 
-names_printable : (at : List Piece → Place) (xs : List (List ℕ)) (s r : List Token) → g3.SpellsNames xs s r → Sound s → Sound r × NamesPrintable at xs
-names_printable at _ _ r (g3.last_name x _) h = (h.1, ((λ rest sound. (h.0, sound)), λ rest. g3.last_name (ident_at x.name _) _))
+names_printable : (at : List Piece → Place) (xs : List Ident) (s r : List Token) → g3.SpellsNames xs s r → Sound s → Sound r × NamesPrintable at xs
+names_printable at _ _ r (g3.last_name x _) h = (h.1, last_name at x h.0)
 names_printable at _ _ r (g3.one_name x xs p s _ others) h =
     let e = names_printable at xs s r others h.1.1 in
-    (e.0, join_names at x.name xs s r others h.0 e.1)
+    (e.0, join_names at x xs s r others h.0 e.1)
 
-abbrev pub HoldsPrintable : (List Piece → Place) → List (List ℕ) → Type 0
-HoldsPrintable at xs = Spelling at (printed_holds xs) (g3.SpellsHolds xs)
+abbrev pub HoldsPrintable : (List Piece → Place) → List Ident → Type 0
+HoldsPrintable at xs = LocksAgain at xs (printed_holds (g3.names_alone xs)) g3.SpellsHolds
 
-some_held : (at : List Piece → Place) (x : List ℕ) (xs : List (List ℕ)) → NamesPrintable at (x ∷ xs) → HoldsPrintable at (x ∷ xs)
+some_held : (at : List Piece → Place) (x : Ident) (xs : List Ident) → NamesPrintable at (x ∷ xs) → HoldsPrintable at (x ∷ xs)
 some_held at x xs names =
-    ((λ rest sound. (tt, (tt, names.0 _ (tt, sound)))), λ rest. g3.held (x ∷ xs) _ _ _ _ _ (names.1 (sign sg.CloseParen ∷ rest)))
+    ((λ rest sound. (tt, (tt, names.0 _ (tt, sound)))),
+    λ rest. let e = names.1 (sign sg.CloseParen ∷ rest) in (e.0, g3.held e.0 _ _ _ _ _ e.1, e.2, e.3))
 
-held_names : (at : List Piece → Place) (xs : List (List ℕ)) (s r : List Token) → g3.SpellsNames xs s r → NamesPrintable at xs → HoldsPrintable at xs
-held_names at _ s r (g3.last_name x _) names = some_held at x.name [] names
-held_names at _ s r (g3.one_name x xs p _ _ others) names = some_held at x.name xs names
+held_names : (at : List Piece → Place) (xs : List Ident) (s r : List Token) → g3.SpellsNames xs s r → NamesPrintable at xs → HoldsPrintable at xs
+held_names at _ s r (g3.last_name x _) names = some_held at x [] names
+held_names at _ s r (g3.one_name x xs p _ _ others) names = some_held at x xs names
 
-pub holds_printable : (at : List Piece → Place) (xs : List (List ℕ)) (s r : List Token) → g3.SpellsHolds xs s r → Sound s → Sound r × HoldsPrintable at xs
-holds_printable at _ s r (g3.none_held _) h = (h, ((λ rest sound. sound), λ rest. g3.none_held _))
+pub holds_printable : (at : List Piece → Place) (xs : List Ident) (s r : List Token) → g3.SpellsHolds xs s r → Sound s → Sound r × HoldsPrintable at xs
+holds_printable at _ s r (g3.none_held _) h = (h, ((λ rest sound. sound), λ rest. ([], g3.none_held _, refl, refl)))
 holds_printable at xs _ r (g3.held _ p q q' s _ spelt) h =
     let e = names_printable at xs s (t.sign sg.CloseParen q' ∷ r) spelt h.1.1 in
     (e.0.1, held_names at xs s (t.sign sg.CloseParen q' ∷ r) spelt e.1)
+
+-- as many places are nowhere
+pub nowhere-places : (xs ys : List Ident) → length ys ≡ length xs → map (λ p. nowhere) (g3.places_alone ys) ≡ map (λ p. nowhere) (g3.places_alone xs)
+nowhere-places [] [] h = refl
+nowhere-places [] (y ∷ ys) h = absurd (omega arith)
+nowhere-places (x ∷ xs) [] h = absurd (omega arith)
+nowhere-places (x ∷ xs) (y ∷ ys) h = ap (λ (ps : List Place). nowhere ∷ ps) (nowhere-places xs ys (omega arith))

@@ -118,7 +118,7 @@ kept_expr l _ s r low (g.a_choice _ c a b p q _ u v _ above first second third) 
     let f = stripped a u (t.sign sg.Colon q ∷ v) (kept_expr 1 a u (t.sign sg.Colon q ∷ v) (omega arith) second e.0.1) in
     let i = stripped b v r (kept_expr 1 b v r (omega arith) third f.0.1) in
     bare l (conditional c a b) s r above
-    (i.0, (λ rest sound. e.1 _ (tt, f.1 _ (tt, i.1 _ sound))),
+    (i.0, (λ rest sound. e.1 (sign sg.Question ∷ printed_expr a (sign sg.Colon ∷ printed_expr b rest)) (tt, f.1 _ (tt, i.1 _ sound))),
     λ rest. let B = printed_expr b rest in let A = printed_expr a (sign sg.Colon ∷ B) in
     omega (arith, e.2 (sign sg.Question ∷ A), f.2 (sign sg.Colon ∷ B), i.2 rest))
 kept_expr l _ _ r low (g.a_call _ x p _ left_out) h = cc

@@ -7,6 +7,7 @@ pub mod Kept
 pub mod Law
 pub mod Levels
 pub mod Modules
+pub mod NoCall
 pub mod Numbers
 pub mod Pages
 pub mod Parts

@@ -18,7 +18,7 @@ use Rattle.cas_syntax.specs.Items.{declared}
 use Rattle.cas_print.specs.Pieces.{Piece, word, sign, end_of_line, named}
 use Rattle.cas_print.specs.Statements.{before_name, printed_stmts}
 use Rattle.cas_print.specs.Items.{printed_extern, printed_global, printed_cells, printed_parameters, printed_holds, printed_head, printed_item, printed_items}
-use Rattle.cas_print.proofs.Heads.{ReturnPrintable, return_printable, ParametersPrintable, parameters_printable, no_names, unnamed_printable, named_printable, HoldsPrintable, holds_printable}
+use Rattle.cas_print.proofs.Heads.{ReturnPrintable, return_printable, ParametersPrintable, parameters_printable, no_names, unnamed_printable, named_printable, HoldsPrintable, holds_printable, nowhere-places}
 use Rattle.cas_print.proofs.Initial.{CellsPrintable, cells_printable}
 use Rattle.cas_print.proofs.Kept.{Keeps, kept_kind}
 use Rattle.cas_print.proofs.Placed.{placed}
@@ -69,36 +69,39 @@ table_printable at x ty vs d cells =
         (extern_again at d (word w.Const ∷ printed_cells ty x.name vs (end_of_line sg.Semicolon ∷ rest))) e.3 e.4,
         refl))
 
-prototype_printable : (at : List Piece → Place) (x : Ident) (ret : Ty) (tys : List Ty) (xs : List (Option Ident)) (holds : List (List ℕ)) → IsPlainName x.name →
-    ReturnPrintable at ret → ParametersPrintable at tys xs → HoldsPrintable at holds → ItemPrintable at (prototype (declared x.name (Function ret tys holds) false) x.place)
+prototype_printable : (at : List Piece → Place) (x : Ident) (ret : Ty) (tys : List Ty) (xs : List (Option Ident)) (holds : List Ident) → IsPlainName x.name →
+    ReturnPrintable at ret → ParametersPrintable at tys xs → HoldsPrintable at holds →
+    ItemPrintable at (prototype (declared x.name (Function ret tys (g3.names_alone holds)) false) (g3.places_alone holds) x.place)
 prototype_printable at x ret tys xs holds good returns parameters locks =
     let names = unnamed_printable at tys xs parameters in
     ((λ rest sound. returns.0 _ (good, (tt, names.0 _ (tt, locks.0 _ (tt, sound))))),
     λ rest.
-        let behind = printed_holds holds (end_of_line sg.Semicolon ∷ rest) in
+        let behind = printed_holds (g3.names_alone holds) (end_of_line sg.Semicolon ∷ rest) in
         let inner = printed_parameters tys [] (sign sg.CloseParen ∷ behind) in
-        (prototype (declared x.name (Function ret tys holds) false) _,
-        g3.a_prototype (ident_at x.name _) (Function ret tys holds) (no_names tys) true _ _ _ _ (g3.here _)
-        (g3.head (ident_at x.name _) ret tys (no_names tys) holds _ _ _ _ _ _
-        (returns.1 (named x.name ∷ sign sg.OpenParen ∷ inner)) (names.1 (sign sg.CloseParen ∷ behind)) (locks.1 (end_of_line sg.Semicolon ∷ rest))),
-        refl))
+        let h = locks.1 (end_of_line sg.Semicolon ∷ rest) in
+        (prototype (declared x.name (Function ret tys (g3.names_alone h.0)) false) (g3.places_alone h.0) _,
+        g3.a_prototype (ident_at x.name _) (Function ret tys (g3.names_alone h.0)) (no_names tys) (g3.places_alone h.0) true _ _ _ _ (g3.here _)
+        (g3.head (ident_at x.name _) ret tys (no_names tys) h.0 _ _ _ _ _ _
+        (returns.1 (named x.name ∷ sign sg.OpenParen ∷ inner)) (names.1 (sign sg.CloseParen ∷ behind)) h.1),
+        rw (h.2, nowhere-places holds h.0 h.3) refl))
 
-function_printable : (at : List Piece → Place) (x : Ident) (ret : Ty) (tys : List Ty) (xs : List Ident) (holds : List (List ℕ)) (body : StmtList) (closing : Place) → IsPlainName x.name →
+function_printable : (at : List Piece → Place) (x : Ident) (ret : Ty) (tys : List Ty) (xs : List Ident) (holds : List Ident) (body : StmtList) (closing : Place) → IsPlainName x.name →
     ReturnPrintable at ret → ParametersPrintable at tys (map Some xs) → HoldsPrintable at holds → StmtsPrintable at 0 body →
-    ItemPrintable at (define (record { decl = declared x.name (Function ret tys holds) true; params = xs; body = body; place = x.place; closing = closing }))
+    ItemPrintable at (define (record { decl = declared x.name (Function ret tys (g3.names_alone holds)) true; params = xs; held = g3.places_alone holds; body = body; place = x.place; closing = closing }))
 function_printable at x ret tys xs holds body closing good returns parameters locks statements =
     let names = named_printable at tys xs parameters in
     ((λ rest sound. returns.0 _ (good, (tt, names.0 _ (tt, locks.0 _ (tt, statements.0 _ (tt, sound)))))),
     λ rest.
         let d = statements.1 (end_of_line sg.CloseBrace ∷ rest) in
         let opened = end_of_line sg.OpenBrace ∷ printed_stmts body (end_of_line sg.CloseBrace ∷ rest) in
-        let behind = printed_holds holds opened in
+        let behind = printed_holds (g3.names_alone holds) opened in
         let inner = printed_parameters tys xs (sign sg.CloseParen ∷ behind) in
         let e = names.1 (sign sg.CloseParen ∷ behind) in
-        (define (record { decl = declared x.name (Function ret tys holds) true; params = e.0; body = d.0; place = _; closing = _ }),
-        g3.a_function (ident_at x.name _) (Function ret tys holds) e.0 d.0 _ _ _ _ _
-        (g3.head (ident_at x.name _) ret tys (map Some e.0) holds _ _ _ _ _ _ (returns.1 (named x.name ∷ sign sg.OpenParen ∷ inner)) e.1 (locks.1 opened)) d.1,
-        rw (e.2, d.2) refl))
+        let h = locks.1 opened in
+        (define (record { decl = declared x.name (Function ret tys (g3.names_alone h.0)) true; params = e.0; held = g3.places_alone h.0; body = d.0; place = _; closing = _ }),
+        g3.a_function (ident_at x.name _) (Function ret tys (g3.names_alone h.0)) e.0 (g3.places_alone h.0) d.0 _ _ _ _ _
+        (g3.head (ident_at x.name _) ret tys (map Some e.0) h.0 _ _ _ _ _ _ (returns.1 (named x.name ∷ sign sg.OpenParen ∷ inner)) e.1 h.1) d.1,
+        rw (e.2, d.2, h.2, nowhere-places holds h.0 h.3) refl))
 
 item_printable : (at : List Piece → Place) (a : ItemTree) (s r : List Token) → g3.SpellsItem (within 0) a s r → Sound s → Sound r × ItemPrintable at a
 item_printable at _ s r (g3.a_lock x d p q _ _ outside) h =
@@ -114,13 +117,13 @@ item_printable at _ s r (g3.a_table x k ty vs d p o _ u v _ outside words spelt)
     let f = kept_kind k u v words e.1 in
     let i = cells_printable at d k x ty vs v (t.sign sg.Semicolon o ∷ r) spelt f.0 in
     (i.0.1, table_printable at x ty vs d i.2)
-item_printable at _ s r (g3.a_prototype _ _ _ d o _ u _ outside (g3.head x ret tys xs holds p q _ v z _ returns inner locks)) h =
+item_printable at _ s r (g3.a_prototype _ _ _ _ d o _ u _ outside (g3.head x ret tys xs holds p q _ v z _ returns inner locks)) h =
     let e = extern_left d s u outside h in
     let f = return_printable at ret u (t.ident x ∷ t.sign sg.OpenParen p ∷ v) returns e in
     let i = parameters_printable at tys xs v (t.sign sg.CloseParen q ∷ z) inner f.0.1.1 in
     let j = holds_printable at holds z (t.sign sg.Semicolon o ∷ r) locks i.0.1 in
     (j.0.1, prototype_printable at x ret tys xs holds f.0.0 f.1 i.1 j.1)
-item_printable at _ s r (g3.a_function _ _ xs body o closing _ u _ (g3.head x ret tys _ holds p q _ v z _ returns inner locks) statements) h =
+item_printable at _ s r (g3.a_function _ _ xs _ body o closing _ u _ (g3.head x ret tys _ holds p q _ v z _ returns inner locks) statements) h =
     let f = return_printable at ret s (t.ident x ∷ t.sign sg.OpenParen p ∷ v) returns h in
     let i = parameters_printable at tys (map Some xs) v (t.sign sg.CloseParen q ∷ z) inner f.0.1.1 in
     let j = holds_printable at holds z (t.sign sg.OpenBrace o ∷ u) locks i.0.1 in

@@ -1,5 +1,5 @@
 -- Assignments, calls and locals whose canonical tokens may stand in a text and spell them, but for places.
-use Rattle.std.proofs.Common.{◌≡◌, ℕ, ◌+◌, ◌<◌, inl, inr, List, [], ◌∷◌, map, length, Option, Some, None, refl, sym, ap, subst, ◌∙◌, arith}
+use Rattle.std.proofs.Common.{◌≡◌, ℕ, ◌+◌, ◌<◌, inl, inr, List, [], ◌∷◌, map, length, false, Option, Some, None, refl, sym, ap, subst, ◌∙◌, arith}
 use Rattle.cas_base.specs.declared.kind.Kind.{Kind}
 use Rattle.cas_base.specs.declared.kind.Kind.TheVariants.{U8, U16, I32}
 use Rattle.cas_base.specs.declared.kind.Ty.{Ty}
@@ -23,8 +23,9 @@ use Rattle.cas_print.specs.Pieces.{Piece, sign, end_of_line, named, plain_number
 use Rattle.cas_print.specs.Expressions.{kind_words, printed_expr, listed}
 use Rattle.cas_print.specs.Statements.{sign_or_equal, printed_target, printed_init, printed_part, printed_stmt, simple}
 use Rattle.cas_print.proofs.Kept.{Keeps, kept_kind}
+use Rattle.cas_print.proofs.NoCall.{opens, no_call, may_be_value}
 use Rattle.cas_print.proofs.Placed.{placed}
-use Rattle.cas_print.proofs.Printable.{SpellAgain, Printable, ExprPrintable, expr_printable, one_printable, ArgumentsPrintable, arguments_printable, TargetPrintable, target_printable, InitPrintable, init_printable}
+use Rattle.cas_print.proofs.Printable.{PrintableBefore, ExprPrintable, expr_printable, one_printable, ArgumentsPrintable, arguments_printable, TargetPrintable, target_printable, InitPrintable, init_printable}
 use Rattle.cas_print.proofs.Respelt.{ident_at, respelt_kind}
 use Rattle.cas_print.proofs.Sound.{IsSound, Sound, SoundPieces, IsPlainName, literal_small}
 use Rattle.cas_print.proofs.Numbers.{plain_sound}
@@ -35,7 +36,7 @@ IsPart a = (rest : List Piece) → printed_stmt a rest ≡ simple a rest
 
 -- an assignment or a call
 abbrev pub SimplePrintable : (List Piece → Place) → StmtTree → Type 0
-SimplePrintable at a = IsPart a × Printable bare_stmt (g2.SpellsSimple (within 0)) at a (printed_part a)
+SimplePrintable at a = IsPart a × PrintableBefore bare_stmt (g2.SpellsSimple (within 0)) at a (printed_part a)
 
 -- each target begins with a token
 headed : (at : List Piece → Place) (target : TargetTree) (rest : List Piece) → (first : Token) × (s : List Token) × (placed at (printed_target target rest) ≡ first ∷ s)
@@ -47,7 +48,7 @@ set_printable : (at : List Piece → Place) (p : Place) (target : TargetTree) (a
 set_printable at p target a left right =
     ((λ rest. refl),
     ((λ rest sound. left.0 _ (tt, right.0 _ sound)),
-    λ rest.
+    λ rest free.
         let e = right.1 rest in
         let ahead = sign sg.Equal ∷ printed_expr a rest in
         let f = left.1 ahead in
@@ -55,7 +56,8 @@ set_printable at p target a left right =
         (assign h.0.place f.0 None e.0,
         subst (λ (ts : List Token). g2.SpellsSimple (within 0) (assign h.0.place f.0 None e.0) ts (placed at rest)) (sym h.2)
         (g2.sets f.0 e.0 h.0 _ h.1 _ _
-        (subst (λ (ts : List Token). g2.SpellsTarget (within 0) f.0 ts (placed at ahead)) h.2 f.1) e.1),
+        (subst (λ (ts : List Token). g2.SpellsTarget (within 0) f.0 ts (placed at ahead)) h.2 f.1)
+        (may_be_value f.0 (placed at (printed_expr a rest)) (no_call at a rest free)) e.1),
         rw (f.2, e.2) refl)))
 
 -- an operator that assigns has a sign of its own
@@ -67,7 +69,7 @@ change_printable : (at : List Piece → Place) (p : Place) (target : TargetTree)
 change_printable at p target op by a is left right =
     ((λ rest. refl),
     ((λ rest sound. left.0 _ (tt, right.0 _ sound)),
-    λ rest.
+    λ rest free.
         let e = right.1 rest in
         let ahead = sign (sign_or_equal (assigning_sign op)) ∷ printed_expr a rest in
         let f = left.1 ahead in
@@ -83,7 +85,7 @@ kept_call_printable : (at : List Piece → Place) (p : Place) (x f : Ident) (bs 
 kept_call_printable at p x f bs good better arguments =
     ((λ rest. refl),
     ((λ rest sound. (good, (tt, (better, (tt, arguments.0 _ (tt, sound)))))),
-    λ rest.
+    λ rest free.
         let e = arguments.1 (sign sg.CloseParen ∷ rest) in
         (call _ (Some (ident_at x.name _)) (ident_at f.name _) e.0, g2.keeps_result (ident_at x.name _) (ident_at f.name _) e.0 _ _ _ _ _ e.1, rw e.2 refl)))
 
@@ -91,12 +93,12 @@ call_printable : (at : List Piece → Place) (p : Place) (f : Ident) (bs : List 
 call_printable at p f bs good arguments =
     ((λ rest. refl),
     ((λ rest sound. (good, (tt, arguments.0 _ (tt, sound)))),
-    λ rest.
+    λ rest free.
         let e = arguments.1 (sign sg.CloseParen ∷ rest) in
         (call _ None (ident_at f.name _) e.0, g2.calls (ident_at f.name _) e.0 _ _ _ _ e.1, rw e.2 refl)))
 
 pub simple_printable : (at : List Piece → Place) (a : StmtTree) (s r : List Token) → g2.SpellsSimple (within 0) a s r → Sound s → Sound r × SimplePrintable at a
-simple_printable at _ _ r (g2.sets target a first p s u _ left right) h =
+simple_printable at _ _ r (g2.sets target a first p s u _ left allowed right) h =
     let e = target_printable at target (first ∷ s) (t.sign sg.Equal p ∷ u) left h in
     let f = expr_printable at a u r right e.0.1 in
     (f.0, set_printable at first.place target a e.1 f.1)
@@ -125,7 +127,7 @@ simple_printable at _ _ r (g2.calls f bs p q s _ spelt) h =
 
 -- a local, with the words of its kind
 abbrev pub LocalPrintable : (List Piece → Place) → StmtTree → Type 0
-LocalPrintable at a = IsPart a × Keeps (printed_part a) × ((rest : List Piece) →
+LocalPrintable at a = IsPart a × Keeps (printed_part a) × ((rest : List Piece) → opens rest ≡ false →
     (kind : Kind) × (b : StmtTree) × (middle : List Token) × g.SpellsKind kind (placed at (printed_part a rest)) middle
     × g2.SpellsLocal (within 0) kind b middle (placed at rest) × (bare_stmt b ≡ bare_stmt a))
 
@@ -140,23 +142,23 @@ local_printable at kind _ _ r (g2.variable x a s _ spelt) h =
     (e.0,
     ((λ rest. refl),
     (λ rest sound. keeps_kind kind _ (h.0, e.1.0 _ sound)),
-    λ rest.
-        let f = e.1.1 rest in
+    λ rest free.
+        let f = e.1.1 rest free in
         (kind, declare _ (Int kind) (ident_at x.name _) f.0, _, respelt_kind at kind _, g2.variable (ident_at x.name _) f.0 _ _ f.1, rw f.2 refl)))
 local_printable at kind _ _ r (g2.pointer x a p s _ spelt) h =
     let e = init_printable at a s r spelt h.1.1 in
     (e.0,
     ((λ rest. refl),
     (λ rest sound. keeps_kind kind _ (tt, (h.1.0, e.1.0 _ sound))),
-    λ rest.
-        let f = e.1.1 rest in
+    λ rest free.
+        let f = e.1.1 rest free in
         (kind, declare _ (Ptr kind) (ident_at x.name _) f.0, _, respelt_kind at kind _, g2.pointer (ident_at x.name _) f.0 _ _ _ f.1, rw f.2 refl)))
 local_printable at kind _ _ r (g2.array x n j p o q _) h =
     (h.1.1.1.1,
     ((λ rest. refl),
     (λ rest sound. keeps_kind kind _ (h.0, (tt, (plain_sound n j h.1.1.0, (tt, sound))))),
-    λ rest. (kind, declare _ (Array kind n) (ident_at x.name _) nothing, _, respelt_kind at kind _, g2.array (ident_at x.name _) n _ _ _ _ _, refl)))
-local_printable at kind _ _ r (g2.pointer_to_pointer x p q _ left_out) h = cc
+    λ rest free. (kind, declare _ (Array kind n) (ident_at x.name _) nothing, _, respelt_kind at kind _, g2.array (ident_at x.name _) n _ _ _ _ _, refl)))
+local_printable at kind _ _ r (g2.pointer_to_pointer p q _ left_out) h = cc
 local_printable at kind _ _ r (g2.pointers x p q _ left_out) h = cc
 local_printable at kind _ _ r (g2.arrays x n j p o q q' _ left_out) h = cc
 local_printable at kind _ _ r (g2.array_values x n j p o q q' _ left_out) h = cc

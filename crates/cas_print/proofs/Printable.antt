@@ -17,6 +17,7 @@ use Rattle.cas_print.specs.Expressions.{enclosed, printed_expr, behind_commas, l
 use Rattle.cas_print.specs.Statements.{is_name_alone, printed_target, printed_call, printed_init, printed_optional}
 use Rattle.cas_print.proofs.Kept.{Keeps, kept_expr, stripped}
 use Rattle.cas_print.proofs.Levels.{outermost-low}
+use Rattle.cas_print.proofs.NoCall.{opens, no_call}
 use Rattle.cas_print.proofs.Placed.{placed, length-placed}
 use Rattle.cas_print.proofs.Respelt.{ident_at, respelt}
 use Rattle.cas_print.proofs.Sound.{IsSound, Sound, SoundPieces}
@@ -28,6 +29,11 @@ SpellAgain {A} bare IsSpelt at a inner = (rest : List Piece) → (b : A) × IsSp
 -- the pieces may stand in a text, and do so
 abbrev pub Printable : {A : Type 0} → (bare : A → A) → (A → List Token → List Token → Type 0) → (List Piece → Place) → A → (List Piece → List Piece) → Type 0
 Printable bare IsSpelt at a inner = Keeps inner × SpellAgain bare IsSpelt at a inner
+
+-- the same, where no `(` follows
+abbrev pub PrintableBefore : {A : Type 0} → (bare : A → A) → (A → List Token → List Token → Type 0) → (List Piece → Place) → A → (List Piece → List Piece) → Type 0
+PrintableBefore {A} bare IsSpelt at a inner =
+    Keeps inner × ((rest : List Piece) → opens rest ≡ false → (b : A) × IsSpelt b (placed at (inner rest)) (placed at rest) × (bare b ≡ bare a))
 
 abbrev pub ExprPrintable : (List Piece → Place) → ExprTree → Type 0
 ExprPrintable at a = Printable bare_expr (g.SpellsExpr (within 0)) at a (printed_expr a)
@@ -125,18 +131,18 @@ target_printable at _ _ r (g2.behind_parentheses a o p q s _ spelt) h =
 -- what locals begin with
 
 abbrev pub InitPrintable : (List Piece → Place) → InitTree → Type 0
-InitPrintable at a = Printable bare_init (g2.SpellsInit (within 0)) at a (printed_init a)
+InitPrintable at a = PrintableBefore bare_init (g2.SpellsInit (within 0)) at a (printed_init a)
 
 pub init_printable : (at : List Piece → Place) (a : InitTree) (s r : List Token) → g2.SpellsInit (within 0) a s r → Sound s → Sound r × InitPrintable at a
-init_printable at _ s r (g2.no_value _) h = (h, ((λ rest sound. sound), λ rest. (nothing, g2.no_value _, refl)))
-init_printable at _ _ r (g2.a_value a p s _ spelt) h =
+init_printable at _ s r (g2.no_value _) h = (h, ((λ rest sound. sound), λ rest free. (nothing, g2.no_value _, refl)))
+init_printable at _ _ r (g2.a_value a p s _ allowed spelt) h =
     let e = expr_printable at a s r spelt h.1 in
-    (e.0, ((λ rest sound. (tt, e.1.0 _ sound)), λ rest. let f = e.1.1 rest in (value f.0, g2.a_value f.0 _ _ _ f.1, ap value f.2)))
+    (e.0, ((λ rest sound. (tt, e.1.0 _ sound)), λ rest free. let f = e.1.1 rest in (value f.0, g2.a_value f.0 _ _ _ (no_call at a rest free) f.1, ap value f.2)))
 init_printable at _ _ r (g2.a_result x bs p q q' s _ spelt) h =
     let e = arguments_printable at bs s (t.sign sg.CloseParen q' ∷ r) spelt h.1.1.1 in
     (e.0.1,
     ((λ rest sound. (tt, (h.1.0, (tt, e.1.0 _ (tt, sound))))),
-    λ rest.
+    λ rest free.
         let f = e.1.1 (sign sg.CloseParen ∷ rest) in
         (called (ident_at x.name _) f.0, g2.a_result _ f.0 _ _ _ _ _ f.1, ap (called (bare_ident x)) f.2)))
 

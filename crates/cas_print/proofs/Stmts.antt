@@ -22,7 +22,7 @@ use Rattle.cas_print.proofs.Dangling.{dangles-bare}
 use Rattle.cas_print.proofs.Kept.{Keeps, kept_kind}
 use Rattle.cas_print.proofs.Parts.{SimplePrintable, simple_printable, LocalPrintable, local_printable}
 use Rattle.cas_print.proofs.Placed.{placed}
-use Rattle.cas_print.proofs.Printable.{Printable, ExprPrintable, expr_printable, OptionalPrintable, optional_printable}
+use Rattle.cas_print.proofs.Printable.{Printable, PrintableBefore, ExprPrintable, expr_printable, OptionalPrintable, optional_printable}
 use Rattle.cas_print.proofs.Respelt.{ident_at}
 use Rattle.cas_print.proofs.Sound.{Sound, SoundPieces, IsPlainName}
 
@@ -45,7 +45,7 @@ depth_of : (n : ℕ) (s : List Token) → BeginsWithToken s → AllowsDepth (wit
 depth_of n s b h = depth_at n b.0 b.1 (subst (λ (ts : List Token). AllowsDepth (within 0) n ts) b.2 h)
 
 simple_begins : (a : StmtTree) (s r : List Token) → g2.SpellsSimple (within 0) a s r → BeginsWithToken s
-simple_begins _ _ r (g2.sets target a first p s u _ left right) = (_, _, refl)
+simple_begins _ _ r (g2.sets target a first p s u _ left allowed right) = (_, _, refl)
 simple_begins _ _ r (g2.changes target op by a first p s u _ is left right) = (_, _, refl)
 simple_begins _ _ r (g2.increments target first p s _ left) = (_, _, refl)
 simple_begins _ _ r (g2.decrements target first p s _ left) = (_, _, refl)
@@ -73,7 +73,7 @@ simple_stmt : (at : List Piece → Place) (n : ℕ) (a : StmtTree) → n < 200 �
 simple_stmt at n a deep part =
     ((λ rest sound. subst SoundPieces (sym (part.0 rest)) (part.1.0 _ (tt, sound))),
     λ rest.
-        let d = part.1.1 (end_of_line sg.Semicolon ∷ rest) in
+        let d = part.1.1 (end_of_line sg.Semicolon ∷ rest) refl in
         (d.0, subst (λ (ps : List Piece). g2.SpellsStmt (within 0) n d.0 (placed at ps) (placed at rest)) (sym (part.0 rest))
         (g2.simple n d.0 _ _ _ (inl deep) d.1), d.2))
 
@@ -82,7 +82,7 @@ local_before at n a bs deep local behind =
     ((λ rest sound. subst SoundPieces (sym (local.0 (printed_stmts bs rest))) (local.1 _ (tt, behind.0 rest sound))),
     λ rest.
         let f = behind.1 rest in
-        let d = local.2 (end_of_line sg.Semicolon ∷ printed_stmts bs rest) in
+        let d = local.2 (end_of_line sg.Semicolon ∷ printed_stmts bs rest) refl in
         (one_more d.1 f.0,
         subst (λ (ps : List Piece). g2.SpellsStmts (within 0) n (one_more d.1 f.0) (placed at ps) (placed at rest)) (sym (local.0 (printed_stmts bs rest)))
         (g2.locals n d.0 (one_more d.1 f.0) f.0 _ _ d.2 _ _ (inl deep) d.3 (g2.last_local d.1 f.0 _ _ d.4) f.1),
@@ -101,29 +101,29 @@ locals_printable at n kind _ behind s r deep (g2.one_local a bs _ p _ u _ spelt 
 -- the parts of a `for`
 
 abbrev FirstPrintable : (List Piece → Place) → ℕ → StmtOption → Type 0
-FirstPrintable at n a = Printable bare_stmt_option (g2.SpellsFirst (within 0) n) at a (printed_part_option a)
+FirstPrintable at n a = PrintableBefore bare_stmt_option (g2.SpellsFirst (within 0) n) at a (printed_part_option a)
 
 first_printable : (at : List Piece → Place) (n : ℕ) (a : StmtOption) (s r : List Token) → g2.SpellsFirst (within 0) n a s r → Sound s → Sound r × FirstPrintable at n a
-first_printable at n _ s r (g2.nothing_first _) h = (h, ((λ rest sound. sound), λ rest. (absent, g2.nothing_first _, refl)))
+first_printable at n _ s r (g2.nothing_first _) h = (h, ((λ rest sound. sound), λ rest free. (absent, g2.nothing_first _, refl)))
 first_printable at n _ s r (g2.simple_first a _ _ allowed spelt) h =
     let deep = depth_of n s (simple_begins a s r spelt) allowed in
     let e = simple_printable at a s r spelt h in
-    (e.0, (e.1.1.0, λ rest. let d = e.1.1.1 rest in (present d.0, g2.simple_first d.0 _ _ (inl deep) d.1, ap present d.2)))
+    (e.0, (e.1.1.0, λ rest free. let d = e.1.1.1 rest free in (present d.0, g2.simple_first d.0 _ _ (inl deep) d.1, ap present d.2)))
 first_printable at n _ s r (g2.local_first kind a _ u _ allowed words spelt) h =
     let deep = depth_of n s (kind_begins kind s u words) allowed in
     let f = kept_kind kind s u words h in
     let e = local_printable at kind a u r spelt f.0 in
-    (e.0, (e.1.1, λ rest. let d = e.1.2 rest in (present d.1, g2.local_first d.0 d.1 _ d.2 _ (inl deep) d.3 d.4, ap present d.5)))
+    (e.0, (e.1.1, λ rest free. let d = e.1.2 rest free in (present d.1, g2.local_first d.0 d.1 _ d.2 _ (inl deep) d.3 d.4, ap present d.5)))
 
 abbrev AfterPrintable : (List Piece → Place) → ℕ → StmtOption → Type 0
-AfterPrintable at n a = Printable bare_stmt_option (g2.SpellsAfter (within 0) n) at a (printed_part_option a)
+AfterPrintable at n a = PrintableBefore bare_stmt_option (g2.SpellsAfter (within 0) n) at a (printed_part_option a)
 
 after_printable : (at : List Piece → Place) (n : ℕ) (a : StmtOption) (s r : List Token) → g2.SpellsAfter (within 0) n a s r → Sound s → Sound r × AfterPrintable at n a
-after_printable at n _ s r (g2.nothing_after _) h = (h, ((λ rest sound. sound), λ rest. (absent, g2.nothing_after _, refl)))
+after_printable at n _ s r (g2.nothing_after _) h = (h, ((λ rest sound. sound), λ rest free. (absent, g2.nothing_after _, refl)))
 after_printable at n _ s r (g2.simple_after a _ _ allowed spelt) h =
     let deep = depth_of n s (simple_begins a s r spelt) allowed in
     let e = simple_printable at a s r spelt h in
-    (e.0, (e.1.1.0, λ rest. let d = e.1.1.1 rest in (present d.0, g2.simple_after d.0 _ _ (inl deep) d.1, ap present d.2)))
+    (e.0, (e.1.1.0, λ rest free. let d = e.1.1.1 rest free in (present d.0, g2.simple_after d.0 _ _ (inl deep) d.1, ap present d.2)))
 
 -- statements of several parts
 
@@ -176,9 +176,9 @@ for_printable at n p i c u a deep first condition after body =
         let behind = sign sg.CloseParen ∷ printed_stmt a rest in
         let middle = sign sg.Semicolon ∷ printed_part_option u behind in
         let d = body.1 rest in
-        let e = after.1 behind in
+        let e = after.1 behind refl in
         let f = condition.1 middle in
-        let h = first.1 (sign sg.Semicolon ∷ printed_optional c middle) in
+        let h = first.1 (sign sg.Semicolon ∷ printed_optional c middle) refl in
         (for_ _ h.0 f.0 e.0 d.0, g2.fors n h.0 f.0 e.0 d.0 _ _ _ _ _ _ _ _ _ _ (inl deep) h.1 f.1 e.1 d.1, rw (d.2, e.2, f.2, h.2) refl))
 
 return_printable : (at : List Piece → Place) (n : ℕ) (p : Place) (a : Option ExprTree) → n < 200 → OptionalPrintable at a → StmtPrintable at n (return_ p a)

@@ -98,7 +98,7 @@ printed_fun f rest =
 -- an item
 abbrev pub printed_item : ItemTree → List Piece → List Piece
 printed_item (global d vs p) rest = printed_extern d.defined (printed_global d.form d.name vs rest)
-printed_item (prototype d p) rest = printed_head d.form d.name [] (end_of_line sg.Semicolon ∷ rest)
+printed_item (prototype d held p) rest = printed_head d.form d.name [] (end_of_line sg.Semicolon ∷ rest)
 printed_item (define f) rest = printed_fun f rest
 
 -- items, one after another
