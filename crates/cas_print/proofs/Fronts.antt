@@ -48,8 +48,8 @@ ended_sound value u n after h = either (begins_with_letter after) _ _ (λ e. tt)
 before_sound : (value n : ℕ) (after : List ℕ) → SoundFront (literal_before value n after)
 before_sound value n after =
     either (nat_lt 4294967295 value) _ _ (λ e. tt) (λ e.
-        let small : value ≤ 4294967295 = grind (arith, nat_tests) in
-        either (begins_with_u after) _ _ (λ d. ended_sound value true (n + 1) (drop 1 after) small) (λ d. ended_sound value false n after small))
+    let small : value ≤ 4294967295 = grind (arith, nat_tests) in
+    either (begins_with_u after) _ _ (λ d. ended_sound value true (n + 1) (drop 1 after) small) (λ d. ended_sound value false n after small))
 
 literal_front : (text : List ℕ) → SoundFront (literal_at text)
 literal_front text =

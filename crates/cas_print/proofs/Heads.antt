@@ -91,11 +91,12 @@ unnamed_more : (at : List Piece → Place) (ty : Ty) (tys : List Ty) (xs : List 
 unnamed_more at ty [] xs first more = (first.0, λ rest. g3.last_parameter ty None _ _ (g3.unnamed ty _ _ (first.1 rest)))
 unnamed_more at ty (ty' ∷ tys) [] first more = absurd more
 unnamed_more at ty (ty' ∷ tys) (x ∷ xs) first more =
-    let e = unnamed_more at ty' tys xs more.0 more.2 in
-    ((λ rest sound. first.0 _ (tt, e.0 rest sound)),
-    λ rest.
-        g3.one_parameter ty (ty' ∷ tys) None (None ∷ no_names tys) _ _ _ _
-        (g3.unnamed ty _ _ (first.1 (sign sg.Comma ∷ before_name ty' (more_parameters tys [] rest)))) (e.1 rest))
+    let e = unnamed_more at ty' tys xs more.0 more.2 in (
+      (λ rest sound. first.0 _ (tt, e.0 rest sound)),
+      λ rest.
+          g3.one_parameter ty (ty' ∷ tys) None (None ∷ no_names tys) _ _ _ _
+          (g3.unnamed ty _ _ (first.1 (sign sg.Comma ∷ before_name ty' (more_parameters tys [] rest)))) (e.1 rest),
+    )
 
 pub unnamed_printable : (at : List Piece → Place) (tys : List Ty) (xs : List (Option Ident)) → ParametersPrintable at tys xs →
     Spelling at (printed_parameters tys []) (g3.SpellsParameters (within 0) tys (no_names tys))
@@ -114,23 +115,28 @@ NamesAgain at inner xs IsSpelt = Keeps inner × ((rest : List Piece) →
 named_more : (at : List Piece → Place) (ty : Ty) (x : Ident) (tys : List Ty) (xs : List Ident) → TypePrintable at ty → IsPlainName x.name → ParametersPrintable at tys (map Some xs) →
     NamesAgain at (λ rest. before_name ty (named x.name ∷ more_parameters tys xs rest)) (x ∷ xs)
     (λ ys. g3.SpellsParameterList (within 0) (ty ∷ tys) (map Some ys))
-named_more at ty x [] [] first good more =
-    ((λ rest sound. first.0 _ (good, sound)),
-    λ rest.
-        (ident_at x.name (at rest) ∷ [],
-        g3.last_parameter ty (Some (ident_at x.name (at rest))) _ _ (g3.named ty (ident_at x.name (at rest)) _ _ (first.1 (named x.name ∷ rest))), refl))
+named_more at ty x [] [] first good more = (
+  (λ rest sound. first.0 _ (good, sound)),
+  λ rest. (
+    ident_at x.name (at rest) ∷ [],
+    g3.last_parameter ty (Some (ident_at x.name (at rest))) _ _ (g3.named ty (ident_at x.name (at rest)) _ _ (first.1 (named x.name ∷ rest))),
+    refl,
+  ),
+)
 named_more at ty x [] (x' ∷ xs) first good more = absurd more
 named_more at ty x (ty' ∷ tys) [] first good more = absurd more
 named_more at ty x (ty' ∷ tys) (x' ∷ xs) first good more =
-    let e = named_more at ty' x' tys xs more.0 more.1 more.2 in
-    ((λ rest sound. first.0 _ (good, (tt, e.0 rest sound))),
-    λ rest.
-        let f = e.1 rest in
-        let behind = sign sg.Comma ∷ before_name ty' (named x'.name ∷ more_parameters tys xs rest) in
-        (ident_at x.name (at behind) ∷ f.0,
-        g3.one_parameter ty (ty' ∷ tys) (Some (ident_at x.name (at behind))) (map Some f.0) _ _ _ _
-        (g3.named ty (ident_at x.name (at behind)) _ _ (first.1 (named x.name ∷ behind))) f.1,
-        ap (λ (ys : List Ident). bare_ident x ∷ ys) f.2))
+    let e = named_more at ty' x' tys xs more.0 more.1 more.2 in (
+      (λ rest sound. first.0 _ (good, (tt, e.0 rest sound))),
+      λ rest.
+          let f = e.1 rest in
+          let behind = sign sg.Comma ∷ before_name ty' (named x'.name ∷ more_parameters tys xs rest) in (
+            ident_at x.name (at behind) ∷ f.0,
+            g3.one_parameter ty (ty' ∷ tys) (Some (ident_at x.name (at behind))) (map Some f.0) _ _ _ _
+                (g3.named ty (ident_at x.name (at behind)) _ _ (first.1 (named x.name ∷ behind))) f.1,
+            ap (λ (ys : List Ident). bare_ident x ∷ ys) f.2,
+          ),
+    )
 
 pub named_printable : (at : List Piece → Place) (tys : List Ty) (xs : List Ident) → ParametersPrintable at tys (map Some xs) →
     NamesAgain at (printed_parameters tys xs) xs (λ ys. g3.SpellsParameters (within 0) tys (map Some ys))
@@ -155,12 +161,16 @@ last_name : (at : List Piece → Place) (x : Ident) → IsPlainName x.name → N
 last_name at x good = ((λ rest sound. (good, sound)), λ rest. (ident_at x.name (at rest) ∷ [], g3.last_name _ _, refl, refl))
 
 more_names : (at : List Piece → Place) (x y : Ident) (ys : List Ident) → IsPlainName x.name → NamesPrintable at (y ∷ ys) → NamesPrintable at (x ∷ y ∷ ys)
-more_names at x y ys good more =
-    ((λ rest sound. (good, (tt, more.0 rest sound))),
-    λ rest.
-        let e = more.1 rest in
-        (ident_at x.name (at (sign sg.Comma ∷ printed_names (g3.names_alone (y ∷ ys)) rest)) ∷ e.0, g3.one_name _ e.0 _ _ _ e.1, ap (λ (names : List (List ℕ)). x.name ∷ names) e.2,
-        rw e.3 refl))
+more_names at x y ys good more = (
+  (λ rest sound. (good, (tt, more.0 rest sound))),
+  λ rest.
+      let e = more.1 rest in (
+        ident_at x.name (at (sign sg.Comma ∷ printed_names (g3.names_alone (y ∷ ys)) rest)) ∷ e.0,
+        g3.one_name _ e.0 _ _ _ e.1,
+        ap (λ (names : List (List ℕ)). x.name ∷ names) e.2,
+        rw e.3 refl,
+      ),
+)
 
 join_names : (at : List Piece → Place) (x : Ident) (xs : List Ident) (s r : List Token) → g3.SpellsNames xs s r → IsPlainName x.name → NamesPrintable at xs → NamesPrintable at (x ∷ xs)
 join_names at x _ s r (g3.last_name y _) good more = more_names at x y [] good more
@@ -176,9 +186,10 @@ abbrev pub HoldsPrintable : (List Piece → Place) → List Ident → Type 0
 HoldsPrintable at xs = LocksAgain at xs (printed_holds (g3.names_alone xs)) g3.SpellsHolds
 
 some_held : (at : List Piece → Place) (x : Ident) (xs : List Ident) → NamesPrintable at (x ∷ xs) → HoldsPrintable at (x ∷ xs)
-some_held at x xs names =
-    ((λ rest sound. (tt, (tt, names.0 _ (tt, sound)))),
-    λ rest. let e = names.1 (sign sg.CloseParen ∷ rest) in (e.0, g3.held e.0 _ _ _ _ _ e.1, e.2, e.3))
+some_held at x xs names = (
+  (λ rest sound. (tt, (tt, names.0 _ (tt, sound)))),
+  λ rest. let e = names.1 (sign sg.CloseParen ∷ rest) in (e.0, g3.held e.0 _ _ _ _ _ e.1, e.2, e.3),
+)
 
 held_names : (at : List Piece → Place) (xs : List Ident) (s r : List Token) → g3.SpellsNames xs s r → NamesPrintable at xs → HoldsPrintable at xs
 held_names at _ s r (g3.last_name x _) names = some_held at x [] names

@@ -67,16 +67,18 @@ by_sign : (at : List Piece → Place) (k : Kind) (v : ℕ) → v < 2 ^ 32 → na
 by_sign at k v small stays (pos m) is =
     let same : m ≡ v = value-pos k v m small is in
     let few : m ≤ 4294967295 = omega arith in
-    let value : narrowed m k ≡ v = ap (λ (n : ℕ). narrowed n k) same ∙ stays in
-    ((λ rest sound. (small_sound m few, sound)),
-    λ rest. subst (λ (n : ℕ). g3.SpellsValue k n (placed at (plain_number m ∷ rest)) (placed at rest)) value (g3.as_it_is m _ _ _))
+    let value : narrowed m k ≡ v = ap (λ (n : ℕ). narrowed n k) same ∙ stays in (
+      (λ rest sound. (small_sound m few, sound)),
+      λ rest. subst (λ (n : ℕ). g3.SpellsValue k n (placed at (plain_number m ∷ rest)) (placed at rest)) value (g3.as_it_is m _ _ _),
+    )
 by_sign at k v small stays (negsuc m) is =
     let sum = value-neg k v m small is in
     let few : m + 1 ≤ 4294967295 = omega arith in
     let same : word_sub 0 (m + 1) ≡ v = word_sub-negated (m + 1) v sum.0 (omega arith) in
-    let value : narrowed (word_sub 0 (m + 1)) k ≡ v = ap (λ (n : ℕ). narrowed n k) same ∙ stays in
-    ((λ rest sound. (tt, (small_sound (m + 1) few, sound))),
-    λ rest. subst (λ (n : ℕ). g3.SpellsValue k n (placed at (sign sg.Minus ∷ plain_number (m + 1) ∷ rest)) (placed at rest)) value (g3.negative (m + 1) _ _ _ _))
+    let value : narrowed (word_sub 0 (m + 1)) k ≡ v = ap (λ (n : ℕ). narrowed n k) same ∙ stays in (
+      (λ rest sound. (tt, (small_sound (m + 1) few, sound))),
+      λ rest. subst (λ (n : ℕ). g3.SpellsValue k n (placed at (sign sg.Minus ∷ plain_number (m + 1) ∷ rest)) (placed at rest)) value (g3.negative (m + 1) _ _ _ _),
+    )
 
 abbrev ValuePrintable : (List Piece → Place) → Kind → ℕ → Type 0
 ValuePrintable at k v = ValueSpelling at k v (printed_value k v)
@@ -98,9 +100,10 @@ abbrev ValuesPrintable : (List Piece → Place) → Kind → List ℕ → Type 0
 ValuesPrintable at k vs = Spelling at (listed (printed_value k) vs) (g3.SpellsValues k vs)
 
 more_values : (at : List Piece → Place) (k : Kind) (v w : ℕ) (ws : List ℕ) → ValuePrintable at k v → ValuesPrintable at k (w ∷ ws) → ValuesPrintable at k (v ∷ w ∷ ws)
-more_values at k v w ws first more =
-    ((λ rest sound. first.0 _ (tt, more.0 rest sound)),
-    λ rest. g3.one_value v (w ∷ ws) _ _ _ _ (first.1 (sign sg.Comma ∷ listed (printed_value k) (w ∷ ws) rest)) (more.1 rest))
+more_values at k v w ws first more = (
+  (λ rest sound. first.0 _ (tt, more.0 rest sound)),
+  λ rest. g3.one_value v (w ∷ ws) _ _ _ _ (first.1 (sign sg.Comma ∷ listed (printed_value k) (w ∷ ws) rest)) (more.1 rest),
+)
 
 join_values : (at : List Piece → Place) (k : Kind) (v : ℕ) (vs : List ℕ) (s r : List Token) → g3.SpellsValues k vs s r → ValuePrintable at k v → ValuesPrintable at k vs → ValuesPrintable at k (v ∷ vs)
 join_values at k v _ s r (g3.last_value w _ _ spelt) first more = more_values at k v w [] first more
@@ -130,11 +133,16 @@ CellsPrintable at defined ty name vs = Keeps (printed_cells ty name vs) × ((res
 -- initial values in braces
 braced : (at : List Piece → Place) (k : Kind) (name : List ℕ) (n w : ℕ) (ws : List ℕ) → IsPlainName name → n ≤ 4294967295 → ValuesPrintable at k (w ∷ ws) →
     CellsPrintable at true (Array k n) name (w ∷ ws)
-braced at k name n w ws good few values =
-    ((λ rest sound. keeps_kind k _ (good, (tt, (small_sound n few, (tt, (tt, (tt, values.0 _ (tt, sound)))))))),
-    λ rest.
-        (k, _, _, respelt_kind at k _,
-        g3.cells_with_values (ident_at name _) n _ (w ∷ ws) _ _ _ _ _ _ _ _ refl (values.1 (sign sg.CloseBrace ∷ rest))))
+braced at k name n w ws good few values = (
+  (λ rest sound. keeps_kind k _ (good, (tt, (small_sound n few, (tt, (tt, (tt, values.0 _ (tt, sound)))))))),
+  λ rest. (
+    k,
+    _,
+    _,
+    respelt_kind at k _,
+    g3.cells_with_values (ident_at name _) n _ (w ∷ ws) _ _ _ _ _ _ _ _ refl (values.1 (sign sg.CloseBrace ∷ rest)),
+  ),
+)
 
 some_braced : (at : List Piece → Place) (k : Kind) (name : List ℕ) (n : ℕ) (vs : List ℕ) (s r : List Token) → g3.SpellsValues k vs s r → IsPlainName name → n ≤ 4294967295 →
     ValuesPrintable at k vs → CellsPrintable at true (Array k n) name vs
@@ -147,17 +155,27 @@ pub cells_printable : (at : List Piece → Place) (defined : Bool) (k : Kind) (x
 cells_printable at defined k x _ _ s r (g3.one_cell _ _) h =
     (h.1, h.0, ((λ rest sound. keeps_kind k _ (h.0, sound)), λ rest. (k, _, _, respelt_kind at k _, g3.one_cell (ident_at x.name _) _)))
 cells_printable at defined k x _ _ _ r (g3.one_cell_with_value _ v p s _ is spelt) h =
-    let e = value_printable at k v s r spelt h.1.1 in
-    (e.0, h.0,
-    ((λ rest sound. keeps_kind k _ (h.0, (tt, e.1.0 _ sound))),
-    λ rest. (k, _, _, respelt_kind at k _, g3.one_cell_with_value (ident_at x.name _) v _ _ _ is (e.1.1 rest))))
-cells_printable at defined k x _ _ s r (g3.cells _ n j p o q _) h =
-    (h.1.1.1.1, h.0,
-    ((λ rest sound. keeps_kind k _ (h.0, (tt, (plain_sound n j h.1.1.0, (tt, sound))))),
-    λ rest. (k, _, _, respelt_kind at k _, g3.cells (ident_at x.name _) n _ _ _ _ _)))
+    let e = value_printable at k v s r spelt h.1.1 in (
+      e.0,
+      h.0,
+      (
+        (λ rest sound. keeps_kind k _ (h.0, (tt, e.1.0 _ sound))),
+        λ rest. (k, _, _, respelt_kind at k _, g3.one_cell_with_value (ident_at x.name _) v _ _ _ is (e.1.1 rest)),
+      ),
+    )
+cells_printable at defined k x _ _ s r (g3.cells _ n j p o q _) h = (
+  h.1.1.1.1,
+  h.0,
+  (
+    (λ rest sound. keeps_kind k _ (h.0, (tt, (plain_sound n j h.1.1.0, (tt, sound))))),
+    λ rest. (k, _, _, respelt_kind at k _, g3.cells (ident_at x.name _) n _ _ _ _ _),
+  ),
+)
 cells_printable at defined k x _ vs _ r (g3.cells_with_values _ n j _ p o q e f b s _ is spelt) h =
-    let i = values_printable at k vs s (t.sign sg.CloseBrace b ∷ r) spelt h.1.1.1.1.1.1 in
-    (i.0.1, h.0,
-    subst (λ (d : Bool). CellsPrintable at d (Array k n) x.name vs) (sym is)
-    (some_braced at k x.name n vs _ _ spelt h.0 (literal_small n j h.1.1.0) i.1))
+    let i = values_printable at k vs s (t.sign sg.CloseBrace b ∷ r) spelt h.1.1.1.1.1.1 in (
+      i.0.1,
+      h.0,
+      subst (λ (d : Bool). CellsPrintable at d (Array k n) x.name vs) (sym is)
+          (some_braced at k x.name n vs _ _ spelt h.0 (literal_small n j h.1.1.0) i.1),
+    )
 cells_printable at defined k x _ _ _ r (g3.arrays _ n j p o q q' _ left_out) h = cc

@@ -80,9 +80,11 @@ both : (op : Infix) (l : ℕ) (a b : ExprTree) (p : Place) (s u r : List Token) 
     KeptAt l (joined op a b) s r
 both op l a b p s u r h left right =
     printed-joined (λ (found : ℕ) (inner : List Piece → List Piece). Kept s r (at_level l found inner)) op a b
-    (at_level-open (Kept s r) l (level op) (between op (outermost a) (printed_expr a) (outermost b) (printed_expr b)) h
-    (right.0, (λ rest sound. left.1 _ (tt, right.1 _ sound)),
-    λ rest. let B = at_level (level op + 1) (outermost b) (printed_expr b) rest in omega (arith, left.2 (sign (infix_sign op) ∷ B), right.2 rest)))
+    (at_level-open (Kept s r) l (level op) (between op (outermost a) (printed_expr a) (outermost b) (printed_expr b)) h (
+      right.0,
+      (λ rest sound. left.1 _ (tt, right.1 _ sound)),
+      λ rest. let B = at_level (level op + 1) (outermost b) (printed_expr b) rest in omega (arith, left.2 (sign (infix_sign op) ∷ B), right.2 rest),
+    ))
 
 pub kept_expr : (l : ℕ) (a : ExprTree) (s r : List Token) → l ≤ 12 → g.Spells (within 0) l a s r → Sound s → KeptAt l a s r
 kept_expr l _ _ r low (g.a_literal _ n k p _) h = bare l (literal n k) (t.number n k p ∷ r) r low (h.1, (λ rest sound. (h.0, sound)), λ rest. omega arith)
@@ -105,9 +107,11 @@ kept_expr l _ _ r low (g.an_address_of_element _ x a o p q s _ spelt) h =
 kept_expr l _ _ r low (g.a_cast _ k a p q s u _ words spelt) h =
     let f = kept_kind k s (t.sign sg.CloseParen q ∷ u) words h.1 in
     let e = kept_expr 12 a u r (omega arith) spelt f.0.1 in
-    bare l (cast k a) (t.sign sg.OpenParen p ∷ s) r low
-    (e.0, (λ rest sound. (tt, f.1 _ (tt, e.1 _ sound))),
-    λ rest. let B = at_level 12 (outermost a) (printed_expr a) rest in omega (arith, f.2 (sign sg.CloseParen ∷ B), e.2 rest))
+    bare l (cast k a) (t.sign sg.OpenParen p ∷ s) r low (
+      e.0,
+      (λ rest sound. (tt, f.1 _ (tt, e.1 _ sound))),
+      λ rest. let B = at_level 12 (outermost a) (printed_expr a) rest in omega (arith, f.2 (sign sg.CloseParen ∷ B), e.2 rest),
+    )
 kept_expr l _ s r low (g.two_operands _ op a b p _ u _ above left right) h =
     let most = level-high op in
     let e = kept_expr (level op) a s (t.sign (infix_sign op) p ∷ u) (omega arith) left h in
@@ -117,9 +121,11 @@ kept_expr l _ s r low (g.a_choice _ c a b p q _ u v _ above first second third) 
     let e = kept_expr 2 c s (t.sign sg.Question p ∷ u) (omega arith) first h in
     let f = stripped a u (t.sign sg.Colon q ∷ v) (kept_expr 1 a u (t.sign sg.Colon q ∷ v) (omega arith) second e.0.1) in
     let i = stripped b v r (kept_expr 1 b v r (omega arith) third f.0.1) in
-    bare l (conditional c a b) s r above
-    (i.0, (λ rest sound. e.1 (sign sg.Question ∷ printed_expr a (sign sg.Colon ∷ printed_expr b rest)) (tt, f.1 _ (tt, i.1 _ sound))),
-    λ rest. let B = printed_expr b rest in let A = printed_expr a (sign sg.Colon ∷ B) in
-    omega (arith, e.2 (sign sg.Question ∷ A), f.2 (sign sg.Colon ∷ B), i.2 rest))
+    bare l (conditional c a b) s r above (
+      i.0,
+      (λ rest sound. e.1 (sign sg.Question ∷ printed_expr a (sign sg.Colon ∷ printed_expr b rest)) (tt, f.1 _ (tt, i.1 _ sound))),
+      λ rest. let B = printed_expr b rest in let A = printed_expr a (sign sg.Colon ∷ B) in
+          omega (arith, e.2 (sign sg.Question ∷ A), f.2 (sign sg.Colon ∷ B), i.2 rest),
+    )
 kept_expr l _ _ r low (g.a_call _ x p _ left_out) h = cc
 kept_expr l _ _ r low (g.a_call_of_address _ x o p _ left_out) h = cc

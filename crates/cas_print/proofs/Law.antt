@@ -21,7 +21,8 @@ canonical_is_read bytes m read =
     let pieces = printed_items m.items [] in
     let good = (items_printable (λ ps. nowhere) m.items tokens [] read.2 sound).1.0 [] tt in
     let lexed = lexed_again pieces start good in
-    let again = (items_printable (by_count lexed.0) m.items tokens [] read.2 sound).1.1 [] in
-    (record { items = again.0 },
-    (placed (by_count lexed.0) pieces, (IsUtf8-from_ascii (text pieces) (text_ascii pieces good), lexed.1), again.1),
-    ap (λ (items : List ItemTree). let all : ModuleTree = record { items = items } in all) again.2)
+    let again = (items_printable (by_count lexed.0) m.items tokens [] read.2 sound).1.1 [] in (
+      record { items = again.0 },
+      (placed (by_count lexed.0) pieces, (IsUtf8-from_ascii (text pieces) (text_ascii pieces good), lexed.1), again.1),
+      ap (λ (items : List ItemTree). let all : ModuleTree = record { items = items } in all) again.2,
+    )

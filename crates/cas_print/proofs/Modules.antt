@@ -43,65 +43,74 @@ abbrev ItemPrintable : (List Piece → Place) → ItemTree → Type 0
 ItemPrintable at a = Printable bare_item (g3.SpellsItem (within 0)) at a (printed_item a)
 
 lock_printable : (at : List Piece → Place) (x : Ident) (d : Bool) → IsPlainName x.name → ItemPrintable at (global (declared x.name Lock d) [] x.place)
-lock_printable at x d good =
-    ((λ rest sound. keeps_extern d _ (tt, (good, (tt, sound)))),
-    λ rest. (global (declared x.name Lock d) [] _, g3.a_lock (ident_at x.name _) d _ _ _ _ (extern_again at d _), refl))
+lock_printable at x d good = (
+  (λ rest sound. keeps_extern d _ (tt, (good, (tt, sound)))),
+  λ rest. (global (declared x.name Lock d) [] _, g3.a_lock (ident_at x.name _) d _ _ _ _ (extern_again at d _), refl),
+)
 
 shared_printable : (at : List Piece → Place) (x guard : Ident) (ty : Ty) (vs : List ℕ) (d : Bool) → IsPlainName guard.name → CellsPrintable at d ty x.name vs →
     ItemPrintable at (global (declared x.name (Shared ty guard.name) d) vs x.place)
-shared_printable at x guard ty vs d good cells =
-    ((λ rest sound. keeps_extern d _ (tt, (tt, (good, (tt, cells.0 _ (tt, sound)))))),
-    λ rest.
-        let e = cells.1 (end_of_line sg.Semicolon ∷ rest) in
-        (global (declared x.name (Shared ty guard.name) d) vs e.2,
+shared_printable at x guard ty vs d good cells = (
+  (λ rest sound. keeps_extern d _ (tt, (tt, (good, (tt, cells.0 _ (tt, sound)))))),
+  λ rest.
+      let e = cells.1 (end_of_line sg.Semicolon ∷ rest) in (
+        global (declared x.name (Shared ty guard.name) d) vs e.2,
         g3.a_shared (ident_at x.name e.2) (ident_at guard.name _) e.0 ty vs d _ _ _ _ _ _ e.1 _
-        (extern_again at d (word w.Shared ∷ sign sg.OpenParen ∷ named guard.name ∷ sign sg.CloseParen ∷ printed_cells ty x.name vs (end_of_line sg.Semicolon ∷ rest))) e.3 e.4,
-        refl))
+            (extern_again at d (word w.Shared ∷ sign sg.OpenParen ∷ named guard.name ∷ sign sg.CloseParen ∷ printed_cells ty x.name vs (end_of_line sg.Semicolon ∷ rest))) e.3 e.4,
+        refl,
+      ),
+)
 
 table_printable : (at : List Piece → Place) (x : Ident) (ty : Ty) (vs : List ℕ) (d : Bool) → CellsPrintable at d ty x.name vs →
     ItemPrintable at (global (declared x.name (Table ty) d) vs x.place)
-table_printable at x ty vs d cells =
-    ((λ rest sound. keeps_extern d _ (tt, cells.0 _ (tt, sound))),
-    λ rest.
-        let e = cells.1 (end_of_line sg.Semicolon ∷ rest) in
-        (global (declared x.name (Table ty) d) vs e.2,
+table_printable at x ty vs d cells = (
+  (λ rest sound. keeps_extern d _ (tt, cells.0 _ (tt, sound))),
+  λ rest.
+      let e = cells.1 (end_of_line sg.Semicolon ∷ rest) in (
+        global (declared x.name (Table ty) d) vs e.2,
         g3.a_table (ident_at x.name e.2) e.0 ty vs d _ _ _ _ e.1 _
-        (extern_again at d (word w.Const ∷ printed_cells ty x.name vs (end_of_line sg.Semicolon ∷ rest))) e.3 e.4,
-        refl))
+            (extern_again at d (word w.Const ∷ printed_cells ty x.name vs (end_of_line sg.Semicolon ∷ rest))) e.3 e.4,
+        refl,
+      ),
+)
 
 prototype_printable : (at : List Piece → Place) (x : Ident) (ret : Ty) (tys : List Ty) (xs : List (Option Ident)) (holds : List Ident) → IsPlainName x.name →
     ReturnPrintable at ret → ParametersPrintable at tys xs → HoldsPrintable at holds →
     ItemPrintable at (prototype (declared x.name (Function ret tys (g3.names_alone holds)) false) (g3.places_alone holds) x.place)
 prototype_printable at x ret tys xs holds good returns parameters locks =
-    let names = unnamed_printable at tys xs parameters in
-    ((λ rest sound. returns.0 _ (good, (tt, names.0 _ (tt, locks.0 _ (tt, sound))))),
-    λ rest.
-        let behind = printed_holds (g3.names_alone holds) (end_of_line sg.Semicolon ∷ rest) in
-        let inner = printed_parameters tys [] (sign sg.CloseParen ∷ behind) in
-        let h = locks.1 (end_of_line sg.Semicolon ∷ rest) in
-        (prototype (declared x.name (Function ret tys (g3.names_alone h.0)) false) (g3.places_alone h.0) _,
-        g3.a_prototype (ident_at x.name _) (Function ret tys (g3.names_alone h.0)) (no_names tys) (g3.places_alone h.0) true _ _ _ _ (g3.here _)
-        (g3.head (ident_at x.name _) ret tys (no_names tys) h.0 _ _ _ _ _ _
-        (returns.1 (named x.name ∷ sign sg.OpenParen ∷ inner)) (names.1 (sign sg.CloseParen ∷ behind)) h.1),
-        rw (h.2, nowhere-places holds h.0 h.3) refl))
+    let names = unnamed_printable at tys xs parameters in (
+      (λ rest sound. returns.0 _ (good, (tt, names.0 _ (tt, locks.0 _ (tt, sound))))),
+      λ rest.
+          let behind = printed_holds (g3.names_alone holds) (end_of_line sg.Semicolon ∷ rest) in
+          let inner = printed_parameters tys [] (sign sg.CloseParen ∷ behind) in
+          let h = locks.1 (end_of_line sg.Semicolon ∷ rest) in (
+            prototype (declared x.name (Function ret tys (g3.names_alone h.0)) false) (g3.places_alone h.0) _,
+            g3.a_prototype (ident_at x.name _) (Function ret tys (g3.names_alone h.0)) (no_names tys) (g3.places_alone h.0) true _ _ _ _ (g3.here _)
+                (g3.head (ident_at x.name _) ret tys (no_names tys) h.0 _ _ _ _ _ _
+                (returns.1 (named x.name ∷ sign sg.OpenParen ∷ inner)) (names.1 (sign sg.CloseParen ∷ behind)) h.1),
+            rw (h.2, nowhere-places holds h.0 h.3) refl,
+          ),
+    )
 
 function_printable : (at : List Piece → Place) (x : Ident) (ret : Ty) (tys : List Ty) (xs : List Ident) (holds : List Ident) (body : StmtList) (closing : Place) → IsPlainName x.name →
     ReturnPrintable at ret → ParametersPrintable at tys (map Some xs) → HoldsPrintable at holds → StmtsPrintable at 0 body →
     ItemPrintable at (define (record { decl = declared x.name (Function ret tys (g3.names_alone holds)) true; params = xs; held = g3.places_alone holds; body = body; place = x.place; closing = closing }))
 function_printable at x ret tys xs holds body closing good returns parameters locks statements =
-    let names = named_printable at tys xs parameters in
-    ((λ rest sound. returns.0 _ (good, (tt, names.0 _ (tt, locks.0 _ (tt, statements.0 _ (tt, sound)))))),
-    λ rest.
-        let d = statements.1 (end_of_line sg.CloseBrace ∷ rest) in
-        let opened = end_of_line sg.OpenBrace ∷ printed_stmts body (end_of_line sg.CloseBrace ∷ rest) in
-        let behind = printed_holds (g3.names_alone holds) opened in
-        let inner = printed_parameters tys xs (sign sg.CloseParen ∷ behind) in
-        let e = names.1 (sign sg.CloseParen ∷ behind) in
-        let h = locks.1 opened in
-        (define (record { decl = declared x.name (Function ret tys (g3.names_alone h.0)) true; params = e.0; held = g3.places_alone h.0; body = d.0; place = _; closing = _ }),
-        g3.a_function (ident_at x.name _) (Function ret tys (g3.names_alone h.0)) e.0 (g3.places_alone h.0) d.0 _ _ _ _ _
-        (g3.head (ident_at x.name _) ret tys (map Some e.0) h.0 _ _ _ _ _ _ (returns.1 (named x.name ∷ sign sg.OpenParen ∷ inner)) e.1 h.1) d.1,
-        rw (e.2, d.2, h.2, nowhere-places holds h.0 h.3) refl))
+    let names = named_printable at tys xs parameters in (
+      (λ rest sound. returns.0 _ (good, (tt, names.0 _ (tt, locks.0 _ (tt, statements.0 _ (tt, sound)))))),
+      λ rest.
+          let d = statements.1 (end_of_line sg.CloseBrace ∷ rest) in
+          let opened = end_of_line sg.OpenBrace ∷ printed_stmts body (end_of_line sg.CloseBrace ∷ rest) in
+          let behind = printed_holds (g3.names_alone holds) opened in
+          let inner = printed_parameters tys xs (sign sg.CloseParen ∷ behind) in
+          let e = names.1 (sign sg.CloseParen ∷ behind) in
+          let h = locks.1 opened in (
+            define (record { decl = declared x.name (Function ret tys (g3.names_alone h.0)) true; params = e.0; held = g3.places_alone h.0; body = d.0; place = _; closing = _ }),
+            g3.a_function (ident_at x.name _) (Function ret tys (g3.names_alone h.0)) e.0 (g3.places_alone h.0) d.0 _ _ _ _ _
+                (g3.head (ident_at x.name _) ret tys (map Some e.0) h.0 _ _ _ _ _ _ (returns.1 (named x.name ∷ sign sg.OpenParen ∷ inner)) e.1 h.1) d.1,
+            rw (e.2, d.2, h.2, nowhere-places holds h.0 h.3) refl,
+          ),
+    )
 
 item_printable : (at : List Piece → Place) (a : ItemTree) (s r : List Token) → g3.SpellsItem (within 0) a s r → Sound s → Sound r × ItemPrintable at a
 item_printable at _ s r (g3.a_lock x d p q _ _ outside) h =
@@ -136,10 +145,13 @@ pub items_printable : (at : List Piece → Place) (items : List ItemTree) (s r :
 items_printable at _ s r (g3.no_item _) h = (h, ((λ rest sound. sound), λ rest. ([], g3.no_item _, refl)))
 items_printable at _ s r (g3.an_item a bs _ u _ first others) h =
     let e = item_printable at a s u first h in
-    let f = items_printable at bs u r others e.0 in
-    (f.0,
-    ((λ rest sound. e.1.0 _ (f.1.0 rest sound)),
-    λ rest.
-        let i = f.1.1 rest in
-        let d = e.1.1 (printed_items bs rest) in
-        (d.0 ∷ i.0, g3.an_item d.0 i.0 _ _ _ d.1 i.1, rw (d.2, i.2) refl)))
+    let f = items_printable at bs u r others e.0 in (
+      f.0,
+      (
+        (λ rest sound. e.1.0 _ (f.1.0 rest sound)),
+        λ rest.
+            let i = f.1.1 rest in
+            let d = e.1.1 (printed_items bs rest) in
+            (d.0 ∷ i.0, g3.an_item d.0 i.0 _ _ _ d.1 i.1, rw (d.2, i.2) refl),
+      ),
+    )

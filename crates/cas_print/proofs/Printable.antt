@@ -63,12 +63,13 @@ abbrev pub ExprsPrintable : (List Piece → Place) → List ExprTree → Type 0
 ExprsPrintable at bs = Printable (map bare_expr) (g.SpellsExprs (within 0)) at bs (listed printed_expr bs)
 
 more_exprs : (at : List Piece → Place) (a b : ExprTree) (cs : List ExprTree) → ExprPrintable at a → ExprsPrintable at (b ∷ cs) → ExprsPrintable at (a ∷ b ∷ cs)
-more_exprs at a b cs first more =
-    ((λ rest sound. first.0 _ (tt, more.0 rest sound)),
-    λ rest.
-        let f = more.1 rest in
-        let e = first.1 (sign sg.Comma ∷ listed printed_expr (b ∷ cs) rest) in
-        (e.0 ∷ f.0, g.one_of e.0 f.0 _ _ _ _ e.1 f.1, rw (e.2, f.2) refl))
+more_exprs at a b cs first more = (
+  (λ rest sound. first.0 _ (tt, more.0 rest sound)),
+  λ rest.
+      let f = more.1 rest in
+      let e = first.1 (sign sg.Comma ∷ listed printed_expr (b ∷ cs) rest) in
+      (e.0 ∷ f.0, g.one_of e.0 f.0 _ _ _ _ e.1 f.1, rw (e.2, f.2) refl),
+)
 
 join_exprs : (at : List Piece → Place) (a : ExprTree) (bs : List ExprTree) (u r : List Token) → g.SpellsExprs (within 0) bs u r → ExprPrintable at a → ExprsPrintable at bs → ExprsPrintable at (a ∷ bs)
 join_exprs at a _ u r (g.last_of b _ _ spelt) first more = more_exprs at a b [] first more
@@ -100,9 +101,10 @@ TargetPrintable at target = Printable bare_target (g2.SpellsTarget (within 0)) a
 in_parentheses_printable : (at : List Piece → Place) (a : ExprTree) → is_name_alone a ≡ false → ExprPrintable at a → TargetPrintable at (to_deref a)
 in_parentheses_printable at a other e =
     subst (λ (b : Bool). Printable bare_target (g2.SpellsTarget (within 0)) at (to_deref a) (λ rest. sign sg.Star ∷ enclosed (not b) (printed_expr a) rest))
-    (sym other)
-    ((λ rest sound. (tt, (tt, e.0 _ (tt, sound)))),
-    λ rest. let f = e.1 (sign sg.CloseParen ∷ rest) in (to_deref f.0, g2.behind_parentheses f.0 _ _ _ _ _ f.1, ap to_deref f.2))
+    (sym other) (
+      (λ rest sound. (tt, (tt, e.0 _ (tt, sound)))),
+      λ rest. let f = e.1 (sign sg.CloseParen ∷ rest) in (to_deref f.0, g2.behind_parentheses f.0 _ _ _ _ _ f.1, ap to_deref f.2),
+    )
 
 -- what a name points to
 name_printable : (at : List Piece → Place) (x : Ident) → IsSound (t.ident x).kind → TargetPrintable at (to_deref (name x))
@@ -117,12 +119,15 @@ pub target_printable : (at : List Piece → Place) (target : TargetTree) (s r : 
 target_printable at _ s r (g2.a_variable x _) h =
     (h.1, ((λ rest sound. (h.0, sound)), λ rest. (to_name (ident_at x.name (at rest)), g2.a_variable _ _, refl)))
 target_printable at _ _ r (g2.an_element x a p q s _ spelt) h =
-    let e = expr_printable at a s (t.sign sg.CloseBracket q ∷ r) spelt h.1.1 in
-    (e.0.1,
-    ((λ rest sound. (h.0, (tt, e.1.0 _ (tt, sound)))),
-    λ rest.
-        let f = e.1.1 (sign sg.CloseBracket ∷ rest) in
-        (to_index (ident_at x.name _) f.0, g2.an_element _ f.0 _ _ _ _ f.1, ap (to_index (bare_ident x)) f.2)))
+    let e = expr_printable at a s (t.sign sg.CloseBracket q ∷ r) spelt h.1.1 in (
+      e.0.1,
+      (
+        (λ rest sound. (h.0, (tt, e.1.0 _ (tt, sound)))),
+        λ rest.
+            let f = e.1.1 (sign sg.CloseBracket ∷ rest) in
+            (to_index (ident_at x.name _) f.0, g2.an_element _ f.0 _ _ _ _ f.1, ap (to_index (bare_ident x)) f.2),
+      ),
+    )
 target_printable at _ s r (g2.behind_name x p _) h = (h.1.1, name_printable at x h.1.0)
 target_printable at _ _ r (g2.behind_parentheses a o p q s _ spelt) h =
     let e = expr_printable at a s (t.sign sg.CloseParen q ∷ r) spelt h.1.1 in
@@ -139,12 +144,15 @@ init_printable at _ _ r (g2.a_value a p s _ allowed spelt) h =
     let e = expr_printable at a s r spelt h.1 in
     (e.0, ((λ rest sound. (tt, e.1.0 _ sound)), λ rest free. let f = e.1.1 rest in (value f.0, g2.a_value f.0 _ _ _ (no_call at a rest free) f.1, ap value f.2)))
 init_printable at _ _ r (g2.a_result x bs p q q' s _ spelt) h =
-    let e = arguments_printable at bs s (t.sign sg.CloseParen q' ∷ r) spelt h.1.1.1 in
-    (e.0.1,
-    ((λ rest sound. (tt, (h.1.0, (tt, e.1.0 _ (tt, sound))))),
-    λ rest free.
-        let f = e.1.1 (sign sg.CloseParen ∷ rest) in
-        (called (ident_at x.name _) f.0, g2.a_result _ f.0 _ _ _ _ _ f.1, ap (called (bare_ident x)) f.2)))
+    let e = arguments_printable at bs s (t.sign sg.CloseParen q' ∷ r) spelt h.1.1.1 in (
+      e.0.1,
+      (
+        (λ rest sound. (tt, (h.1.0, (tt, e.1.0 _ (tt, sound))))),
+        λ rest free.
+            let f = e.1.1 (sign sg.CloseParen ∷ rest) in
+            (called (ident_at x.name _) f.0, g2.a_result _ f.0 _ _ _ _ _ f.1, ap (called (bare_ident x)) f.2),
+      ),
+    )
 
 -- an expression, or nothing
 

@@ -48,8 +48,8 @@ one_more q ps p places sound more =
     let here = behind p (take (length (spelling q)) (text (q ∷ ps))) in
     let is = piece_front q (text ps) sound in
     let some : text (q ∷ ps) ≢ [] = λ e.
-        let none : front [] ≡ f.Token (kind_of q) (length (spelling q)) = subst (λ (bytes : List ℕ). front bytes ≡ f.Token (kind_of q) (length (spelling q))) e is in
-        cc in
+    let none : front [] ≡ f.Token (kind_of q) (length (spelling q)) = subst (λ (bytes : List ℕ). front bytes ≡ f.Token (kind_of q) (length (spelling q))) e is in
+    cc in
     let rest : Lexed here blank tokens at_end = skips here blank 1 tokens at_end (λ e. cc) (separator_front q (text ps)) more in
     let behind_it = subst (λ (bytes : List ℕ). Lexed here bytes tokens at_end) (sym (drop-append_seam (spelling q) blank)) rest in
     let all = takes p (text (q ∷ ps)) (kind_of q) (length (spelling q)) tokens at_end some is behind_it in

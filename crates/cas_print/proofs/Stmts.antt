@@ -70,23 +70,29 @@ kind_begins _ s r (g.unsigned p u _ behind) = (_, _, refl)
 -- statements of one part
 
 simple_stmt : (at : List Piece → Place) (n : ℕ) (a : StmtTree) → n < 200 → SimplePrintable at a → StmtPrintable at n a
-simple_stmt at n a deep part =
-    ((λ rest sound. subst SoundPieces (sym (part.0 rest)) (part.1.0 _ (tt, sound))),
-    λ rest.
-        let d = part.1.1 (end_of_line sg.Semicolon ∷ rest) refl in
-        (d.0, subst (λ (ps : List Piece). g2.SpellsStmt (within 0) n d.0 (placed at ps) (placed at rest)) (sym (part.0 rest))
-        (g2.simple n d.0 _ _ _ (inl deep) d.1), d.2))
+simple_stmt at n a deep part = (
+  (λ rest sound. subst SoundPieces (sym (part.0 rest)) (part.1.0 _ (tt, sound))),
+  λ rest.
+      let d = part.1.1 (end_of_line sg.Semicolon ∷ rest) refl in (
+        d.0,
+        subst (λ (ps : List Piece). g2.SpellsStmt (within 0) n d.0 (placed at ps) (placed at rest)) (sym (part.0 rest))
+            (g2.simple n d.0 _ _ _ (inl deep) d.1),
+        d.2,
+      ),
+)
 
 local_before : (at : List Piece → Place) (n : ℕ) (a : StmtTree) (bs : StmtList) → n < 200 → LocalPrintable at a → StmtsPrintable at n bs → StmtsPrintable at n (one_more a bs)
-local_before at n a bs deep local behind =
-    ((λ rest sound. subst SoundPieces (sym (local.0 (printed_stmts bs rest))) (local.1 _ (tt, behind.0 rest sound))),
-    λ rest.
-        let f = behind.1 rest in
-        let d = local.2 (end_of_line sg.Semicolon ∷ printed_stmts bs rest) refl in
-        (one_more d.1 f.0,
+local_before at n a bs deep local behind = (
+  (λ rest sound. subst SoundPieces (sym (local.0 (printed_stmts bs rest))) (local.1 _ (tt, behind.0 rest sound))),
+  λ rest.
+      let f = behind.1 rest in
+      let d = local.2 (end_of_line sg.Semicolon ∷ printed_stmts bs rest) refl in (
+        one_more d.1 f.0,
         subst (λ (ps : List Piece). g2.SpellsStmts (within 0) n (one_more d.1 f.0) (placed at ps) (placed at rest)) (sym (local.0 (printed_stmts bs rest)))
-        (g2.locals n d.0 (one_more d.1 f.0) f.0 _ _ d.2 _ _ (inl deep) d.3 (g2.last_local d.1 f.0 _ _ d.4) f.1),
-        rw (d.5, f.2) refl))
+            (g2.locals n d.0 (one_more d.1 f.0) f.0 _ _ d.2 _ _ (inl deep) d.3 (g2.last_local d.1 f.0 _ _ d.4) f.1),
+        rw (d.5, f.2) refl,
+      ),
+)
 
 locals_printable : (at : List Piece → Place) (n : ℕ) (kind : Kind) (bs behind : StmtList) (s r : List Token) → n < 200 → g2.SpellsLocals (within 0) kind bs behind s r → Sound s →
     Sound r × (StmtsPrintable at n behind → StmtsPrintable at n bs)
@@ -128,70 +134,78 @@ after_printable at n _ s r (g2.simple_after a _ _ allowed spelt) h =
 -- statements of several parts
 
 block_printable : (at : List Piece → Place) (n : ℕ) (p : Place) (bs : StmtList) → n < 200 → StmtsPrintable at (n + 1) bs → StmtPrintable at n (block p bs)
-block_printable at n p bs deep inner =
-    ((λ rest sound. (tt, inner.0 _ (tt, sound))),
-    λ rest. let d = inner.1 (end_of_line sg.CloseBrace ∷ rest) in (block _ d.0, g2.blocks n d.0 _ _ _ _ (inl deep) d.1, ap (block nowhere) d.2))
+block_printable at n p bs deep inner = (
+  (λ rest sound. (tt, inner.0 _ (tt, sound))),
+  λ rest. let d = inner.1 (end_of_line sg.CloseBrace ∷ rest) in (block _ d.0, g2.blocks n d.0 _ _ _ _ (inl deep) d.1, ap (block nowhere) d.2),
+)
 
 if_printable : (at : List Piece → Place) (n : ℕ) (p : Place) (c : ExprTree) (a : StmtTree) → n < 200 → ExprPrintable at c → StmtPrintable at (n + 1) a →
     StmtPrintable at n (if_ p c a absent)
-if_printable at n p c a deep condition first =
-    ((λ rest sound. (tt, (tt, condition.0 _ (tt, first.0 _ sound)))),
-    λ rest.
-        let e = first.1 rest in
-        let d = condition.1 (sign sg.CloseParen ∷ printed_stmt a rest) in
-        (if_ _ d.0 e.0 absent, g2.ifs n d.0 e.0 _ _ _ _ _ _ (inl deep) d.1 e.1, rw (d.2, e.2) refl))
+if_printable at n p c a deep condition first = (
+  (λ rest sound. (tt, (tt, condition.0 _ (tt, first.0 _ sound)))),
+  λ rest.
+      let e = first.1 rest in
+      let d = condition.1 (sign sg.CloseParen ∷ printed_stmt a rest) in
+      (if_ _ d.0 e.0 absent, g2.ifs n d.0 e.0 _ _ _ _ _ _ (inl deep) d.1 e.1, rw (d.2, e.2) refl),
+)
 
 if_else_printable : (at : List Piece → Place) (n : ℕ) (p : Place) (c : ExprTree) (a b : StmtTree) → n < 200 → dangles a ≡ false → ExprPrintable at c → StmtPrintable at (n + 1) a →
     StmtPrintable at (n + 1) b → StmtPrintable at n (if_ p c a (present b))
-if_else_printable at n p c a b deep closed condition first second =
-    ((λ rest sound. (tt, (tt, condition.0 _ (tt, first.0 _ (tt, second.0 _ sound))))),
-    λ rest.
-        let f = second.1 rest in
-        let e = first.1 (word w.Else ∷ printed_stmt b rest) in
-        let d = condition.1 (sign sg.CloseParen ∷ printed_stmt a (word w.Else ∷ printed_stmt b rest)) in
-        let still : dangles e.0 ≡ false = sym (dangles-bare e.0) ∙ ap dangles e.2 ∙ dangles-bare a ∙ closed in
-        (if_ _ d.0 e.0 (present f.0), g2.if_elses n d.0 e.0 f.0 _ _ _ _ _ _ _ _ (inl deep) d.1 e.1 still f.1, rw (d.2, e.2, f.2) refl))
+if_else_printable at n p c a b deep closed condition first second = (
+  (λ rest sound. (tt, (tt, condition.0 _ (tt, first.0 _ (tt, second.0 _ sound))))),
+  λ rest.
+      let f = second.1 rest in
+      let e = first.1 (word w.Else ∷ printed_stmt b rest) in
+      let d = condition.1 (sign sg.CloseParen ∷ printed_stmt a (word w.Else ∷ printed_stmt b rest)) in
+      let still : dangles e.0 ≡ false = sym (dangles-bare e.0) ∙ ap dangles e.2 ∙ dangles-bare a ∙ closed in
+      (if_ _ d.0 e.0 (present f.0), g2.if_elses n d.0 e.0 f.0 _ _ _ _ _ _ _ _ (inl deep) d.1 e.1 still f.1, rw (d.2, e.2, f.2) refl),
+)
 
 while_printable : (at : List Piece → Place) (n : ℕ) (p : Place) (c : ExprTree) (a : StmtTree) → n < 200 → ExprPrintable at c → StmtPrintable at (n + 1) a → StmtPrintable at n (while_ p c a)
-while_printable at n p c a deep condition body =
-    ((λ rest sound. (tt, (tt, condition.0 _ (tt, body.0 _ sound)))),
-    λ rest.
-        let e = body.1 rest in
-        let d = condition.1 (sign sg.CloseParen ∷ printed_stmt a rest) in
-        (while_ _ d.0 e.0, g2.whiles n d.0 e.0 _ _ _ _ _ _ (inl deep) d.1 e.1, rw (d.2, e.2) refl))
+while_printable at n p c a deep condition body = (
+  (λ rest sound. (tt, (tt, condition.0 _ (tt, body.0 _ sound)))),
+  λ rest.
+      let e = body.1 rest in
+      let d = condition.1 (sign sg.CloseParen ∷ printed_stmt a rest) in
+      (while_ _ d.0 e.0, g2.whiles n d.0 e.0 _ _ _ _ _ _ (inl deep) d.1 e.1, rw (d.2, e.2) refl),
+)
 
 do_printable : (at : List Piece → Place) (n : ℕ) (p : Place) (a : StmtTree) (c : ExprTree) → n < 200 → StmtPrintable at (n + 1) a → ExprPrintable at c → StmtPrintable at n (do_ p a c)
-do_printable at n p a c deep body condition =
-    ((λ rest sound. (tt, body.0 _ (tt, (tt, condition.0 _ (tt, (tt, sound)))))),
-    λ rest.
-        let d = condition.1 (sign sg.CloseParen ∷ end_of_line sg.Semicolon ∷ rest) in
-        let e = body.1 (word w.While ∷ in_parentheses c (end_of_line sg.Semicolon ∷ rest)) in
-        (do_ _ e.0 d.0, g2.dos n e.0 d.0 _ _ _ _ _ _ _ _ (inl deep) e.1 d.1, rw (d.2, e.2) refl))
+do_printable at n p a c deep body condition = (
+  (λ rest sound. (tt, body.0 _ (tt, (tt, condition.0 _ (tt, (tt, sound)))))),
+  λ rest.
+      let d = condition.1 (sign sg.CloseParen ∷ end_of_line sg.Semicolon ∷ rest) in
+      let e = body.1 (word w.While ∷ in_parentheses c (end_of_line sg.Semicolon ∷ rest)) in
+      (do_ _ e.0 d.0, g2.dos n e.0 d.0 _ _ _ _ _ _ _ _ (inl deep) e.1 d.1, rw (d.2, e.2) refl),
+)
 
 for_printable : (at : List Piece → Place) (n : ℕ) (p : Place) (i : StmtOption) (c : Option ExprTree) (u : StmtOption) (a : StmtTree) → n < 200 → FirstPrintable at (n + 1) i →
     OptionalPrintable at c → AfterPrintable at (n + 1) u → StmtPrintable at (n + 1) a → StmtPrintable at n (for_ p i c u a)
-for_printable at n p i c u a deep first condition after body =
-    ((λ rest sound. (tt, (tt, first.0 _ (tt, condition.0 _ (tt, after.0 _ (tt, body.0 _ sound)))))),
-    λ rest.
-        let behind = sign sg.CloseParen ∷ printed_stmt a rest in
-        let middle = sign sg.Semicolon ∷ printed_part_option u behind in
-        let d = body.1 rest in
-        let e = after.1 behind refl in
-        let f = condition.1 middle in
-        let h = first.1 (sign sg.Semicolon ∷ printed_optional c middle) refl in
-        (for_ _ h.0 f.0 e.0 d.0, g2.fors n h.0 f.0 e.0 d.0 _ _ _ _ _ _ _ _ _ _ (inl deep) h.1 f.1 e.1 d.1, rw (d.2, e.2, f.2, h.2) refl))
+for_printable at n p i c u a deep first condition after body = (
+  (λ rest sound. (tt, (tt, first.0 _ (tt, condition.0 _ (tt, after.0 _ (tt, body.0 _ sound)))))),
+  λ rest.
+      let behind = sign sg.CloseParen ∷ printed_stmt a rest in
+      let middle = sign sg.Semicolon ∷ printed_part_option u behind in
+      let d = body.1 rest in
+      let e = after.1 behind refl in
+      let f = condition.1 middle in
+      let h = first.1 (sign sg.Semicolon ∷ printed_optional c middle) refl in
+      (for_ _ h.0 f.0 e.0 d.0, g2.fors n h.0 f.0 e.0 d.0 _ _ _ _ _ _ _ _ _ _ (inl deep) h.1 f.1 e.1 d.1, rw (d.2, e.2, f.2, h.2) refl),
+)
 
 return_printable : (at : List Piece → Place) (n : ℕ) (p : Place) (a : Option ExprTree) → n < 200 → OptionalPrintable at a → StmtPrintable at n (return_ p a)
-return_printable at n p a deep value =
-    ((λ rest sound. (tt, value.0 _ (tt, sound))),
-    λ rest. let d = value.1 (end_of_line sg.Semicolon ∷ rest) in (return_ _ d.0, g2.returns n d.0 _ _ _ _ (inl deep) d.1, ap (return_ nowhere) d.2))
+return_printable at n p a deep value = (
+  (λ rest sound. (tt, value.0 _ (tt, sound))),
+  λ rest. let d = value.1 (end_of_line sg.Semicolon ∷ rest) in (return_ _ d.0, g2.returns n d.0 _ _ _ _ (inl deep) d.1, ap (return_ nowhere) d.2),
+)
 
 print_printable : (at : List Piece → Place) (n : ℕ) (p : Place) (a : ExprTree) → n < 200 → ExprPrintable at a → StmtPrintable at n (print p a)
-print_printable at n p a deep value =
-    ((λ rest sound. (tt, (tt, value.0 _ (tt, (tt, sound))))),
-    λ rest.
-        let d = value.1 (sign sg.CloseParen ∷ end_of_line sg.Semicolon ∷ rest) in
-        (print _ d.0, g2.prints n d.0 _ _ _ _ _ _ (inl deep) d.1, ap (print nowhere) d.2))
+print_printable at n p a deep value = (
+  (λ rest sound. (tt, (tt, value.0 _ (tt, (tt, sound))))),
+  λ rest.
+      let d = value.1 (sign sg.CloseParen ∷ end_of_line sg.Semicolon ∷ rest) in
+      (print _ d.0, g2.prints n d.0 _ _ _ _ _ _ (inl deep) d.1, ap (print nowhere) d.2),
+)
 
 mutual
   pub stmt_printable : (at : List Piece → Place) (n : ℕ) (a : StmtTree) (s r : List Token) → g2.SpellsStmt (within 0) n a s r → Sound s → Sound r × StmtPrintable at n a
@@ -233,14 +247,20 @@ mutual
   stmt_printable at n _ _ r (g2.returns _ a p q s _ allowed value) h =
       let e = optional_printable at a s (t.sign sg.Semicolon q ∷ r) value h.1 in
       (e.0.1, return_printable at n p a (depth_at n (t.word w.Return p) s allowed) e.1)
-  stmt_printable at n _ _ r (g2.locks _ x p q q' o _ allowed) h =
-      (h.1.1.1.1.1,
-      ((λ rest sound. (tt, (tt, (h.1.1.0, (tt, (tt, sound)))))),
-      λ rest. (lock _ (ident_at x.name _), g2.locks n (ident_at x.name _) _ _ _ _ _ (inl (depth_at n (t.word w.Lock p) (t.sign sg.OpenParen q ∷ t.ident x ∷ t.sign sg.CloseParen q' ∷ t.sign sg.Semicolon o ∷ r) allowed)), refl)))
-  stmt_printable at n _ _ r (g2.unlocks _ x p q q' o _ allowed) h =
-      (h.1.1.1.1.1,
-      ((λ rest sound. (tt, (tt, (h.1.1.0, (tt, (tt, sound)))))),
-      λ rest. (unlock _ (ident_at x.name _), g2.unlocks n (ident_at x.name _) _ _ _ _ _ (inl (depth_at n (t.word w.Unlock p) (t.sign sg.OpenParen q ∷ t.ident x ∷ t.sign sg.CloseParen q' ∷ t.sign sg.Semicolon o ∷ r) allowed)), refl)))
+  stmt_printable at n _ _ r (g2.locks _ x p q q' o _ allowed) h = (
+    h.1.1.1.1.1,
+    (
+      (λ rest sound. (tt, (tt, (h.1.1.0, (tt, (tt, sound)))))),
+      λ rest. (lock _ (ident_at x.name _), g2.locks n (ident_at x.name _) _ _ _ _ _ (inl (depth_at n (t.word w.Lock p) (t.sign sg.OpenParen q ∷ t.ident x ∷ t.sign sg.CloseParen q' ∷ t.sign sg.Semicolon o ∷ r) allowed)), refl),
+    ),
+  )
+  stmt_printable at n _ _ r (g2.unlocks _ x p q q' o _ allowed) h = (
+    h.1.1.1.1.1,
+    (
+      (λ rest sound. (tt, (tt, (h.1.1.0, (tt, (tt, sound)))))),
+      λ rest. (unlock _ (ident_at x.name _), g2.unlocks n (ident_at x.name _) _ _ _ _ _ (inl (depth_at n (t.word w.Unlock p) (t.sign sg.OpenParen q ∷ t.ident x ∷ t.sign sg.CloseParen q' ∷ t.sign sg.Semicolon o ∷ r) allowed)), refl),
+    ),
+  )
   stmt_printable at n _ _ r (g2.prints _ a p q q' o s _ allowed value) h =
       let e = expr_printable at a s (t.sign sg.CloseParen q' ∷ t.sign sg.Semicolon o ∷ r) value h.1.1 in
       (e.0.1.1, print_printable at n p a (depth_at n (t.word w.Print p) (t.sign sg.OpenParen q ∷ s) allowed) e.1)
@@ -249,13 +269,16 @@ mutual
   stmts_printable at n _ s r (g2.ended _ _) h = (h, ((λ rest sound. sound), λ rest. (no_more, g2.ended n _, refl)))
   stmts_printable at n _ s r (g2.a_stmt _ a bs _ u _ first others) h =
       let e = stmt_printable at n a s u first h in
-      let f = stmts_printable at n bs u r others e.0 in
-      (f.0,
-      ((λ rest sound. e.1.0 _ (f.1.0 rest sound)),
-      λ rest.
-          let i = f.1.1 rest in
-          let d = e.1.1 (printed_stmts bs rest) in
-          (one_more d.0 i.0, g2.a_stmt n d.0 i.0 _ _ _ d.1 i.1, rw (d.2, i.2) refl)))
+      let f = stmts_printable at n bs u r others e.0 in (
+        f.0,
+        (
+          (λ rest sound. e.1.0 _ (f.1.0 rest sound)),
+          λ rest.
+              let i = f.1.1 rest in
+              let d = e.1.1 (printed_stmts bs rest) in
+              (one_more d.0 i.0, g2.a_stmt n d.0 i.0 _ _ _ d.1 i.1, rw (d.2, i.2) refl),
+        ),
+      )
   stmts_printable at n bs s r (g2.locals _ kind _ behind p _ u v _ allowed words spelt others) h =
       let deep = depth_of n s (kind_begins kind s u words) allowed in
       let d = kept_kind kind s u words h in

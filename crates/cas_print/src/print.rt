@@ -13,7 +13,6 @@ use cas_syntax::Module;
 use std::alloc::Global;
 
 /// The canonical text of a module. Time is linear in that text.
-#[tactic(auto, using(crate::proofs::Law::canonical_is_read))]
 pub fn print_module(alloc: Global, module: &Module) -> Result<Text, NoMemory>
     ensures canonical { IfOk result (λ printed. printed ≡ canonical (module_tree «module».now)) }
 
