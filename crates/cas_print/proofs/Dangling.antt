@@ -2,7 +2,7 @@
 use Rattle.std.proofs.Common.{◌≡◌, refl}
 use Rattle.cas_syntax.specs.Alike.{bare_stmt, bare_stmt_option}
 use Rattle.cas_syntax.specs.Statements.{dangles, dangles_option}
-use Rattle.cas_syntax.specs.Tree.{StmtTree, skip, declare, assign, call, block, if_, while_, do_, for_, break_, continue_, return_, lock, unlock, print, StmtOption, absent, present}
+use Rattle.cas_syntax.specs.Tree.{StmtTree, if_, while_, for_, StmtOption, absent, present}
 
 mutual
   pub dangles-bare : (a : StmtTree) → dangles (bare_stmt a) ≡ dangles a

@@ -1,5 +1,5 @@
 -- Each token that the lexer takes is such as a text may have.
-use Rattle.std.proofs.Common.{◌≡◌, ℕ, ◌+◌, ◌≤◌, ◌||◌, List, [], ◌∷◌, length, drop, take_while, Bool, true, false, not, nat_lt, if◌then◌else◌, Option, Some, None, refl, sym, subst, arith, codes, nat_eq}
+use Rattle.std.proofs.Common.{◌≡◌, ℕ, ◌+◌, ◌≤◌, List, [], ◌∷◌, length, drop, take_while, Bool, true, false, not, nat_lt, if◌then◌else◌, Option, Some, None, refl, subst, arith, codes, nat_eq}
 use Rattle.std.specs.Char.{is_ascii_digit, is_ascii_hexdigit}
 use Rattle.std.specs.Str.Parse.{digits_value}
 use Rattle.std.specs.List.{list_all, starts_with}
@@ -7,20 +7,16 @@ use Rattle.std.proofs.lemmas.Bool.Decides.{nat_tests}
 use Rattle.cas_base.specs.Name.{is_first_byte, is_name_byte}
 use Rattle.cas_base.specs.declared.kind.Kind.TheVariants.{I32, U32}
 use Rattle.cas_base.specs.declared.place.Place.{Place}
-use Rattle.cas_lex.specs.declared.code.ReadCode.TheVariants.{R3, R4, R7}
 use Rattle.cas_lex.specs.declared.front.Front.{Front}
 use Rattle.cas_lex.specs.declared.front.Front.TheVariants as f
 use Rattle.cas_lex.specs.declared.token.Token.{Token}
-use Rattle.cas_lex.specs.declared.token.TokenKind.{TokenKind}
-use Rattle.cas_lex.specs.declared.token.TokenKind.TheVariants as k
 use Rattle.cas_lex.specs.declared.token.Word.{Word}
 use Rattle.cas_lex.specs.declared.token.Sign.{Sign}
 use Rattle.cas_lex.specs.Characters.{is_blank, is_character}
-use Rattle.cas_lex.specs.Comments.{block_comment_len, line_comment_len}
 use Rattle.cas_lex.specs.Front.{block_comment, word_or_name, name_at, sign_front, mark_at, front_at, front}
 use Rattle.cas_lex.specs.Lexed.{Stop, Lexed, ends, skips, takes, fails}
 use Rattle.cas_lex.specs.Literals.{literal_kind, begins_with_u, begins_with_letter, ended_literal, literal_before, is_hexadecimal, is_octal, literal_at}
-use Rattle.cas_lex.specs.Spellings.{word_of, is_left_out, sign_at}
+use Rattle.cas_lex.specs.Spellings.{word_of, is_left_out}
 use Rattle.cas_lex.proofs.Names.{list_all-take_while, begins-take_while, is_name-from}
 use Rattle.cas_print.proofs.Sound.{IsSound, IsLiteral, Sound}
 

@@ -1,8 +1,6 @@
 -- Types, parameters and held locks whose canonical tokens may stand in a text and spell them, but for places.
 use Rattle.std.proofs.Common.{◌≡◌, ℕ, List, [], ◌∷◌, map, length, Option, Some, None, refl, ap, arith}
-use Rattle.cas_base.specs.declared.kind.Kind.{Kind}
 use Rattle.cas_base.specs.declared.kind.Ty.{Ty}
-use Rattle.cas_base.specs.declared.kind.Ty.TheVariants.{Void, Int, Ptr, Array}
 use Rattle.cas_base.specs.declared.place.Place.{Place}
 use Rattle.cas_lex.specs.declared.token.Sign.TheVariants as sg
 use Rattle.cas_lex.specs.declared.token.Token.{Token}
@@ -10,7 +8,6 @@ use Rattle.cas_syntax.specs.declared.tree.Ident.{Ident}
 use Rattle.cas_syntax.specs.Alike.{nowhere, bare_ident}
 use Rattle.cas_syntax.specs.Reading.{within}
 use Rattle.cas_syntax.specs.Tokens as t
-use Rattle.cas_syntax.specs.Expressions as g
 use Rattle.cas_syntax.specs.Items as g3
 use Rattle.cas_print.specs.Pieces.{Piece, sign, named}
 use Rattle.cas_print.specs.Statements.{before_name}
@@ -20,7 +17,7 @@ use Rattle.cas_print.proofs.Kept.{Keeps, kept_kind}
 use Rattle.cas_print.proofs.Parts.{keeps_kind}
 use Rattle.cas_print.proofs.Placed.{placed}
 use Rattle.cas_print.proofs.Respelt.{ident_at, respelt_kind}
-use Rattle.cas_print.proofs.Sound.{Sound, SoundPieces, IsPlainName}
+use Rattle.cas_print.proofs.Sound.{Sound, IsPlainName}
 
 -- types
 

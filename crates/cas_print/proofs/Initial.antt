@@ -1,5 +1,5 @@
 -- Initial values and cells whose canonical tokens may stand in a text and spell them.
-use Rattle.std.proofs.Common.{◌≡◌, ℕ, ◌+◌, ◌-◌, ◌%◌, ◌^◌, ◌<◌, ◌≤◌, ℤ, pos, negsuc, List, [], ◌∷◌, Bool, true, Option, refl, sym, ap, subst, ◌∙◌, arith}
+use Rattle.std.proofs.Common.{◌≡◌, ℕ, ◌+◌, ◌^◌, ◌<◌, ◌≤◌, ℤ, pos, negsuc, List, [], ◌∷◌, Bool, true, refl, sym, ap, subst, ◌∙◌, arith}
 use Rattle.std.proofs.lemmas.Int.{ints}
 use Rattle.std.proofs.lemmas.Bool.Decides.{nat_tests}
 use Rattle.cas_base.proofs.KindLaws.{narrowed-lt, narrowed-narrowed}
@@ -8,7 +8,7 @@ use Rattle.cas_base.specs.Word.{word_sub, narrowed, signed}
 use Rattle.cas_base.specs.declared.kind.Kind.{Kind}
 use Rattle.cas_base.specs.declared.kind.Kind.TheVariants.{I8, U8, I16, U16, I32, U32}
 use Rattle.cas_base.specs.declared.kind.Ty.{Ty}
-use Rattle.cas_base.specs.declared.kind.Ty.TheVariants.{Int, Array}
+use Rattle.cas_base.specs.declared.kind.Ty.TheVariants.{Array}
 use Rattle.cas_base.specs.declared.place.Place.{Place}
 use Rattle.cas_lex.specs.declared.token.Sign.TheVariants as sg
 use Rattle.cas_lex.specs.declared.token.Token.{Token}
@@ -17,15 +17,15 @@ use Rattle.cas_syntax.specs.Reading.{within}
 use Rattle.cas_syntax.specs.Tokens as t
 use Rattle.cas_syntax.specs.Expressions as g
 use Rattle.cas_syntax.specs.Items as g3
-use Rattle.cas_print.specs.Pieces.{Piece, sign, named, plain_number}
+use Rattle.cas_print.specs.Pieces.{Piece, sign, plain_number}
 use Rattle.cas_print.specs.Expressions.{listed}
 use Rattle.cas_print.specs.Items.{printed_integer, printed_value, printed_cells}
-use Rattle.cas_print.proofs.Kept.{Keeps, kept_kind}
+use Rattle.cas_print.proofs.Kept.{Keeps}
 use Rattle.cas_print.proofs.Numbers.{small_sound, plain_sound}
 use Rattle.cas_print.proofs.Parts.{keeps_kind}
 use Rattle.cas_print.proofs.Placed.{placed}
 use Rattle.cas_print.proofs.Respelt.{ident_at, respelt_kind}
-use Rattle.cas_print.proofs.Sound.{Sound, SoundPieces, IsPlainName, literal_small}
+use Rattle.cas_print.proofs.Sound.{Sound, IsPlainName, literal_small}
 
 -- the pieces may stand in a text, and spell what they say
 abbrev pub Spelling : (List Piece → Place) → (List Piece → List Piece) → (List Token → List Token → Type 0) → Type 0

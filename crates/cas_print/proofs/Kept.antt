@@ -1,20 +1,19 @@
 -- The canonical tokens of an expression are such as a text may have, and no more than those of any spelling.
-use Rattle.std.proofs.Common.{◌≡◌, ℕ, ◌+◌, ◌≤◌, List, [], ◌∷◌, length, Bool, false, nat_lt, subst, arith}
+use Rattle.std.proofs.Common.{◌≡◌, ℕ, ◌+◌, ◌≤◌, List, ◌∷◌, length, Bool, false, nat_lt, subst, arith}
 use Rattle.std.proofs.lemmas.Bool.Decides.{nat_tests}
 use Rattle.cas_base.specs.declared.kind.Kind.{Kind}
 use Rattle.cas_base.specs.declared.place.Place.{Place}
-use Rattle.cas_lex.specs.declared.token.Sign.{Sign}
 use Rattle.cas_lex.specs.declared.token.Sign.TheVariants as sg
 use Rattle.cas_lex.specs.declared.token.Token.{Token}
 use Rattle.cas_lex.specs.declared.token.Word.{Word}
-use Rattle.cas_syntax.specs.Tree.{ExprTree, literal, name, index, deref, address, address_index, unary, cast, binary, and_also, or_else, conditional}
+use Rattle.cas_syntax.specs.Tree.{ExprTree, literal, name, index, deref, address, address_index, unary, cast, conditional}
 use Rattle.cas_syntax.specs.Operators.{Infix, joined, level, infix_sign, unary_sign}
 use Rattle.cas_syntax.specs.Reading.{within}
 use Rattle.cas_syntax.specs.Tokens as t
 use Rattle.cas_syntax.specs.Expressions as g
 use Rattle.cas_print.specs.Pieces.{Piece, sign}
 use Rattle.cas_print.specs.Expressions.{kind_words, enclosed, at_level, outermost, between, printed_expr}
-use Rattle.cas_print.proofs.Levels.{level-low, level-high, outermost-low, printed-joined, at_level-open, at_level-either}
+use Rattle.cas_print.proofs.Levels.{level-high, outermost-low, printed-joined, at_level-open, at_level-either}
 use Rattle.cas_print.proofs.Sound.{Sound, SoundPieces}
 
 -- pieces that a text may have, if those behind them are

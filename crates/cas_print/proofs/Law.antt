@@ -1,5 +1,5 @@
 -- The canonical text of a module that some text is read as is read as the same module, but for places.
-use Rattle.std.proofs.Common.{◌≡◌, ℕ, List, [], IfOk, ap}
+use Rattle.std.proofs.Common.{ℕ, List, [], ap}
 use Rattle.std.proofs.lemmas.Str.{IsUtf8-from_ascii}
 use Rattle.cas_lex.specs.Lexed.{at_end}
 use Rattle.cas_lex.specs.Places.{start}

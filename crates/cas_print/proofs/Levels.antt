@@ -1,8 +1,8 @@
 -- Levels of operators, and parentheses.
-use Rattle.std.proofs.Common.{◌≡◌, ℕ, ◌+◌, ◌≤◌, ◌<◌, List, Bool, true, false, nat_lt, refl, sym, arith, subst}
+use Rattle.std.proofs.Common.{◌≡◌, ℕ, ◌≤◌, List, Bool, true, false, nat_lt, refl, sym, arith, subst}
 use Rattle.std.proofs.lemmas.Bool.Decides.{nat_tests}
 use Rattle.cas_syntax.specs.declared.tree.BinaryOperator.TheVariants.{Add}
-use Rattle.cas_syntax.specs.Tree.{ExprTree, binary, and_also, or_else, conditional, name}
+use Rattle.cas_syntax.specs.Tree.{ExprTree, binary}
 use Rattle.cas_syntax.specs.Operators.{Infix, always_both, logical_and, logical_or, joined, level}
 use Rattle.cas_print.specs.Pieces.{Piece}
 use Rattle.cas_print.specs.Expressions.{enclosed, at_level, outermost, between, printed_expr}

@@ -1,30 +1,28 @@
 -- Items whose canonical tokens may stand in a text and spell them, but for places.
-use Rattle.std.proofs.Common.{◌≡◌, ℕ, List, [], ◌∷◌, map, Bool, true, false, Option, Some, None, refl, ap}
-use Rattle.cas_base.specs.declared.decl.Form.{Form}
+use Rattle.std.proofs.Common.{ℕ, List, [], ◌∷◌, map, Bool, true, false, Option, Some, refl}
 use Rattle.cas_base.specs.declared.decl.Form.TheVariants.{Lock, Shared, Table, Function}
-use Rattle.cas_base.specs.declared.kind.Kind.{Kind}
 use Rattle.cas_base.specs.declared.kind.Ty.{Ty}
 use Rattle.cas_base.specs.declared.place.Place.{Place}
 use Rattle.cas_lex.specs.declared.token.Sign.TheVariants as sg
 use Rattle.cas_lex.specs.declared.token.Token.{Token}
 use Rattle.cas_lex.specs.declared.token.Word.TheVariants as w
 use Rattle.cas_syntax.specs.declared.tree.Ident.{Ident}
-use Rattle.cas_syntax.specs.Alike.{nowhere, bare_ident, bare_stmts, bare_fun, bare_item}
+use Rattle.cas_syntax.specs.Alike.{bare_item}
 use Rattle.cas_syntax.specs.Tree.{StmtList, ItemTree, global, prototype, define}
 use Rattle.cas_syntax.specs.Reading.{within}
 use Rattle.cas_syntax.specs.Tokens as t
 use Rattle.cas_syntax.specs.Items as g3
 use Rattle.cas_syntax.specs.Items.{declared}
 use Rattle.cas_print.specs.Pieces.{Piece, word, sign, end_of_line, named}
-use Rattle.cas_print.specs.Statements.{before_name, printed_stmts}
-use Rattle.cas_print.specs.Items.{printed_extern, printed_global, printed_cells, printed_parameters, printed_holds, printed_head, printed_item, printed_items}
+use Rattle.cas_print.specs.Statements.{printed_stmts}
+use Rattle.cas_print.specs.Items.{printed_extern, printed_cells, printed_parameters, printed_holds, printed_item, printed_items}
 use Rattle.cas_print.proofs.Heads.{ReturnPrintable, return_printable, ParametersPrintable, parameters_printable, no_names, unnamed_printable, named_printable, HoldsPrintable, holds_printable, nowhere-places}
 use Rattle.cas_print.proofs.Initial.{CellsPrintable, cells_printable}
 use Rattle.cas_print.proofs.Kept.{Keeps, kept_kind}
 use Rattle.cas_print.proofs.Placed.{placed}
 use Rattle.cas_print.proofs.Printable.{Printable}
 use Rattle.cas_print.proofs.Respelt.{ident_at}
-use Rattle.cas_print.proofs.Sound.{Sound, SoundPieces, IsPlainName}
+use Rattle.cas_print.proofs.Sound.{Sound, IsPlainName}
 use Rattle.cas_print.proofs.Stmts.{StmtsPrintable, stmts_printable}
 
 extern_left : (d : Bool) (s r : List Token) → g3.SpellsExtern d s r → Sound s → Sound r

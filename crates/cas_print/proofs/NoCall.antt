@@ -1,5 +1,5 @@
 -- A printed expression doesn't begin as a call does.
-use Rattle.std.proofs.Common.{◌≡◌, ℕ, ◌+◌, List, [], ◌∷◌, Bool, true, false, ◌&&◌, refl}
+use Rattle.std.proofs.Common.{◌≡◌, ℕ, ◌+◌, List, [], ◌∷◌, Bool, false, refl}
 use Rattle.cas_base.specs.declared.place.Place.{Place}
 use Rattle.cas_lex.specs.declared.token.Sign.TheVariants as sg
 use Rattle.cas_lex.specs.declared.token.Token.{Token}
@@ -8,7 +8,7 @@ use Rattle.cas_syntax.specs.declared.tree.BinaryOperator.TheVariants.{Add}
 use Rattle.cas_syntax.specs.Statements.{MayBeValue}
 use Rattle.cas_syntax.specs.Tokens.{is_name, is_opening_paren, begins_call}
 use Rattle.cas_syntax.specs.Tree.{ExprTree, literal, name, index, deref, address, address_index, unary, cast, binary, and_also, or_else, conditional, TargetTree, to_name, to_index, to_deref}
-use Rattle.cas_print.specs.Pieces.{Piece, word, sign, named, number, kind_of}
+use Rattle.cas_print.specs.Pieces.{Piece, sign, named, number, kind_of}
 use Rattle.cas_print.specs.Expressions.{in_brackets, at_level, outermost, between, printed_expr}
 use Rattle.cas_print.proofs.Levels.{at_level-either}
 use Rattle.cas_print.proofs.Placed.{placed}

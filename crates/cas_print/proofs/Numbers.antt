@@ -1,5 +1,5 @@
 -- Numbers without a suffix, as texts may have them.
-use Rattle.std.proofs.Common.{◌≡◌, ℕ, ◌≤◌, Bool, true, false, nat_lt, if◌then◌else◌, refl, subst, sym, arith}
+use Rattle.std.proofs.Common.{◌≡◌, ℕ, ◌≤◌, Bool, true, false, nat_lt, if◌then◌else◌, refl, arith}
 use Rattle.std.proofs.lemmas.Bool.Decides.{nat_tests}
 use Rattle.cas_base.specs.declared.kind.Kind.{Kind}
 use Rattle.cas_lex.specs.Literals.{literal_kind}

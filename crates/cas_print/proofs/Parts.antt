@@ -1,33 +1,31 @@
 -- Assignments, calls and locals whose canonical tokens may stand in a text and spell them, but for places.
-use Rattle.std.proofs.Common.{◌≡◌, ℕ, ◌+◌, ◌<◌, inl, inr, List, [], ◌∷◌, map, length, false, Option, Some, None, refl, sym, ap, subst, ◌∙◌, arith}
+use Rattle.std.proofs.Common.{◌≡◌, List, ◌∷◌, false, Some, None, refl, sym, subst}
 use Rattle.cas_base.specs.declared.kind.Kind.{Kind}
 use Rattle.cas_base.specs.declared.kind.Kind.TheVariants.{U8, U16, I32}
-use Rattle.cas_base.specs.declared.kind.Ty.{Ty}
 use Rattle.cas_base.specs.declared.kind.Ty.TheVariants.{Int, Ptr, Array}
 use Rattle.cas_base.specs.declared.place.Place.{Place}
 use Rattle.cas_lex.specs.declared.token.Sign.{Sign}
 use Rattle.cas_lex.specs.declared.token.Sign.TheVariants as sg
 use Rattle.cas_lex.specs.declared.token.Token.{Token}
-use Rattle.cas_lex.specs.declared.token.TokenKind.TheVariants as k
 use Rattle.cas_syntax.specs.declared.tree.Ident.{Ident}
 use Rattle.cas_syntax.specs.declared.tree.BinaryOperator.{BinaryOperator}
 use Rattle.cas_syntax.specs.declared.tree.BinaryOperator.TheVariants.{Add, Sub}
-use Rattle.cas_syntax.specs.Alike.{nowhere, bare_ident, bare_expr, bare_stmt, bare_option}
-use Rattle.cas_syntax.specs.Tree.{ExprTree, literal, TargetTree, to_name, to_index, to_deref, InitTree, nothing, StmtTree, declare, assign, call}
+use Rattle.cas_syntax.specs.Alike.{bare_stmt}
+use Rattle.cas_syntax.specs.Tree.{ExprTree, literal, TargetTree, to_name, to_index, to_deref, nothing, StmtTree, declare, assign, call}
 use Rattle.cas_syntax.specs.Operators.{assigning_sign}
 use Rattle.cas_syntax.specs.Reading.{within}
 use Rattle.cas_syntax.specs.Tokens as t
 use Rattle.cas_syntax.specs.Expressions as g
 use Rattle.cas_syntax.specs.Statements as g2
-use Rattle.cas_print.specs.Pieces.{Piece, sign, end_of_line, named, plain_number}
-use Rattle.cas_print.specs.Expressions.{kind_words, printed_expr, listed}
-use Rattle.cas_print.specs.Statements.{sign_or_equal, printed_target, printed_init, printed_part, printed_stmt, simple}
-use Rattle.cas_print.proofs.Kept.{Keeps, kept_kind}
+use Rattle.cas_print.specs.Pieces.{Piece, sign}
+use Rattle.cas_print.specs.Expressions.{kind_words, printed_expr}
+use Rattle.cas_print.specs.Statements.{sign_or_equal, printed_target, printed_part, printed_stmt, simple}
+use Rattle.cas_print.proofs.Kept.{Keeps}
 use Rattle.cas_print.proofs.NoCall.{opens, no_call, may_be_value}
 use Rattle.cas_print.proofs.Placed.{placed}
-use Rattle.cas_print.proofs.Printable.{PrintableBefore, ExprPrintable, expr_printable, one_printable, ArgumentsPrintable, arguments_printable, TargetPrintable, target_printable, InitPrintable, init_printable}
+use Rattle.cas_print.proofs.Printable.{PrintableBefore, ExprPrintable, expr_printable, one_printable, ArgumentsPrintable, arguments_printable, TargetPrintable, target_printable, init_printable}
 use Rattle.cas_print.proofs.Respelt.{ident_at, respelt_kind}
-use Rattle.cas_print.proofs.Sound.{IsSound, Sound, SoundPieces, IsPlainName, literal_small}
+use Rattle.cas_print.proofs.Sound.{Sound, IsPlainName}
 use Rattle.cas_print.proofs.Numbers.{plain_sound}
 
 -- as a statement it is printed with a semicolon

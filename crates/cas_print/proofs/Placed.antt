@@ -1,5 +1,5 @@
 -- Pieces as tokens, wherever they stand.
-use Rattle.std.proofs.Common.{◌≡◌, ℕ, ◌+◌, List, [], ◌∷◌, length, refl, ap}
+use Rattle.std.proofs.Common.{◌≡◌, List, [], ◌∷◌, length, refl}
 use Rattle.cas_base.specs.declared.place.Place.{Place}
 use Rattle.cas_lex.specs.declared.token.Token.{Token}
 use Rattle.cas_print.specs.Pieces.{Piece, kind_of}

@@ -1,6 +1,6 @@
 -- Trees whose canonical tokens may stand in a text and spell them, but for places: expressions, targets and what locals
 -- begin with.
-use Rattle.std.proofs.Common.{◌≡◌, ℕ, ◌+◌, ◌≤◌, max, List, [], ◌∷◌, map, length, Bool, true, false, not, Option, Some, None, refl, sym, ap, subst, ◌∙◌, arith}
+use Rattle.std.proofs.Common.{◌≡◌, ◌+◌, ◌≤◌, List, [], ◌∷◌, map, length, Bool, false, not, Option, Some, None, refl, sym, ap, subst, arith}
 use Rattle.cas_base.specs.declared.kind.Kind.TheVariants.{I32}
 use Rattle.cas_base.specs.declared.place.Place.{Place}
 use Rattle.cas_lex.specs.declared.token.Sign.TheVariants as sg
@@ -12,15 +12,15 @@ use Rattle.cas_syntax.specs.Reading.{within}
 use Rattle.cas_syntax.specs.Tokens as t
 use Rattle.cas_syntax.specs.Expressions as g
 use Rattle.cas_syntax.specs.Statements as g2
-use Rattle.cas_print.specs.Pieces.{Piece, sign, named}
-use Rattle.cas_print.specs.Expressions.{enclosed, printed_expr, behind_commas, listed}
-use Rattle.cas_print.specs.Statements.{is_name_alone, printed_target, printed_call, printed_init, printed_optional}
+use Rattle.cas_print.specs.Pieces.{Piece, sign}
+use Rattle.cas_print.specs.Expressions.{enclosed, printed_expr, listed}
+use Rattle.cas_print.specs.Statements.{is_name_alone, printed_target, printed_init, printed_optional}
 use Rattle.cas_print.proofs.Kept.{Keeps, kept_expr, stripped}
 use Rattle.cas_print.proofs.Levels.{outermost-low}
 use Rattle.cas_print.proofs.NoCall.{opens, no_call}
 use Rattle.cas_print.proofs.Placed.{placed, length-placed}
 use Rattle.cas_print.proofs.Respelt.{ident_at, respelt}
-use Rattle.cas_print.proofs.Sound.{IsSound, Sound, SoundPieces}
+use Rattle.cas_print.proofs.Sound.{IsSound, Sound}
 
 -- the pieces spell a tree that is the same but for places
 abbrev pub SpellAgain : {A : Type 0} → (bare : A → A) → (A → List Token → List Token → Type 0) → (List Piece → Place) → A → (List Piece → List Piece) → Type 0

@@ -1,5 +1,5 @@
 -- The canonical tokens of an expression spell it, but for places.
-use Rattle.std.proofs.Common.{◌≡◌, ℕ, ◌+◌, ◌≤◌, List, [], ◌∷◌, refl, ap, arith}
+use Rattle.std.proofs.Common.{◌≡◌, ℕ, ◌+◌, ◌≤◌, List, ◌∷◌, refl, ap}
 use Rattle.cas_base.specs.declared.kind.Kind.{Kind}
 use Rattle.cas_base.specs.declared.kind.Kind.TheVariants.{I8, U8, I16, U16, I32, U32}
 use Rattle.cas_base.specs.declared.place.Place.{Place}
@@ -7,12 +7,12 @@ use Rattle.cas_lex.specs.declared.token.Sign.TheVariants as sg
 use Rattle.cas_syntax.specs.declared.tree.Ident.{Ident}
 use Rattle.cas_syntax.specs.Alike.{bare_ident, bare_expr}
 use Rattle.cas_syntax.specs.Tree.{ExprTree, literal, name, index, deref, address, address_index, unary, cast, binary, and_also, or_else, conditional}
-use Rattle.cas_syntax.specs.Operators.{Infix, always_both, logical_and, logical_or, joined, level, infix_sign, unary_sign}
+use Rattle.cas_syntax.specs.Operators.{Infix, always_both, logical_and, logical_or, joined, level, infix_sign}
 use Rattle.cas_syntax.specs.Limits.{Limits}
 use Rattle.cas_syntax.specs.Expressions as g
 use Rattle.cas_print.specs.Pieces.{Piece, sign}
-use Rattle.cas_print.specs.Expressions.{kind_words, enclosed, at_level, outermost, between, printed_expr}
-use Rattle.cas_print.proofs.Levels.{level-low, level-high, outermost-low, at_level-open, at_level-either}
+use Rattle.cas_print.specs.Expressions.{kind_words, at_level, outermost, between, printed_expr}
+use Rattle.cas_print.proofs.Levels.{outermost-low, at_level-either}
 use Rattle.cas_print.proofs.Placed.{placed}
 
 -- a name at a place

@@ -1,5 +1,5 @@
 -- The spelling of each piece, with a blank behind it, is taken as the piece.
-use Rattle.std.proofs.Common.{◌≡◌, ℕ, ◌+◌, ◌<◌, ◌≤◌, List, [], ◌∷◌, ◌++◌, length, drop, take_while, get_or, Bool, true, false, cond, ◌&&◌, ◌||◌, ◌==◌, nat_lt, nat_le, codes, Option, None, decimal, refl, sym, ap, subst, ◌∙◌, append_assoc, length-append, arith}
+use Rattle.std.proofs.Common.{◌≡◌, ℕ, ◌<◌, ◌≤◌, List, [], ◌∷◌, ◌++◌, length, take_while, Bool, true, false, ◌&&◌, ◌||◌, ◌==◌, nat_lt, nat_le, codes, decimal, refl, ap, ◌∙◌, append_assoc, length-append, arith}
 use Rattle.std.specs.Char.{is_ascii_digit, is_ascii_hexdigit, digit_value}
 use Rattle.std.specs.List.{list_all}
 use Rattle.std.specs.Str.Parse.{digits_value, AllDigits}
@@ -8,9 +8,9 @@ use Rattle.std.proofs.lemmas.Fmt.{decimal_is_IsNumeral, decimal_digit, first_dec
 use Rattle.std.proofs.lemmas.List.{append-nil}
 use Rattle.std.proofs.lemmas.List.Sums.{take_while-cons}
 use Rattle.std.proofs.Math.Seq.{drop-append_seam}
-use Rattle.cas_base.specs.Name.{is_name, is_first_byte, is_name_byte}
+use Rattle.cas_base.specs.Name.{is_first_byte, is_name_byte}
 use Rattle.cas_base.specs.declared.kind.Kind.{Kind}
-use Rattle.cas_base.specs.declared.kind.Kind.TheVariants.{I8, U8, I16, U16, I32, U32}
+use Rattle.cas_base.specs.declared.kind.Kind.TheVariants.{I32, U32}
 use Rattle.cas_lex.specs.declared.front.Front.TheVariants as f
 use Rattle.cas_lex.specs.declared.token.TokenKind.TheVariants as k
 use Rattle.cas_lex.specs.declared.token.Word.{Word}
@@ -19,7 +19,7 @@ use Rattle.cas_lex.specs.declared.token.Sign.{Sign}
 use Rattle.cas_lex.specs.declared.token.Sign.TheVariants as sg
 use Rattle.cas_lex.specs.Front.{front, front_at, mark_at, name_at}
 use Rattle.cas_lex.specs.Literals.{literal_at, literal_before, literal_kind, is_hexadecimal, is_octal}
-use Rattle.cas_lex.specs.Spellings.{word_spelling, sign_spelling, word_of, is_left_out}
+use Rattle.cas_lex.specs.Spellings.{word_spelling, sign_spelling}
 use Rattle.cas_print.specs.Pieces.{Piece, word, sign, end_of_line, named, number, plain_number, kind_of, spelling, separator}
 use Rattle.cas_print.proofs.Sound.{IsSound, IsPlainName, IsLiteral, literal_small}
 

@@ -1,30 +1,28 @@
 -- Statements whose canonical tokens may stand in a text and spell them, but for places.
-use Rattle.std.proofs.Common.{◌≡◌, ℕ, ◌+◌, ◌<◌, ◌≤◌, ◌⊎◌, inl, inr, List, [], ◌∷◌, length, Bool, false, Option, Some, None, refl, sym, ap, subst, ◌∙◌, arith}
+use Rattle.std.proofs.Common.{◌≡◌, ℕ, ◌+◌, ◌<◌, inl, inr, List, ◌∷◌, false, Option, refl, sym, ap, subst, ◌∙◌, arith}
 use Rattle.cas_base.specs.declared.kind.Kind.{Kind}
 use Rattle.cas_base.specs.declared.place.Place.{Place}
 use Rattle.cas_lex.specs.declared.token.Sign.TheVariants as sg
 use Rattle.cas_lex.specs.declared.token.Token.{Token}
 use Rattle.cas_lex.specs.declared.token.Word.{Word}
 use Rattle.cas_lex.specs.declared.token.Word.TheVariants as w
-use Rattle.cas_syntax.specs.declared.tree.Ident.{Ident}
-use Rattle.cas_syntax.specs.Alike.{nowhere, bare_ident, bare_expr, bare_stmt, bare_stmts, bare_stmt_option, bare_option}
+use Rattle.cas_syntax.specs.Alike.{nowhere, bare_stmt, bare_stmts, bare_stmt_option}
 use Rattle.cas_syntax.specs.Limits.{AllowsDepth}
-use Rattle.cas_syntax.specs.Tree.{ExprTree, StmtTree, skip, declare, assign, call, block, if_, while_, do_, for_, break_, continue_, return_, lock, unlock, print, StmtOption, absent, present, StmtList, no_more, one_more}
+use Rattle.cas_syntax.specs.Tree.{ExprTree, StmtTree, skip, block, if_, while_, do_, for_, break_, continue_, return_, lock, unlock, print, StmtOption, absent, present, StmtList, no_more, one_more}
 use Rattle.cas_syntax.specs.Reading.{within}
 use Rattle.cas_syntax.specs.Tokens as t
 use Rattle.cas_syntax.specs.Expressions as g
 use Rattle.cas_syntax.specs.Statements as g2
 use Rattle.cas_syntax.specs.Statements.{dangles}
-use Rattle.cas_print.specs.Pieces.{Piece, word, sign, end_of_line, named}
-use Rattle.cas_print.specs.Expressions.{printed_expr}
-use Rattle.cas_print.specs.Statements.{printed_part, printed_part_option, printed_optional, printed_stmt, printed_else, printed_stmts, in_parentheses}
+use Rattle.cas_print.specs.Pieces.{Piece, word, sign, end_of_line}
+use Rattle.cas_print.specs.Statements.{printed_part_option, printed_optional, printed_stmt, printed_stmts, in_parentheses}
 use Rattle.cas_print.proofs.Dangling.{dangles-bare}
-use Rattle.cas_print.proofs.Kept.{Keeps, kept_kind}
+use Rattle.cas_print.proofs.Kept.{kept_kind}
 use Rattle.cas_print.proofs.Parts.{SimplePrintable, simple_printable, LocalPrintable, local_printable}
 use Rattle.cas_print.proofs.Placed.{placed}
 use Rattle.cas_print.proofs.Printable.{Printable, PrintableBefore, ExprPrintable, expr_printable, OptionalPrintable, optional_printable}
 use Rattle.cas_print.proofs.Respelt.{ident_at}
-use Rattle.cas_print.proofs.Sound.{Sound, SoundPieces, IsPlainName}
+use Rattle.cas_print.proofs.Sound.{Sound, SoundPieces}
 
 abbrev pub StmtPrintable : (List Piece → Place) → ℕ → StmtTree → Type 0
 StmtPrintable at n a = Printable bare_stmt (g2.SpellsStmt (within 0) n) at a (printed_stmt a)

@@ -3,6 +3,7 @@ use Rattle.std.specs.Prelude.{ℕ, ◌+◌, Bool, true, false, nat_lt, List, [],
 use Rattle.cas_base.specs.declared.kind.Kind.{Kind}
 use Rattle.cas_base.specs.declared.kind.Kind.TheVariants.{I8, U8, I16, U16, I32, U32}
 use Rattle.cas_lex.specs.declared.token.Word.TheVariants as w
+use Rattle.cas_lex.specs.declared.token.Sign.{Sign}
 use Rattle.cas_lex.specs.declared.token.Sign.TheVariants as sg
 use Rattle.cas_syntax.specs.Tree.{ExprTree, literal, name, index, deref, address, address_index, unary, cast, binary, and_also, or_else, conditional}
 use Rattle.cas_syntax.specs.Operators.{Infix, always_both, logical_and, logical_or, level, infix_sign, unary_sign}
@@ -38,6 +39,14 @@ outermost (or_else a b) = level logical_or
 outermost (conditional c a b) = 1
 outermost _ = 12
 
+-- an operand behind a sign
+abbrev pub prefixed : Sign → (found : ℕ) → (List Piece → List Piece) → List Piece → List Piece
+prefixed by found operand rest = sign by ∷ at_level 12 found operand rest
+
+-- an operand behind a kind in parentheses
+abbrev pub converted : Kind → (found : ℕ) → (List Piece → List Piece) → List Piece → List Piece
+converted k found operand rest = sign sg.OpenParen ∷ kind_words k (sign sg.CloseParen ∷ at_level 12 found operand rest)
+
 -- an operator between two operands; the right one binds more tightly, since all these operators go to the left
 abbrev pub between : Infix → (found_left : ℕ) → (List Piece → List Piece) → (found_right : ℕ) → (List Piece → List Piece) → List Piece → List Piece
 between op found_left left found_right right rest =
@@ -48,12 +57,11 @@ abbrev pub printed_expr : ExprTree → List Piece → List Piece
 printed_expr (literal n k) rest = number n k ∷ rest
 printed_expr (name x) rest = named x.name ∷ rest
 printed_expr (index x a) rest = named x.name ∷ in_brackets (printed_expr a) rest
-printed_expr (deref a) rest = sign sg.Star ∷ at_level 12 (outermost a) (printed_expr a) rest
+printed_expr (deref a) rest = prefixed sg.Star (outermost a) (printed_expr a) rest
 printed_expr (address x) rest = sign sg.And ∷ named x.name ∷ rest
 printed_expr (address_index x a) rest = sign sg.And ∷ named x.name ∷ in_brackets (printed_expr a) rest
-printed_expr (unary op a) rest = sign (unary_sign op) ∷ at_level 12 (outermost a) (printed_expr a) rest
-printed_expr (cast k a) rest =
-    sign sg.OpenParen ∷ kind_words k (sign sg.CloseParen ∷ at_level 12 (outermost a) (printed_expr a) rest)
+printed_expr (unary op a) rest = prefixed (unary_sign op) (outermost a) (printed_expr a) rest
+printed_expr (cast k a) rest = converted k (outermost a) (printed_expr a) rest
 printed_expr (binary op a b) rest = between (always_both op) (outermost a) (printed_expr a) (outermost b) (printed_expr b) rest
 printed_expr (and_also a b) rest = between logical_and (outermost a) (printed_expr a) (outermost b) (printed_expr b) rest
 printed_expr (or_else a b) rest = between logical_or (outermost a) (printed_expr a) (outermost b) (printed_expr b) rest

@@ -17,6 +17,10 @@ use Rattle.cas_print.specs.Expressions.{kind_words, enclosed, in_brackets, print
 abbrev pub in_parentheses : ExprTree → List Piece → List Piece
 in_parentheses a rest = enclosed true (printed_expr a) rest
 
+-- a word, and an expression in parentheses
+abbrev pub word_and : Word → ExprTree → List Piece → List Piece
+word_and which a rest = word which ∷ in_parentheses a rest
+
 -- whether an expression is a name alone
 abbrev pub is_name_alone : ExprTree → Bool
 is_name_alone (name x) = true
@@ -103,10 +107,10 @@ abbrev mutual
   printed_stmt (call p x f bs) rest = simple (call p x f bs) rest
   printed_stmt (block p bs) rest = end_of_line sg.OpenBrace ∷ printed_stmts bs (end_of_line sg.CloseBrace ∷ rest)
   printed_stmt (if_ p c a b) rest =
-      word w.If ∷ in_parentheses c (printed_stmt a (printed_else b rest))
-  printed_stmt (while_ p c a) rest = word w.While ∷ in_parentheses c (printed_stmt a rest)
+      word_and w.If c (printed_stmt a (printed_else b rest))
+  printed_stmt (while_ p c a) rest = word_and w.While c (printed_stmt a rest)
   printed_stmt (do_ p a c) rest =
-      word w.Do ∷ printed_stmt a (word w.While ∷ in_parentheses c (end_of_line sg.Semicolon ∷ rest))
+      word w.Do ∷ printed_stmt a (word_and w.While c (end_of_line sg.Semicolon ∷ rest))
   printed_stmt (for_ p i c u a) rest =
       word w.For ∷ sign sg.OpenParen ∷ printed_part_option i
       (sign sg.Semicolon ∷ printed_optional c (sign sg.Semicolon ∷ printed_part_option u (sign sg.CloseParen ∷ printed_stmt a rest)))
@@ -115,7 +119,7 @@ abbrev mutual
   printed_stmt (return_ p a) rest = word w.Return ∷ printed_optional a (end_of_line sg.Semicolon ∷ rest)
   printed_stmt (lock p x) rest = of_lock w.Lock x rest
   printed_stmt (unlock p x) rest = of_lock w.Unlock x rest
-  printed_stmt (print p a) rest = word w.Print ∷ in_parentheses a (end_of_line sg.Semicolon ∷ rest)
+  printed_stmt (print p a) rest = word_and w.Print a (end_of_line sg.Semicolon ∷ rest)
 
   -- the second branch of an `if`, or nothing
   pub printed_else : StmtOption → List Piece → List Piece

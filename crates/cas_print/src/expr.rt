@@ -46,10 +46,7 @@ pub fn expr(page: &mut Page, expr: &Expr) -> Result<(), NoMemory>
             page.name(&x.name)?;
             in_brackets(page, index)
         }
-        Expr::Deref(pointer) => {
-            page.sign(Sign::Star)?;
-            operand(page, 12, pointer)
-        }
+        Expr::Deref(pointer) => prefixed(page, Sign::Star, pointer),
         Expr::Addr(x) => {
             page.sign(Sign::And)?;
             page.name(&x.name)
@@ -59,16 +56,8 @@ pub fn expr(page: &mut Page, expr: &Expr) -> Result<(), NoMemory>
             page.name(&x.name)?;
             in_brackets(page, index)
         }
-        Expr::Unary(operator, inner) => {
-            page.sign(unary_sign(*operator))?;
-            operand(page, 12, inner)
-        }
-        Expr::Cast(to, inner) => {
-            page.sign(Sign::OpenParen)?;
-            kind(page, *to)?;
-            page.sign(Sign::CloseParen)?;
-            operand(page, 12, inner)
-        }
+        Expr::Unary(operator, inner) => prefixed(page, unary_sign(*operator), inner),
+        Expr::Cast(to, inner) => cast(page, *to, inner),
         Expr::Binary(operator, left, right) => {
             operand(page, level(*operator), left)?;
             page.sign(infix_sign(*operator))?;
@@ -92,6 +81,32 @@ pub fn expr(page: &mut Page, expr: &Expr) -> Result<(), NoMemory>
             self::expr(page, second)
         }
     }
+}
+
+// Writes an operand behind a sign.
+#[cycle(expr)]
+fn prefixed(page: &mut Page, sign: Sign, inner: &Expr) -> Result<(), NoMemory>
+    ensures { (rest : List Piece)
+        → IfOk result (λ _. followed_by page.new rest
+        ≡ followed_by page.old
+        (spec.prefixed sign (spec.outermost (expr_tree inner.now)) (spec.printed_expr (expr_tree inner.now)) rest)) }
+{
+    page.sign(sign)?;
+    operand(page, 12, inner)
+}
+
+// Writes an operand behind a kind in parentheses.
+#[cycle(expr)]
+fn cast(page: &mut Page, to: Kind, inner: &Expr) -> Result<(), NoMemory>
+    ensures { (rest : List Piece)
+        → IfOk result (λ _. followed_by page.new rest
+        ≡ followed_by page.old
+        (spec.converted to (spec.outermost (expr_tree inner.now)) (spec.printed_expr (expr_tree inner.now)) rest)) }
+{
+    page.sign(Sign::OpenParen)?;
+    kind(page, to)?;
+    page.sign(Sign::CloseParen)?;
+    operand(page, 12, inner)
 }
 
 // Writes an expression at a place that takes operators of this level and tighter ones.

@@ -1,7 +1,9 @@
 //! Statements.
 
 ghost use Rattle.std.specs.Prelude.{◌≡◌, IfOk, List};
-ghost use Rattle.cas_syntax.specs.Tree.{optional_tree, stmt_tree, stmt_trees};
+ghost use Rattle.cas_syntax.specs.Alike.{nowhere};
+ghost use Rattle.cas_syntax.specs.Tree as tree;
+ghost use Rattle.cas_syntax.specs.Tree.{expr_tree, optional_tree, stmt_tree, stmt_trees};
 ghost use Rattle.cas_print.specs.Page.{followed_by};
 ghost use Rattle.cas_print.specs.Pieces.{Piece};
 ghost use Rattle.cas_print.specs.Expressions as expressions;
@@ -25,14 +27,9 @@ pub fn stmt(page: &mut Page, stmt: &Stmt) -> Result<(), NoMemory>
         StmtForm::Declare(_, _, _) => simple(page, stmt),
         StmtForm::Assign(_, _, _) => simple(page, stmt),
         StmtForm::Call(_, _, _) => simple(page, stmt),
-        StmtForm::Block(inner) => {
-            page.end_of_line(Sign::OpenBrace)?;
-            stmts(page, inner)?;
-            page.end_of_line(Sign::CloseBrace)
-        }
+        StmtForm::Block(inner) => block(page, inner),
         StmtForm::If(condition, first, second) => {
-            page.word(Word::If)?;
-            in_parentheses(page, condition)?;
+            word_and(page, Word::If, condition)?;
             self::stmt(page, first)?;
             match second {
                 None => Ok(()),
@@ -43,15 +40,13 @@ pub fn stmt(page: &mut Page, stmt: &Stmt) -> Result<(), NoMemory>
             }
         }
         StmtForm::While(condition, body) => {
-            page.word(Word::While)?;
-            in_parentheses(page, condition)?;
+            word_and(page, Word::While, condition)?;
             self::stmt(page, body)
         }
         StmtForm::Do(body, condition) => {
             page.word(Word::Do)?;
             self::stmt(page, body)?;
-            page.word(Word::While)?;
-            in_parentheses(page, condition)?;
+            word_and(page, Word::While, condition)?;
             page.end_of_line(Sign::Semicolon)
         }
         StmtForm::For(first, condition, after, body) => {
@@ -79,8 +74,7 @@ pub fn stmt(page: &mut Page, stmt: &Stmt) -> Result<(), NoMemory>
         StmtForm::Lock(x) => of_lock(page, Word::Lock, x),
         StmtForm::Unlock(x) => of_lock(page, Word::Unlock, x),
         StmtForm::Print(value) => {
-            page.word(Word::Print)?;
-            in_parentheses(page, value)?;
+            word_and(page, Word::Print, value)?;
             page.end_of_line(Sign::Semicolon)
         }
     }
@@ -98,6 +92,17 @@ pub fn stmts(page: &mut Page, stmts: &[Stmt]) -> Result<(), NoMemory>
     Ok(())
 }
 
+// Writes a block.
+#[cycle(stmt)]
+fn block(page: &mut Page, inner: &[Stmt]) -> Result<(), NoMemory>
+    ensures { (rest : List Piece)
+        → IfOk result (λ _. followed_by page.new rest ≡ followed_by page.old (spec.printed_stmt (tree.block nowhere (stmt_trees inner.now)) rest)) }
+{
+    page.end_of_line(Sign::OpenBrace)?;
+    stmts(page, inner)?;
+    page.end_of_line(Sign::CloseBrace)
+}
+
 // Writes a local, an assignment or a call.
 fn simple(page: &mut Page, simple: &Stmt) -> Result<(), NoMemory>
     ensures { (rest : List Piece)
@@ -105,6 +110,15 @@ fn simple(page: &mut Page, simple: &Stmt) -> Result<(), NoMemory>
 {
     part(page, simple)?;
     page.end_of_line(Sign::Semicolon)
+}
+
+// Writes a word, and an expression in parentheses.
+fn word_and(page: &mut Page, word: Word, inner: &Expr) -> Result<(), NoMemory>
+    ensures { (rest : List Piece)
+        → IfOk result (λ _. followed_by page.new rest ≡ followed_by page.old (spec.word_and word (expr_tree inner.now) rest)) }
+{
+    page.word(word)?;
+    in_parentheses(page, inner)
 }
 
 // Writes an expression, or nothing.

@@ -1,10 +1,10 @@
-use Rattle.std.proofs.Common.{◌≡◌, ◌∙◌, List, [], ℕ, map, ap, subst, sym}
+use Rattle.std.proofs.Common.{◌∙◌, List, [], ℕ, map, ap, subst, sym}
 use Rattle.cas_syntax.specs.declared.tree.Item.{Item}
 use Rattle.cas_syntax.specs.Alike.{IsAlike}
 use Rattle.cas_syntax.specs.Reading.{IsReadAs}
 use Rattle.cas_syntax.specs.Tree.{ModuleTree, item_tree, module_tree}
 use Rattle.cas_print.specs.Pieces.{text}
-use Rattle.cas_print.specs.Items.{printed_items, canonical}
+use Rattle.cas_print.specs.Items.{printed_items}
 use Rattle.cas_print.proofs.Law.{canonical_is_read}
 use Rattle.cas_print.proofs.Pages.{all_written}
 use Rattle.cas_print.proofs.print.print_module.Goals as goal

@@ -1,4 +1,4 @@
-use Rattle.std.proofs.Common.{◌∙◌, refl, ap}
+use Rattle.std.proofs.Common.{refl, ap}
 use Rattle.std.proofs.lemmas.Result.{IfOk-equal}
 use Rattle.cas_print.specs.Page.{followed_by}
 use Rattle.cas_print.proofs.Trees.{printed-block}
@@ -13,8 +13,7 @@ stmt-returns-in-Assign t c rest = IfOk-equal _ _ _ _ (c.simple-in-Assign.ensures
 pub stmt-returns-in-Call : goal.stmt-returns-in-Call
 stmt-returns-in-Call t c rest = IfOk-equal _ _ _ _ (c.simple-in-Call.ensures rest) (rw c.in-Call.is refl)
 
-pub stmt-returns-in_ok-stmts-in-Block : goal.stmt-returns-in_ok-stmts-in-Block
-stmt-returns-in_ok-stmts-in-Block t c rest =
-    IfOk-equal _ _ _ _ (c.end_of_line-in-Block-2.ensures rest)
-    (c.in_ok-stmts-in-Block.ensures _ ∙ c.in_ok-end_of_line-in-Block.ensures _
-    ∙ ap (followed_by c.args.page.now) (printed-block c.args.stmt.now c.in-Block.inner c.deref.result.now rest c.in-Block.is c.deref.ensures.value))
+pub stmt-returns-in-Block : goal.stmt-returns-in-Block
+stmt-returns-in-Block t c rest =
+    IfOk-equal _ _ _ _ (c.block.ensures rest)
+    (ap (followed_by c.args.page.now) (printed-block c.args.stmt.now c.in-Block.inner c.deref.result.now rest c.in-Block.is c.deref.ensures.value))
