@@ -51,11 +51,11 @@ pub data SpellsCells (limits : Limits) (defined : Bool) (k : Kind) : Ident → T
   cells_with_values : (x : Ident) (n : ℕ) (j : Kind) (vs : List ℕ) (p o q e f g : Place) (s r : List Token) → defined ≡ true →
       SpellsValues k vs s (sign sg.CloseBrace g ∷ r) →
       SpellsCells limits defined k x (Array k n) vs
-          (ident x ∷ sign sg.OpenBracket p ∷ number n j o ∷ sign sg.CloseBracket q ∷ sign sg.Equal e ∷ sign sg.OpenBrace f ∷ s) r
+      (ident x ∷ sign sg.OpenBracket p ∷ number n j o ∷ sign sg.CloseBracket q ∷ sign sg.Equal e ∷ sign sg.OpenBrace f ∷ s) r
   -- left out: an array of arrays
   arrays : (x : Ident) (n : ℕ) (j : Kind) (p o q q' : Place) (r : List Token) → IsLeftOut limits r →
       SpellsCells limits defined k x (Array k n) []
-          (ident x ∷ sign sg.OpenBracket p ∷ number n j o ∷ sign sg.CloseBracket q ∷ sign sg.OpenBracket q' ∷ r) r
+      (ident x ∷ sign sg.OpenBracket p ∷ number n j o ∷ sign sg.CloseBracket q ∷ sign sg.OpenBracket q' ∷ r) r
 
 -- the type of a parameter, or of what a function returns
 pub data SpellsType (limits : Limits) : Ty → List Token → List Token → Type 0 where

@@ -6,4 +6,6 @@
 
 mod tree;
 
-pub use tree::{BinaryOperator, Expr, Fun, Ident, Init, Item, LValue, Module, Stmt, StmtForm, UnaryOperator};
+pub use tree::{
+    BinaryOperator, Expr, Fun, Ident, Init, Item, LValue, Module, Stmt, StmtForm, UnaryOperator,
+};

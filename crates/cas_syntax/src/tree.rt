@@ -160,9 +160,17 @@ pub struct Fun {
 pub enum Item {
     /// A lock, a shared global or a table, with the initial values that the text gives, each as a word of its
     /// kind.
-    Global { decl: Decl, values: Seq<u32>, place: Place },
+    Global {
+        decl: Decl,
+        values: Seq<u32>,
+        place: Place,
+    },
     /// A function without its body, with the places of the locks that the declaration `holds`, in order.
-    Prototype { decl: Decl, held: Seq<Place>, place: Place },
+    Prototype {
+        decl: Decl,
+        held: Seq<Place>,
+        place: Place,
+    },
     Define(Fun),
 }
 
