@@ -1,0 +1,202 @@
+//! Expressions.
+
+ghost use Rattle.std.specs.Prelude.{◌≡◌, ◌<◌, IfOk, List};
+ghost use Rattle.cas_syntax.specs.Tree.{expr_tree};
+ghost use Rattle.cas_syntax.specs.Operators as operators;
+ghost use Rattle.cas_print.specs.Page.{followed_by};
+ghost use Rattle.cas_print.specs.Pieces.{Piece};
+ghost use Rattle.cas_print.specs.Expressions as spec;
+
+use crate::page::Page;
+use cas_base::{Kind, NoMemory};
+use cas_lex::{Sign, Word};
+use cas_syntax::{BinaryOperator, Expr, UnaryOperator};
+
+/// Writes the words of a kind.
+pub fn kind(page: &mut Page, kind: Kind) -> Result<(), NoMemory>
+    ensures { (rest : List Piece)
+        → IfOk result (λ _. followed_by page.new rest ≡ followed_by page.old (spec.kind_words kind rest)) }
+{
+    match kind {
+        Kind::I8 => page.word(Word::Char),
+        Kind::U8 => {
+            page.word(Word::Unsigned)?;
+            page.word(Word::Char)
+        }
+        Kind::I16 => page.word(Word::Short),
+        Kind::U16 => {
+            page.word(Word::Unsigned)?;
+            page.word(Word::Short)
+        }
+        Kind::I32 => page.word(Word::Int),
+        Kind::U32 => page.word(Word::Unsigned),
+    }
+}
+
+/// Writes an expression.
+#[cycle(expr)]
+pub fn expr(page: &mut Page, expr: &Expr) -> Result<(), NoMemory>
+    ensures { (rest : List Piece)
+        → IfOk result (λ _. followed_by page.new rest ≡ followed_by page.old (spec.printed_expr (expr_tree expr.now) rest)) }
+{
+    match expr {
+        Expr::Lit(value, kind) => page.number(*value, *kind),
+        Expr::Name(x) => page.name(&x.name),
+        Expr::Index(x, index) => {
+            page.name(&x.name)?;
+            in_brackets(page, index)
+        }
+        Expr::Deref(pointer) => prefixed(page, Sign::Star, pointer),
+        Expr::Addr(x) => {
+            page.sign(Sign::And)?;
+            page.name(&x.name)
+        }
+        Expr::AddrIndex(x, index) => {
+            page.sign(Sign::And)?;
+            page.name(&x.name)?;
+            in_brackets(page, index)
+        }
+        Expr::Unary(operator, inner) => prefixed(page, unary_sign(*operator), inner),
+        Expr::Cast(to, inner) => cast(page, *to, inner),
+        Expr::Binary(operator, left, right) => {
+            operand(page, level(*operator), left)?;
+            page.sign(infix_sign(*operator))?;
+            operand(page, level(*operator) + 1, right)
+        }
+        Expr::And(left, right) => {
+            operand(page, 3, left)?;
+            page.sign(Sign::AndAnd)?;
+            operand(page, 4, right)
+        }
+        Expr::Or(left, right) => {
+            operand(page, 2, left)?;
+            page.sign(Sign::OrOr)?;
+            operand(page, 3, right)
+        }
+        Expr::Cond(condition, first, second) => {
+            operand(page, 2, condition)?;
+            page.sign(Sign::Question)?;
+            self::expr(page, first)?;
+            page.sign(Sign::Colon)?;
+            self::expr(page, second)
+        }
+    }
+}
+
+// Writes an operand behind a sign.
+#[cycle(expr)]
+fn prefixed(page: &mut Page, sign: Sign, inner: &Expr) -> Result<(), NoMemory>
+    ensures { (rest : List Piece)
+        → IfOk result (λ _. followed_by page.new rest
+        ≡ followed_by page.old
+        (spec.prefixed sign (spec.outermost (expr_tree inner.now)) (spec.printed_expr (expr_tree inner.now)) rest)) }
+{
+    page.sign(sign)?;
+    operand(page, 12, inner)
+}
+
+// Writes an operand behind a kind in parentheses.
+#[cycle(expr)]
+fn cast(page: &mut Page, to: Kind, inner: &Expr) -> Result<(), NoMemory>
+    ensures { (rest : List Piece)
+        → IfOk result (λ _. followed_by page.new rest
+        ≡ followed_by page.old
+        (spec.converted to (spec.outermost (expr_tree inner.now)) (spec.printed_expr (expr_tree inner.now)) rest)) }
+{
+    page.sign(Sign::OpenParen)?;
+    kind(page, to)?;
+    page.sign(Sign::CloseParen)?;
+    operand(page, 12, inner)
+}
+
+// Writes an expression at a place that takes operators of this level and tighter ones.
+#[cycle(expr)]
+fn operand(page: &mut Page, asked: u8, inner: &Expr) -> Result<(), NoMemory>
+    ensures { (rest : List Piece)
+        → IfOk result (λ _. followed_by page.new rest
+        ≡ followed_by page.old
+        (spec.at_level asked (spec.outermost (expr_tree inner.now)) (spec.printed_expr (expr_tree inner.now)) rest)) }
+{
+    if outermost(inner) < asked {
+        page.sign(Sign::OpenParen)?;
+        expr(page, inner)?;
+        page.sign(Sign::CloseParen)
+    } else {
+        expr(page, inner)
+    }
+}
+
+/// Writes an expression in brackets.
+#[cycle(expr)]
+pub fn in_brackets(page: &mut Page, index: &Expr) -> Result<(), NoMemory>
+    ensures { (rest : List Piece)
+        → IfOk result (λ _. followed_by page.new rest ≡ followed_by page.old (spec.in_brackets (spec.printed_expr (expr_tree index.now)) rest)) }
+{
+    page.sign(Sign::OpenBracket)?;
+    expr(page, index)?;
+    page.sign(Sign::CloseBracket)
+}
+
+// How tightly the outermost operator of an expression binds.
+fn outermost(expr: &Expr) -> u8
+    ensures { result ≡ spec.outermost (expr_tree expr.now) }
+{
+    match expr {
+        Expr::Binary(operator, _, _) => level(*operator),
+        Expr::And(_, _) => 3,
+        Expr::Or(_, _) => 2,
+        Expr::Cond(_, _, _) => 1,
+        _ => 12,
+    }
+}
+
+// How tightly an operator binds.
+fn level(operator: BinaryOperator) -> u8
+    ensures value { result ≡ operators.level (operators.always_both operator) }
+    ensures within { result < 12 }
+{
+    match operator {
+        BinaryOperator::BitOr => 4,
+        BinaryOperator::BitXor => 5,
+        BinaryOperator::BitAnd => 6,
+        BinaryOperator::Eq | BinaryOperator::Ne => 7,
+        BinaryOperator::Lt | BinaryOperator::Le | BinaryOperator::Gt | BinaryOperator::Ge => 8,
+        BinaryOperator::Shl | BinaryOperator::Shr => 9,
+        BinaryOperator::Add | BinaryOperator::Sub => 10,
+        BinaryOperator::Mul | BinaryOperator::Div | BinaryOperator::Mod => 11,
+    }
+}
+
+fn infix_sign(operator: BinaryOperator) -> Sign
+    ensures { result ≡ operators.infix_sign (operators.always_both operator) }
+{
+    match operator {
+        BinaryOperator::Add => Sign::Plus,
+        BinaryOperator::Sub => Sign::Minus,
+        BinaryOperator::Mul => Sign::Star,
+        BinaryOperator::Div => Sign::Slash,
+        BinaryOperator::Mod => Sign::Percent,
+        BinaryOperator::Shl => Sign::ShiftLeft,
+        BinaryOperator::Shr => Sign::ShiftRight,
+        BinaryOperator::BitAnd => Sign::And,
+        BinaryOperator::BitOr => Sign::Or,
+        BinaryOperator::BitXor => Sign::Caret,
+        BinaryOperator::Eq => Sign::EqualEqual,
+        BinaryOperator::Ne => Sign::NotEqual,
+        BinaryOperator::Lt => Sign::Less,
+        BinaryOperator::Le => Sign::LessEqual,
+        BinaryOperator::Gt => Sign::Greater,
+        BinaryOperator::Ge => Sign::GreaterEqual,
+    }
+}
+
+fn unary_sign(operator: UnaryOperator) -> Sign
+    ensures { result ≡ operators.unary_sign operator }
+{
+    match operator {
+        UnaryOperator::Neg => Sign::Minus,
+        UnaryOperator::Plus => Sign::Plus,
+        UnaryOperator::BitNot => Sign::Tilde,
+        UnaryOperator::Not => Sign::Not,
+    }
+}

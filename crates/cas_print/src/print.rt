@@ -1,0 +1,26 @@
+//! The canonical text of a module.
+
+ghost use Rattle.std.specs.Prelude.{◌≡◌, IfOk, List, ℕ};
+ghost use Rattle.cas_syntax.specs.Alike.{IsAlike};
+ghost use Rattle.cas_syntax.specs.Reading.{IsReadAs};
+ghost use Rattle.cas_syntax.specs.Tree.{ModuleTree, module_tree};
+ghost use Rattle.cas_print.specs.Items.{canonical};
+
+use crate::item::items;
+use crate::page::Page;
+use cas_base::{NoMemory, Text};
+use cas_syntax::Module;
+use std::alloc::Global;
+
+/// The canonical text of a module. Time is linear in that text.
+pub fn print_module(alloc: Global, module: &Module) -> Result<Text, NoMemory>
+    ensures canonical { IfOk result (λ printed. printed ≡ canonical (module_tree «module».now)) }
+
+    // where some text is read as the module, what is printed is read as the same module, but for places
+    ensures read_again { (text : List ℕ) → IsReadAs text (module_tree «module».now)
+        → IfOk result (λ printed. (other : ModuleTree) × IsReadAs printed other × IsAlike other (module_tree «module».now)) }
+{
+    let mut page = Page::new(alloc);
+    items(&mut page, module.items.as_slice())?;
+    Ok(page.into_text())
+}
