@@ -123,22 +123,22 @@ says_allowed ls x (taken {rest = Print ∷ rest} {register = register} s r v k) 
 says_allowed ls x (taken {rest = Spin ∷ rest} s r v k) saying y e = absurd (cc e)
 says_allowed ls x (over h) saying y e = absurd (cc e)
 
-says_kinds : (ls : List RunLabel) (x : Standing) → Holds ls x → (saying : Saying) (y : Standing) → act_at x ≡ Says saying y → AreInKind one_lock (label_of saying)
-says_kinds ls x (free {rest = []} s r k) saying y e = subst (λ v. AreInKind one_lock (label_of v)) (let same : Ends ≡ saying = cc e in same) tt
+says_kinds : (ls : List RunLabel) (x : Standing) → Holds ls x → (saying : Saying) (y : Standing) → act_at x ≡ Says saying y → AreInKind one_lock ls (label_of saying)
+says_kinds ls x (free {rest = []} s r k) saying y e = subst (λ v. AreInKind one_lock ls (label_of v)) (let same : Ends ≡ saying = cc e in same) tt
 says_kinds ls x (free {rest = Take ∷ rest} s r k) saying y e = absurd (cc e)
 says_kinds ls x (free {rest = Give ∷ rest} s r k) saying y e = absurd (cc e)
 says_kinds ls x (free {rest = Load ∷ rest} s r k) saying y e = absurd (cc e)
 says_kinds ls x (free {rest = Store w ∷ rest} s r k) saying y e = absurd (cc e)
-says_kinds ls x (free {rest = Print ∷ rest} {register = register} s r k) saying y e = subst (λ v. AreInKind one_lock (label_of v)) (let same : Prints register ≡ saying = cc e in same) r
+says_kinds ls x (free {rest = Print ∷ rest} {register = register} s r k) saying y e = subst (λ v. AreInKind one_lock ls (label_of v)) (let same : Prints register ≡ saying = cc e in same) r
 says_kinds ls x (free {rest = Spin ∷ rest} s r k) saying y e = absurd (cc e)
-says_kinds ls x (taken {rest = []} s r v k) saying y e = subst (λ v. AreInKind one_lock (label_of v)) (let same : Ends ≡ saying = cc e in same) tt
+says_kinds ls x (taken {rest = []} s r v k) saying y e = subst (λ v. AreInKind one_lock ls (label_of v)) (let same : Ends ≡ saying = cc e in same) tt
 says_kinds ls x (taken {rest = Take ∷ rest} s r v k) saying y e = absurd (cc e)
 says_kinds ls x (taken {rest = Give ∷ rest} {w = w} s r v k) saying y e =
     let same : Unlocks 0 (w ∷ []) ≡ saying = cc e in
-    subst (λ v. AreInKind one_lock (label_of v)) same (v, tt)
+    subst (λ v. AreInKind one_lock ls (label_of v)) same (v, tt)
 says_kinds ls x (taken {rest = Load ∷ rest} s r v k) saying y e = absurd (cc e)
 says_kinds ls x (taken {rest = Store w ∷ rest} s r v k) saying y e = absurd (cc e)
-says_kinds ls x (taken {rest = Print ∷ rest} {register = register} s r v k) saying y e = subst (λ v. AreInKind one_lock (label_of v)) (let same : Prints register ≡ saying = cc e in same) r
+says_kinds ls x (taken {rest = Print ∷ rest} {register = register} s r v k) saying y e = subst (λ v. AreInKind one_lock ls (label_of v)) (let same : Prints register ≡ saying = cc e in same) r
 says_kinds ls x (taken {rest = Spin ∷ rest} s r v k) saying y e = absurd (cc e)
 says_kinds ls x (over h) saying y e = absurd (cc e)
 

@@ -1,7 +1,9 @@
 pub mod Bringing
 pub mod Cells
+pub mod Closed
 pub mod Composing
 pub mod Determined
+pub mod Forwarding
 pub mod Keeping
 pub mod Lifted
 pub mod Lifting

@@ -1,84 +1,117 @@
 -- Forms that are alike do the same.
-use Rattle.std.proofs.Common.{◌≡◌, ℕ, List, ◌∷◌, Option, Some, None, Bool, true, false, if◌then◌else◌, length, slice_get, slice_set, nat_lt, inl, inr, refl, sym, ap, subst, ltb-true, lt-ltb}
+use Rattle.std.proofs.Common.{◌≡◌, ℕ, List, ◌∷◌, Option, Some, None, Bool, true, false, if◌then◌else◌, length, slice_get, slice_set, nat_lt, inl, inr, ⊎_elim, refl, sym, ap, subst, ltb-true, lt-ltb, ◌⊎◌}
 use Rattle.cas_runs.specs.Label.{Share}
 use Rattle.cas_runs.specs.Edge.{Cell, LockWord, SharedWord, TableWord}
+use Rattle.cas_runs.specs.Outside.{IsAmong, first, later}
 use Rattle.cas_runs.specs.Naming.{Home, Value, Pointer, Memory}
 use Rattle.cas_runs.specs.Machine.{Footprint}
 use Rattle.cas_runs.specs.Access.{Words, Accesses, words_in, with_words, place_among, word_in, Doing, has_read, has_written, has_stored, Performed, failed, reads_as, reads_cell, writes_in, writes_cell, number_in, reads_word, writes_word, value_in, loads_as, stores_in, length_of, performed}
-use Rattle.cas_runs.specs.Forms.{FormAlike, reads, writes, loads, stores, looks, last, never, LengthsAlike, MemoryKeeps, PerformAlike}
+use Rattle.cas_runs.specs.Forms.{FormAlike, reads, writes, loads, stores, looks, last, never, LengthsAlike, MemoryKeeps, PerformAlike, FootIn}
 
-module _ {L M : Type 0} (same : Value → Value → Type 0) (same_size : ℕ → ℕ → Type 0) (same_last : L → M → Type 0) (alike : Memory → Memory → Type 0) (keeps : MemoryKeeps same same_size alike) (cells : List Cell) (words : Words) where
-  abbrev pub Both : Performed L → Performed M → Type 0
-  Both p q = PerformAlike alike same_last p q
+pub foot_same : (f : Footprint) → FootIn f f
+foot_same f = record { writes = λ w h. h; reads = λ w h. inl h }
 
-  -- what both have done so far
-  pub record DoingAlike (d e : Doing) : Type 0 where
-    pub share : d.holding.share ≡ e.holding.share
-    pub memory : alike d.holding.memory e.holding.memory
-    pub footprint : d.footprint ≡ e.footprint
+pub foot_both : (f g k : Footprint) → FootIn f g → FootIn g k → FootIn f k
+foot_both f g k h j = record { writes = λ w m. j.writes w (h.writes w m); reads = λ w m. ⊎_elim (j.reads w) (λ v. inr (j.writes w v)) (h.reads w m) }
 
-  both_read : (d e : Doing) → DoingAlike d e → (word : ℕ) → DoingAlike (has_read d word) (has_read e word)
-  both_read d e h word = record { share = h.share; memory = h.memory; footprint = ap (λ (f : Footprint). record { reads = word ∷ f.reads; writes = f.writes }) h.footprint }
+-- what both have done so far
+pub record DoingAlike (alike : Memory → Memory → Type 0) (d e : Doing) : Type 0 where
+  pub share : d.holding.share ≡ e.holding.share
+  pub memory : alike d.holding.memory e.holding.memory
+  pub footprint : FootIn d.footprint e.footprint
 
-  both_written : (d e : Doing) → DoingAlike d e → (word lock : ℕ) (ws : List ℕ) → DoingAlike (has_written d word lock ws) (has_written e word lock ws)
-  both_written d e h word lock ws = record { share = ap (λ (s : Share). with_words s lock ws) h.share; memory = h.memory; footprint = ap (λ (f : Footprint). record { reads = f.reads; writes = word ∷ f.writes }) h.footprint }
+among_more : (w v : ℕ) (xs ys : List ℕ) → (IsAmong v xs → IsAmong v ys) → IsAmong v (w ∷ xs) → IsAmong v (w ∷ ys)
+among_more w v xs ys h m = by m h
+  where
+    by : {u : ℕ} → IsAmong u (w ∷ xs) → (IsAmong u xs → IsAmong u ys) → IsAmong u (w ∷ ys)
+    by first k = first
+    by (later n) k = later (k n)
+
+reads_more : (w v : ℕ) (xs ys zs : List ℕ) → (IsAmong v xs → IsAmong v ys ⊎ IsAmong v zs) → IsAmong v (w ∷ xs) → IsAmong v (w ∷ ys) ⊎ IsAmong v zs
+reads_more w v xs ys zs h m = by m h
+  where
+    by : {u : ℕ} → IsAmong u (w ∷ xs) → (IsAmong u xs → IsAmong u ys ⊎ IsAmong u zs) → IsAmong u (w ∷ ys) ⊎ IsAmong u zs
+    by first k = inl first
+    by (later n) k = ⊎_elim (λ u. inl (later u)) inr (k n)
+
+-- the accesses of both forms, by cases, where a goal holds once the source's step fails
+
+module _ {L M : Type 0} (same : Value → Value → Type 0) (same_size : ℕ → ℕ → Type 0) (alike : Memory → Memory → Type 0) (keeps : MemoryKeeps same same_size alike) (cells : List Cell) (words : Words) (Both : Performed L → Performed M → Type 0) (bad : (p : Performed L) (q : Performed M) → q.last ≡ None → Both p q) where
+  pub both_read : (d e : Doing) → DoingAlike alike d e → (word : ℕ) → DoingAlike alike (has_read d word) (has_read e word)
+  both_read d e h word = record { share = h.share; memory = h.memory; footprint = record { writes = h.footprint.writes; reads = λ v m. reads_more word v d.footprint.reads e.footprint.reads e.footprint.writes (h.footprint.reads v) m } }
+
+  both_written : (d e : Doing) → DoingAlike alike d e → (word lock : ℕ) (ws : List ℕ) → DoingAlike alike (has_written d word lock ws) (has_written e word lock ws)
+  both_written d e h word lock ws = record {
+    share = ap (λ (s : Share). with_words s lock ws) h.share;
+    memory = h.memory;
+    footprint = record { writes = λ v m. among_more word v d.footprint.writes e.footprint.writes (h.footprint.writes v) m; reads = λ v m. ⊎_elim inl (λ u. inr (later u)) (h.footprint.reads v m) };
+  }
 
   -- a word that is read is read in both
-  reads_too : (d e : Doing) → DoingAlike d e → (go : ℕ → Doing → Performed L) (go' : ℕ → Doing → Performed M) → ((v : ℕ) (d' e' : Doing) → DoingAlike d' e' → Both (go v d') (go' v e')) → (o : Option Cell) (word : ℕ) → Both (reads_cell cells o word d go) (reads_cell cells o word e go')
-  reads_too d e h go go' more None word = inl refl
-  reads_too d e h go go' more (Some LockWord) word = inl refl
+  pub reads_too : (d e : Doing) → DoingAlike alike d e → (go : ℕ → Doing → Performed L) (go' : ℕ → Doing → Performed M) → ((v : ℕ) (d' e' : Doing) → DoingAlike alike d' e' → Both (go v d') (go' v e')) → (o : Option Cell) (word : ℕ) → Both (reads_cell cells o word d go) (reads_cell cells o word e go')
+  reads_too d e h go go' more None word = bad _ _ refl
+  reads_too d e h go go' more (Some LockWord) word = bad _ _ refl
   reads_too d e h go go' more (Some (TableWord value)) word = more value d e h
-  reads_too d e h go go' more (Some (SharedWord kind None initial)) word = inl refl
+  reads_too d e h go go' more (Some (SharedWord kind None initial)) word = bad _ _ refl
   reads_too d e h go go' more (Some (SharedWord kind (Some guard) initial)) word =
       subst (λ (s : Share). Both (reads_as (word_in (words_in s guard) (place_among cells guard word)) word d go) (reads_as (word_in (words_in e.holding.share guard) (place_among cells guard word)) word e go')) (sym h.share)
       (by (word_in (words_in e.holding.share guard) (place_among cells guard word)))
     where
       by : (o : Option ℕ) → Both (reads_as o word d go) (reads_as o word e go')
-      by None = inl refl
+      by None = bad _ _ refl
       by (Some v) = more v (has_read d word) (has_read e word) (both_read d e h word)
 
-  writes_too : (d e : Doing) → DoingAlike d e → (go : Doing → Performed L) (go' : Doing → Performed M) → ((d' e' : Doing) → DoingAlike d' e' → Both (go d') (go' e')) → (o : Option Cell) (word value : ℕ) → Both (writes_cell cells o word value d go) (writes_cell cells o word value e go')
-  writes_too d e h go go' more None word value = inl refl
-  writes_too d e h go go' more (Some LockWord) word value = inl refl
-  writes_too d e h go go' more (Some (TableWord v)) word value = inl refl
-  writes_too d e h go go' more (Some (SharedWord kind None initial)) word value = inl refl
+  pub writes_too : (d e : Doing) → DoingAlike alike d e → (go : Doing → Performed L) (go' : Doing → Performed M) → ((d' e' : Doing) → DoingAlike alike d' e' → Both (go d') (go' e')) → (o : Option Cell) (word value : ℕ) → Both (writes_cell cells o word value d go) (writes_cell cells o word value e go')
+  writes_too d e h go go' more None word value = bad _ _ refl
+  writes_too d e h go go' more (Some LockWord) word value = bad _ _ refl
+  writes_too d e h go go' more (Some (TableWord v)) word value = bad _ _ refl
+  writes_too d e h go go' more (Some (SharedWord kind None initial)) word value = bad _ _ refl
   writes_too d e h go go' more (Some (SharedWord kind (Some guard) initial)) word value =
       subst (λ (s : Share). Both (writes_in (words_in s guard) (place_among cells guard word) guard word value d go) (writes_in (words_in e.holding.share guard) (place_among cells guard word) guard word value e go')) (sym h.share)
       (by (words_in e.holding.share guard))
     where
       either : (ws : List ℕ) (t : Bool) → Both (if t then go (has_written d word guard (slice_set ws (place_among cells guard word) value)) else failed d) (if t then go' (has_written e word guard (slice_set ws (place_among cells guard word) value)) else failed e)
       either ws true = more _ _ (both_written d e h word guard (slice_set ws (place_among cells guard word) value))
-      either ws false = inl refl
+      either ws false = bad _ _ refl
 
       by : (o : Option (List ℕ)) → Both (writes_in o (place_among cells guard word) guard word value d go) (writes_in o (place_among cells guard word) guard word value e go')
-      by None = inl refl
+      by None = bad _ _ refl
       by (Some ws) = either ws (nat_lt (place_among cells guard word) (length ws))
 
-  loads_too : (d e : Doing) → DoingAlike d e → (home home' : Home) (at at' : ℕ) → same (Pointer home at) (Pointer home' at') → (go : Value → Performed L) (go' : Value → Performed M) → ((v w : Value) → same v w → Both (go v) (go' w)) → (o : Option Value) → value_in (e.holding.memory home') at' ≡ o → Both (loads_as (value_in (d.holding.memory home) at) d go) (loads_as o e go')
-  loads_too d e h home home' at at' p go go' more None g = inl refl
+  pub loads_too : (d e : Doing) → DoingAlike alike d e → (home home' : Home) (at at' : ℕ) → same (Pointer home at) (Pointer home' at') → (go : Value → Performed L) (go' : Value → Performed M) → ((v w : Value) → same v w → Both (go v) (go' w)) → (o : Option Value) → value_in (e.holding.memory home') at' ≡ o → Both (loads_as (value_in (d.holding.memory home) at) d go) (loads_as o e go')
+  loads_too d e h home home' at at' p go go' more None g = bad _ _ refl
   loads_too d e h home home' at at' p go go' more (Some w) g =
       let v = keeps.loads d.holding.memory e.holding.memory h.memory home home' at at' p w g in
       subst (λ (o : Option Value). Both (loads_as o d go) (go' w)) (sym v.1) (more v.0 w v.2)
 
-  stores_too : (d e : Doing) → DoingAlike d e → (home home' : Home) (at at' : ℕ) → same (Pointer home at) (Pointer home' at') → (v w : Value) → same v w → (go : Doing → Performed L) (go' : Doing → Performed M) → ((d' e' : Doing) → DoingAlike d' e' → Both (go d') (go' e')) → (o : Option (List Value)) → e.holding.memory home' ≡ o → Both (stores_in (d.holding.memory home) home at v d go) (stores_in o home' at' w e go')
-  stores_too d e h home home' at at' p v w s go go' more None g = inl refl
+  pub stores_too : (d e : Doing) → DoingAlike alike d e → (home home' : Home) (at at' : ℕ) → same (Pointer home at) (Pointer home' at') → (v w : Value) → same v w → (go : Doing → Performed L) (go' : Doing → Performed M) → ((d' e' : Doing) → DoingAlike alike d' e' → Both (go d') (go' e')) → (o : Option (List Value)) → e.holding.memory home' ≡ o → Both (stores_in (d.holding.memory home) home at v d go) (stores_in o home' at' w e go')
+  stores_too d e h home home' at at' p v w s go go' more None g = bad _ _ refl
   stores_too d e h home home' at at' p v w s go go' more (Some ws) g = by (nat_lt at' (length ws)) refl
     where
       by : (t : Bool) → nat_lt at' (length ws) ≡ t → Both (stores_in (d.holding.memory home) home at v d go) (if t then go' (has_stored e home' (slice_set ws at' w)) else failed e)
-      by false i = inl refl
+      by false i = bad _ _ refl
       by true i =
           let stored = keeps.stores d.holding.memory e.holding.memory h.memory home home' at at' p v w s ws g (ltb-true at' (length ws) i) in
           subst (λ (o : Option (List Value)). Both (stores_in o home at v d go) (go' (has_stored e home' (slice_set ws at' w)))) (sym stored.there)
           (subst (λ (t : Bool). Both (if t then go (has_stored d home (slice_set stored.block at v)) else failed d) (go' (has_stored e home' (slice_set ws at' w)))) (sym (lt-ltb at (length stored.block) stored.within))
           (more _ _ (record { share = h.share; memory = stored.after; footprint = h.footprint })))
 
-  words_read : (d e : Doing) → DoingAlike d e → (go : ℕ → Doing → Performed L) (go' : ℕ → Doing → Performed M) → ((v : ℕ) (d' e' : Doing) → DoingAlike d' e' → Both (go v d') (go' v e')) → (o : Option ℕ) → Both (reads_word cells o d go) (reads_word cells o e go')
-  words_read d e h go go' more None = inl refl
+  pub words_read : (d e : Doing) → DoingAlike alike d e → (go : ℕ → Doing → Performed L) (go' : ℕ → Doing → Performed M) → ((v : ℕ) (d' e' : Doing) → DoingAlike alike d' e' → Both (go v d') (go' v e')) → (o : Option ℕ) → Both (reads_word cells o d go) (reads_word cells o e go')
+  words_read d e h go go' more None = bad _ _ refl
   words_read d e h go go' more (Some word) = reads_too d e h go go' more (slice_get cells word) word
 
-  words_written : (d e : Doing) → DoingAlike d e → (go : Doing → Performed L) (go' : Doing → Performed M) → ((d' e' : Doing) → DoingAlike d' e' → Both (go d') (go' e')) → (value : ℕ) (o : Option ℕ) → Both (writes_word cells o value d go) (writes_word cells o value e go')
-  words_written d e h go go' more value None = inl refl
+  pub words_written : (d e : Doing) → DoingAlike alike d e → (go : Doing → Performed L) (go' : Doing → Performed M) → ((d' e' : Doing) → DoingAlike alike d' e' → Both (go d') (go' e')) → (value : ℕ) (o : Option ℕ) → Both (writes_word cells o value d go) (writes_word cells o value e go')
+  words_written d e h go go' more value None = bad _ _ refl
   words_written d e h go go' more value (Some word) = writes_too d e h go go' more (slice_get cells word) word value
+
+-- forms that are alike
+
+module _ {L M : Type 0} (same : Value → Value → Type 0) (same_size : ℕ → ℕ → Type 0) (same_last : L → M → Type 0) (alike : Memory → Memory → Type 0) (keeps : MemoryKeeps same same_size alike) (cells : List Cell) (words : Words) where
+  abbrev pub Both : Performed L → Performed M → Type 0
+  Both p q = PerformAlike alike same_last p q
+
+  bad : (p : Performed L) (q : Performed M) → q.last ≡ None → Both p q
+  bad p q e = inl e
 
   looked : (next : Option ℕ → Accesses L) (next' : Option ℕ → Accesses M) (o o' : Option ℕ) → FormAlike same same_size same_last (next None) (next' None) → ((n m : ℕ) → same_size n m → FormAlike same same_size same_last (next (Some n)) (next' (Some m))) → LengthsAlike same_size o o' → FormAlike same same_size same_last (next o) (next' o')
   looked next next' None None none some h = none
@@ -86,11 +119,11 @@ module _ {L M : Type 0} (same : Value → Value → Type 0) (same_size : ℕ →
   looked next next' (Some n) None none some h = absurd h
   looked next next' (Some n) (Some m) none some h = some n m h
 
-  pub performed_alike : {x : Accesses L} {y : Accesses M} → FormAlike same same_size same_last x y → (d e : Doing) → DoingAlike d e → Both (performed cells words x d) (performed cells words y e)
-  performed_alike (reads {global = global} {offset = offset} f) d e h = words_read d e h _ _ (λ v d' e' h'. performed_alike (f v) d' e' h') (number_in (words global) offset)
-  performed_alike (writes {global = global} {offset = offset} {word = word} f) d e h = words_written d e h _ _ (λ d' e' h'. performed_alike f d' e' h') word (number_in (words global) offset)
-  performed_alike (loads {home = home} {home' = home'} {at = at} {at' = at'} p f) d e h = loads_too d e h home home' at at' p _ _ (λ v w s. performed_alike (f v w s) d e h) (value_in (e.holding.memory home') at') refl
-  performed_alike (stores {home = home} {home' = home'} {at = at} {at' = at'} {v = v} {w = w} p s f) d e h = stores_too d e h home home' at at' p v w s _ _ (λ d' e' h'. performed_alike f d' e' h') (e.holding.memory home') refl
+  pub performed_alike : {x : Accesses L} {y : Accesses M} → FormAlike same same_size same_last x y → (d e : Doing) → DoingAlike alike d e → Both (performed cells words x d) (performed cells words y e)
+  performed_alike (reads {global = global} {offset = offset} f) d e h = words_read same same_size alike keeps cells words Both bad d e h _ _ (λ v d' e' h'. performed_alike (f v) d' e' h') (number_in (words global) offset)
+  performed_alike (writes {global = global} {offset = offset} {word = word} f) d e h = words_written same same_size alike keeps cells words Both bad d e h _ _ (λ d' e' h'. performed_alike f d' e' h') word (number_in (words global) offset)
+  performed_alike (loads {home = home} {home' = home'} {at = at} {at' = at'} p f) d e h = loads_too same same_size alike keeps cells words Both bad d e h home home' at at' p _ _ (λ v w s. performed_alike (f v w s) d e h) (value_in (e.holding.memory home') at') refl
+  performed_alike (stores {home = home} {home' = home'} {at = at} {at' = at'} {v = v} {w = w} p s f) d e h = stores_too same same_size alike keeps cells words Both bad d e h home home' at at' p v w s _ _ (λ d' e' h'. performed_alike f d' e' h') (e.holding.memory home') refl
   performed_alike (looks {home = home} {home' = home'} at at' {next = next} {next' = next'} p none some) d e h =
       by (length_of (d.holding.memory home)) (length_of (e.holding.memory home')) (λ a. performed_alike none d e h) (λ n m s. performed_alike (some n m s) d e h) (keeps.lengths d.holding.memory e.holding.memory h.memory home home' at at' p)
     where

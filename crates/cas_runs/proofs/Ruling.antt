@@ -7,10 +7,12 @@ use Rattle.cas_runs.specs.Naming.{Value, Number, ArePlaced, Part, parts_at, Nami
 use Rattle.cas_runs.specs.Machine.{Act, Quiet, Says, Crosses, Locks, Hears, Bad, Stops, label_of, Machine, CanCross, Leads, Block, Run, starts as begins_run, quiet, labelled}
 use Rattle.cas_runs.specs.Rules.{and_lock, locks_after, IsShared, Leaves, LeavesAll, Carries, IsReturn, MaySay, MayCross, HasEnded, MayHalt, Proceeds, KeepsRules}
 use Rattle.cas_runs.specs.Rules as rules
+use Rattle.cas_runs.specs.Refines.{Refines}
 use Rattle.cas_runs.specs.Bounds.{IsTariff}
 use Rattle.cas_runs.specs.Access.{Stretch, Holding, words_in, with_lock, without_lock}
 use Rattle.cas_runs.specs.Unit.{Setting, AreLaidOut, IsLayout, lock_at, lock_number, guard_of}
 use Rattle.cas_runs.specs.Calls.{Last, Goes, Takes, Gives, Puts, Calls, Tails, Returns, Activations, Scene, Frame, Waits, Outer, Past, Thread, Away, Runs, Leaves as LeavesNow, Over, Wrong, nothing_touched, same_share, if_shown, crosses_as, can_cross, with_naming, to_outside, calls_by, leaves_by, crosses_if, leaves, goes_back, returns, resumes, comes_back, with_share, takes_lock, takes, gives_lock, gives, find, with_own, without_own, one_begun, calls_in, enters_at, enters, step_at, calls_out, calls, acts, hears, machine, no_past, no_holding, outside_first, starts, language}
+use Rattle.cas_runs.proofs.Composing.{refines_itself}
 use Rattle.cas_runs.proofs.Tests.{objects_from, share_from, same_name_self}
 use Rattle.cas_runs.proofs.Showing.{some_crossing}
 use Rattle.cas_runs.proofs.Lifting.{step_costs, waiting_costs}
@@ -472,3 +474,9 @@ module _ {F A : Type 0} (l : Activations F A) (setting : Setting) (prices : IsTa
       let scene : Scene F = record { functions = fs; within = fs; crosses = false } in
       let first = starts l (find l fs entry) thread in
       thread_rules l setting scene first prices laid laid (find l fs entry) thread (λ f e. find_laid l setting scene first prices laid laid fs laid entry f e) refl
+
+  -- a unit refines itself
+  pub unit_itself : (fs : List F) → IsLayout (language l) fs setting.layout → Refines setting.edge ((language l).unit setting fs) ((language l).unit setting fs)
+  unit_itself fs laid =
+      let rules = unit_rules fs laid in
+      refines_itself setting.edge ((language l).unit setting fs) rules.proceeds

@@ -7,37 +7,39 @@ use Rattle.cas_runs.specs.Machine.{Footprint, Block, and_step}
 use Rattle.cas_runs.specs.Refines.{Within, Subsequence}
 use Rattle.cas_runs.specs.Bounds.{first_price}
 use Rattle.cas_runs.specs.Access.{Holding}
-use Rattle.cas_runs.specs.Forms.{MemoryKeeps, BothPerform, PerformAlike}
+use Rattle.cas_runs.specs.Forms.{MemoryKeeps, BothPerform, PerformAlike, FootIn}
 use Rattle.cas_runs.specs.Calls.{Last, Goes, Takes, Gives, Puts, Calls, Tails, Returns, Past, with_share, with_own, one_begun, called, nothing_touched}
 use Rattle.cas_runs.specs.Passing.{Relation, t_step, s_step, t_on, s_on, Going, matched, fails, goes, Ready, ReadyIf, TailAlike, tail, meets, fails_first, FailsSoon, fails_now, Does, FineAt, Passes, Keeps}
 use Rattle.cas_runs.specs.Stepwise.{match_at, AtIf, LastAt, goes_at, takes_at, gives_at, puts_at, calls_at, tails_at, returns_at, Stepwise, HoldsPlainly}
 use Rattle.cas_runs.proofs.Refining.{among_front}
 use Rattle.cas_runs.proofs.Composing.{sub_same}
-use Rattle.cas_runs.proofs.Performing.{performed_alike}
+use Rattle.cas_runs.proofs.Performing.{foot_same, performed_alike}
 
-among_back : (w : ℕ) (xs ys : List ℕ) → IsAmong w ys → IsAmong w (xs ++ ys)
+pub among_back : (w : ℕ) (xs ys : List ℕ) → IsAmong w ys → IsAmong w (xs ++ ys)
 among_back w [] ys h = h
 among_back w (x ∷ xs) ys h = later (among_back w xs ys h)
 
-among_either : (w : ℕ) (xs ys : List ℕ) → IsAmong w (xs ++ ys) → IsAmong w xs ⊎ IsAmong w ys
+pub among_either : (w : ℕ) (xs ys : List ℕ) → IsAmong w (xs ++ ys) → IsAmong w xs ⊎ IsAmong w ys
 among_either w [] ys h = inr h
 among_either w (x ∷ xs) ys first = inl first
 among_either w (x ∷ xs) ys (later h) = ⊎_elim (λ l. inl (later l)) inr (among_either w xs ys h)
 
 -- blocks that stay within with one step more
-pub within_step : (b c : Block) (m n : ℕ) (f g : Footprint) → Within b c → m ≤ n → f ≡ g → Within (and_step b m f) (and_step c n g)
-within_step b c m n f g w le e = subst (λ v. Within (and_step b m f) (and_step c n v)) e (record {
+pub within_step : (b c : Block) (m n : ℕ) (f g : Footprint) → Within b c → m ≤ n → FootIn f g → Within (and_step b m f) (and_step c n g)
+within_step b c m n f g w le e = record {
   price = let old = w.price in omega (arith, old, le);
-  writes = λ k h. ⊎_elim (λ l. among_front k c.writes f.writes (w.writes k l)) (λ l. among_back k c.writes f.writes l) (among_either k b.writes f.writes h);
-  reads = λ k h. ⊎_elim (λ l. ⊎_elim (λ u. inl (among_front k c.reads f.reads u)) (λ u. inr (among_front k c.writes f.writes u)) (w.reads k l)) (λ l. inl (among_back k c.reads f.reads l)) (among_either k b.reads f.reads h);
-})
+  writes = λ k h. ⊎_elim (λ l. among_front k c.writes g.writes (w.writes k l)) (λ l. among_back k c.writes g.writes (e.writes k l)) (among_either k b.writes f.writes h);
+  reads = λ k h. ⊎_elim
+      (λ l. ⊎_elim (λ u. inl (among_front k c.reads g.reads u)) (λ u. inr (among_front k c.writes g.writes u)) (w.reads k l))
+      (λ l. ⊎_elim (λ u. inl (among_back k c.reads g.reads u)) (λ u. inr (among_back k c.writes g.writes u)) (e.reads k l)) (among_either k b.reads f.reads h);
+}
 
 module _ {F A G B : Type 0} (r : Relation F A G B) (At : A → B → Type 0) (same_size : ℕ → ℕ → Type 0) (memory_alike : Memory → Memory → Type 0) (loads : MemoryKeeps r.same same_size memory_alike) (plain : HoldsPlainly r memory_alike) (is : Stepwise r At same_size) (keeps : Keeps r)
     (to_match : (n : ℕ) (x : A) (h : Holding) (b : Block) (y : B) (k : Holding) (c : Block) → match_at At n x h b y k c → r.match n x h b y k c) (from_match : (n : ℕ) (x : A) (h : Holding) (b : Block) (y : B) (k : Holding) (c : Block) → r.match n x h b y k c → match_at At n x h b y k c) where
   -- both steps
   both_step : (p q : Past) (h k : Holding) → r.alike p h q k → (x : A) (y : B) → At x y → PerformAlike memory_alike (LastAt r At) (t_step r x h) (s_step r y k)
   both_step p q h k a x y at = performed_alike r.same same_size (LastAt r At) memory_alike loads r.setting.edge.cells r.setting.words (is.forms x y at) (record { holding = h; footprint = nothing_touched }) (record { holding = k; footprint = nothing_touched })
-      (record { share = plain.shares p q h k a; memory = plain.memories p q h k a; footprint = refl })
+      (record { share = plain.shares p q h k a; memory = plain.memories p q h k a; footprint = foot_same nothing_touched })
 
   reach : (n : ℕ) (p q : Past) (h0 k0 h k : Holding) → r.alike p h q k → (x : A) (y : B) → At x y → (b c : Block) → Within b c → (e m : ℕ) → e ≤ m → Going r n p q h0 k0 x h (t_on r b x e h) y k (s_on r c y m k)
   reach n p q h0 k0 h k a x y at b c w e m le = ⊎_elim (λ bad. fails bad)

@@ -55,6 +55,7 @@ abbrev pub with_words : Share → ℕ → List ℕ → Share
 with_words [] lock words = []
 with_words (h ∷ hs) lock words = if nat_eq h.lock lock then record { lock = lock; words = words } ∷ hs else h ∷ with_words hs lock words
 
+-- the lock guards the word
 abbrev pub is_guarded_by : ℕ → Cell → Bool
 is_guarded_by lock (SharedWord kind (Some guard) initial) = nat_eq guard lock
 is_guarded_by lock (SharedWord kind None initial) = false
@@ -67,6 +68,7 @@ place_among [] lock word = 0
 place_among (c ∷ cs) lock zero = 0
 place_among (c ∷ cs) lock (suc word) = if is_guarded_by lock c then place_among cs lock word + 1 else place_among cs lock word
 
+-- the word at this place
 abbrev pub word_in : Option (List ℕ) → (place : ℕ) → Option ℕ
 word_in None place = None
 word_in (Some words) place = slice_get words place
@@ -76,12 +78,15 @@ pub record Doing : Type 0 where
   pub holding : Holding
   pub footprint : Footprint
 
+-- a word was read
 abbrev pub has_read : Doing → (word : ℕ) → Doing
 has_read d word = record { holding = d.holding; footprint = record { reads = word ∷ d.footprint.reads; writes = d.footprint.writes } }
 
+-- a word was written: these are the lock's words now
 abbrev pub has_written : Doing → (word lock : ℕ) → List ℕ → Doing
 has_written d word lock words = record { holding = record { share = with_words d.holding.share lock words; memory = d.holding.memory }; footprint = record { reads = d.footprint.reads; writes = word ∷ d.footprint.writes } }
 
+-- a block was stored into: this is the block now
 abbrev pub has_stored : Doing → Home → List Value → Doing
 has_stored d home block = record { holding = record { share = d.holding.share; memory = with_block d.holding.memory home (Some block) }; footprint = d.footprint }
 
@@ -91,6 +96,7 @@ pub record Performed (L : Type 0) : Type 0 where
   pub holding : Holding
   pub footprint : Footprint
 
+-- the accesses are made, and this is done at last
 abbrev pub performs : {L : Type 0} → L → Doing → Performed L
 performs last d = record { last = Some last; holding = d.holding; footprint = d.footprint }
 
@@ -98,6 +104,7 @@ performs last d = record { last = Some last; holding = d.holding; footprint = d.
 abbrev pub failed : {L : Type 0} → Doing → Performed L
 failed d = record { last = None; holding = d.holding; footprint = d.footprint }
 
+-- the word is read, where it is there
 abbrev pub reads_as : {L : Type 0} → Option ℕ → (word : ℕ) → Doing → (ℕ → Doing → Performed L) → Performed L
 reads_as None word d go = failed d
 reads_as (Some v) word d go = go v (has_read d word)
@@ -110,6 +117,7 @@ reads_cell cells (Some (TableWord value)) word d go = go value d
 reads_cell cells (Some LockWord) word d go = failed d
 reads_cell cells None word d go = failed d
 
+-- the word is written, where its lock is in the share
 abbrev pub writes_in : {L : Type 0} → Option (List ℕ) → (place lock word value : ℕ) → Doing → (Doing → Performed L) → Performed L
 writes_in None place lock word value d go = failed d
 writes_in (Some words) place lock word value d go = if nat_lt place (length words) then go (has_written d word lock (slice_set words place value)) else failed d
@@ -127,26 +135,32 @@ abbrev pub number_in : Option Stretch → (offset : ℕ) → Option ℕ
 number_in None offset = None
 number_in (Some s) offset = if nat_lt offset s.size then Some (s.first + offset) else None
 
+-- the same by the word's number, if there is one
 abbrev pub reads_word : {L : Type 0} → List Cell → Option ℕ → Doing → (ℕ → Doing → Performed L) → Performed L
 reads_word cells None d go = failed d
 reads_word cells (Some word) d go = reads_cell cells (slice_get cells word) word d go
 
+-- the same by the word's number, if there is one
 abbrev pub writes_word : {L : Type 0} → List Cell → Option ℕ → (value : ℕ) → Doing → (Doing → Performed L) → Performed L
 writes_word cells None value d go = failed d
 writes_word cells (Some word) value d go = writes_cell cells (slice_get cells word) word value d go
 
+-- the word of a block at this place
 abbrev pub value_in : Option (List Value) → (place : ℕ) → Option Value
 value_in None place = None
 value_in (Some block) place = slice_get block place
 
+-- the value is loaded, where it is there
 abbrev pub loads_as : {L : Type 0} → Option Value → Doing → (Value → Performed L) → Performed L
 loads_as None d go = failed d
 loads_as (Some v) d go = go v
 
+-- the value is stored, where the place is in the block
 abbrev pub stores_in : {L : Type 0} → Option (List Value) → Home → (place : ℕ) → Value → Doing → (Doing → Performed L) → Performed L
 stores_in None home place value d go = failed d
 stores_in (Some block) home place value d go = if nat_lt place (length block) then go (has_stored d home (slice_set block place value)) else failed d
 
+-- how many words a block has
 abbrev pub length_of : Option (List Value) → Option ℕ
 length_of None = None
 length_of (Some block) = Some (length block)

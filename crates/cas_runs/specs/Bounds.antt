@@ -18,6 +18,7 @@ pub record IsPrice (n : ℕ) : Type 0 where
   pub least : 1 ≤ n
   pub most : n ≤ 1000
 
+-- each is one
 abbrev pub ArePrices : List ℕ → Type 0
 ArePrices [] = Unit {0}
 ArePrices (n ∷ ns) = IsPrice n × ArePrices ns
@@ -30,6 +31,7 @@ IsEntryPrice n = n ≤ 1000
 abbrev pub entry_price : (constant block names parameters : ℕ) → ℕ
 entry_price constant block names parameters = constant * (block + names + parameters + 8)
 
+-- the sum
 abbrev pub total : List ℕ → ℕ
 total [] = 0
 total (n ∷ ns) = n + total ns
@@ -44,6 +46,7 @@ pub data Tariff (F A : Type 0) : Type 0 where
   BySize : (nodes cells : F → ℕ) → Tariff F A
   ByForms : (form : A → ℕ) (operands : A → List ℕ) (entry : ℕ) (names parameters : F → ℕ) (forms : F → List ℕ) → Tariff F A
 
+-- the greater of the two
 abbrev pub greater : ℕ → ℕ → ℕ
 greater m n = if nat_lt m n then n else m
 
@@ -67,6 +70,7 @@ abbrev pub waiting_price : {F A : Type 0} → Tariff F A → List F → ℕ
 waiting_price (BySize nodes cells) fs = source_price (most_of nodes fs) (most_of cells fs)
 waiting_price (ByForms form operands entry names parameters forms) fs = 1
 
+-- the weight of a function in the language
 abbrev pub weight_of : {F A : Type 0} → Tariff F A → F → ℕ
 weight_of (BySize nodes cells) f = code_bound (nodes f)
 weight_of (ByForms form operands entry names parameters forms) f = weight (forms f) entry (names f) (parameters f)

@@ -42,6 +42,7 @@ pub record Past : Type 0 where
   pub naming : Naming
   pub begun : ℕ
 
+-- where a thread stands
 pub data Thread (F A : Type 0) : Type 0 where
   -- the outside runs
   Away : (stack : List (Frame F A)) (past : Past) (holding : Holding) → Thread F A
@@ -55,6 +56,7 @@ pub data Thread (F A : Type 0) : Type 0 where
 
 -- The memory.
 
+-- so many words 0
 abbrev pub zeros : ℕ → List Value
 zeros zero = []
 zeros (suc n) = Number 0 ∷ zeros n
@@ -64,15 +66,17 @@ abbrev pub set_blocks : (ℕ → Option (List Value)) → Memory → NameBytes �
 set_blocks words memory name serial k [] = memory
 set_blocks words memory name serial k (size ∷ sizes) = set_blocks words (with_block memory (Own name serial k) (words size)) name serial (k + 1) sizes
 
--- each word of a block is 0 where the activation begins, and when it has returned the block is no more
+-- each word of a block is 0 where the activation begins
 abbrev pub fresh : ℕ → Option (List Value)
 fresh size = Some (zeros size)
 
+-- and when it has returned it is no more
 abbrev pub gone : ℕ → Option (List Value)
 gone size = None
 
 -- What crosses.
 
+-- the shares are equal
 abbrev pub same_words : List ℕ → List ℕ → Bool
 same_words [] [] = true
 same_words [] (w ∷ ws) = false
@@ -85,6 +89,7 @@ same_share [] (h ∷ hs) = false
 same_share (k ∷ ks) [] = false
 same_share (k ∷ ks) (h ∷ hs) = if nat_eq k.lock h.lock then (if same_words k.words h.words then same_share ks hs else false) else false
 
+-- no shared word
 abbrev pub nothing_touched : Footprint
 nothing_touched = record { reads = []; writes = [] }
 
@@ -100,18 +105,22 @@ crosses_as layout values past h crossing = if same_share h.share crossing.share 
 abbrev pub can_cross : Layout → Past → List Value → Bool
 can_cross layout past values = can_show_all (parts_at layout past.begun) past.naming values
 
+-- the past with another naming
 abbrev pub with_naming : Past → Naming → Past
 with_naming past ns = record { naming = ns; begun = past.begun }
 
 module _ {F A : Type 0} where
+  -- the outside runs, with this naming
   abbrev pub to_outside : List (Frame F A) → Past → Holding → Option Naming → Option (Thread F A)
   to_outside stack past h None = None
   to_outside stack past h (Some ns) = Some (Away stack (with_naming past ns) h)
 
+  -- by the label of a call
   abbrev pub calls_by : Layout → NameBytes → List Value → List (Frame F A) → Past → Holding → RunLabel → Option (Thread F A)
   calls_by layout function values stack past h (Call f crossing) = if same_name f function then to_outside stack past h (crosses_as layout values past h crossing) else None
   calls_by layout function values stack past h _ = None
 
+  -- by the label of a return
   abbrev pub leaves_by : Layout → List Value → List (Frame F A) → Past → Holding → RunLabel → Option (Thread F A)
   leaves_by layout values stack past h (Leave crossing) = to_outside stack past h (crosses_as layout values past h crossing)
   leaves_by layout values stack past h _ = None
@@ -121,9 +130,11 @@ module _ {F A : Type 0} where
   crosses_if true next = Crosses next
   crosses_if false next = Bad
 
+  -- a return to the outside
   abbrev pub leaves : Layout → List Value → List (Frame F A) → Past → Holding → Act (Thread F A)
   leaves layout values stack past h = crosses_if (can_cross layout past values) (leaves_by layout values stack past h)
 
+  -- the waiting activation goes on with the result
   abbrev pub goes_back : F → (serial : ℕ) → Option A → List (Frame F A) → Past → Holding → Act (Thread F A)
   goes_back f serial None stack past h = Bad
   goes_back f serial (Some a) stack past h = Quiet (Runs f serial a 0 stack past h)
@@ -134,6 +145,7 @@ module _ {F A : Type 0} where
   returns layout values (Outer ∷ stack) past h = leaves layout values stack past h
   returns layout values (Waits f serial next ∷ stack) past h = goes_back f serial (next values) stack past h
 
+  -- the same, where the outside brought the result
   abbrev pub resumes : F → (serial : ℕ) → Option A → List (Frame F A) → Past → Holding → Thread F A
   resumes f serial None stack past h = Wrong
   resumes f serial (Some a) stack past h = Runs f serial a 0 stack past h
@@ -147,6 +159,7 @@ module _ {F A : Type 0} where
 
 -- Locks.
 
+-- the holding with another share
 abbrev pub with_share : Holding → Share → Holding
 with_share h share = record { share = share; memory = h.memory }
 
@@ -156,6 +169,7 @@ module _ {F A : Type 0} where
   takes_lock lock None next = Locks lock next
   takes_lock lock (Some words) next = Stops (Taken lock)
 
+  -- the lock goes by its name
   abbrev pub takes : Option ℕ → A → F → (serial : ℕ) → List (Frame F A) → Past → Holding → Act (Thread F A)
   takes None a f serial stack past h = Bad
   takes (Some lock) a f serial stack past h = takes_lock lock (words_in h.share lock) (λ words. Runs f serial a 0 stack past (with_share h (with_lock h.share lock words)))
@@ -172,6 +186,7 @@ module _ {F A : Type 0} where
 -- Activations.
 
 module _ {F A : Type 0} (l : Activations F A) where
+  -- the function of this name
   abbrev pub find : List F → NameBytes → Option F
   find [] name = None
   find (f ∷ fs) name = if same_name (l.name f) name then Some f else find fs name
@@ -183,6 +198,7 @@ module _ {F A : Type 0} (l : Activations F A) where
   abbrev pub without_own : F → (serial : ℕ) → Holding → Holding
   without_own f serial h = record { share = h.share; memory = set_blocks gone h.memory (l.name f) serial 0 (l.blocks f) }
 
+  -- one activation more has begun
   abbrev pub one_begun : Past → Past
   one_begun past = record { naming = past.naming; begun = past.begun + 1 }
 
@@ -190,10 +206,12 @@ module _ {F A : Type 0} (l : Activations F A) where
   abbrev pub begins : F → A → List (Frame F A) → Past → Holding → Thread F A
   begins f a stack past h = Runs f past.begun a (first_price l.tariff l.blocks f) stack (one_begun past) (with_own f past.begun h)
 
+  -- a call within
   abbrev pub calls_in : F → Option A → List (Frame F A) → Past → Holding → Act (Thread F A)
   calls_in f None stack past h = Bad
   calls_in f (Some a) stack past h = Quiet (begins f a stack past h)
 
+  -- the outside enters
   abbrev pub enters_at : F → Option A → List (Frame F A) → Past → Holding → Thread F A
   enters_at f None stack past h = Wrong
   enters_at f (Some a) stack past h = begins f a stack past h
@@ -225,6 +243,7 @@ abbrev pub step_at : {F A : Type 0} → Activations F A → Setting → A → Ho
 step_at l setting now h = performed setting.edge.cells setting.words (l.form now) (record { holding = h; footprint = nothing_touched })
 
 module _ {F A : Type 0} (l : Activations F A) (setting : Setting) (scene : Scene F) where
+  -- a call that crosses, where calls cross
   abbrev pub calls_out : Bool → NameBytes → List Value → List (Frame F A) → Past → Holding → Act (Thread F A)
   calls_out true function values stack past h = crosses_if (can_cross setting.layout past values) (calls_by setting.layout function values stack past h)
   calls_out false function values stack past h = Bad
@@ -255,6 +274,7 @@ module _ {F A : Type 0} (l : Activations F A) (setting : Setting) (scene : Scene
       comes_back (all_taken c.naming crossing.values) stack (with_naming past c.naming) (record { share = crossing.share; memory = c.memory })
   hears stack past h _ = Wrong
 
+  -- the act, the price and the footprint at a state
   abbrev pub act_at : Thread F A → Act (Thread F A)
   act_at (Away stack past h) = Hears (hears stack past h)
   act_at (Runs f serial now extra stack past h) = acts (step_at l setting now h).last f serial stack past (step_at l setting now h).holding
@@ -276,6 +296,7 @@ module _ {F A : Type 0} (l : Activations F A) (setting : Setting) (scene : Scene
   footprint_at Over = nothing_touched
   footprint_at Wrong = nothing_touched
 
+  -- the functions of the activations, and the called one
   abbrev pub open_at : Thread F A → List NameBytes
   open_at (Away stack past h) = below l stack []
   open_at (Runs f serial now extra stack past h) = below l stack (l.name f ∷ called (step_at l setting now h).last)

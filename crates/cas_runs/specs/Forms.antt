@@ -2,6 +2,8 @@
 use Rattle.std.specs.Prelude.{◌≡◌, ℕ, ◌<◌, List, Option, Some, None, length, slice_set, ◌⊎◌}
 use Rattle.cas_runs.specs.Label.{NameBytes}
 use Rattle.cas_runs.specs.Naming.{Home, Value, Pointer, Memory, with_block}
+use Rattle.cas_runs.specs.Outside.{IsAmong}
+use Rattle.cas_runs.specs.Machine.{Footprint}
 use Rattle.cas_runs.specs.Access.{Accesses, Reads, Writes, Loads, Stores, Looks, Then, Fails, Performed, value_in, length_of}
 
 -- where values are the same, and what a block's length is to the other's
@@ -34,7 +36,12 @@ pub record MemoryKeeps (same : Value → Value → Type 0) (same_size : ℕ → 
   pub stores : (t s : Memory) → alike t s → (home home' : Home) (at at' : ℕ) → same (Pointer home at) (Pointer home' at') → (v w : Value) → same v w → (ws : List Value) → s home' ≡ Some ws → at' < length ws → Stored alike t s home at v home' at' w ws
   pub lengths : (t s : Memory) → alike t s → (home home' : Home) (at at' : ℕ) → same (Pointer home at) (Pointer home' at') → LengthsAlike same_size (length_of (t home)) (length_of (s home'))
 
--- the source's step fails, or both do the same at last, and have touched the same words
+-- a footprint within another, as of blocks
+pub record FootIn (f g : Footprint) : Type 0 where
+  pub writes : (w : ℕ) → IsAmong w f.writes → IsAmong w g.writes
+  pub reads : (w : ℕ) → IsAmong w f.reads → IsAmong w g.reads ⊎ IsAmong w g.writes
+
+-- the source's step fails, or both do the same at last, and the target touches no more
 pub record BothPerform {L M : Type 0} (alike : Memory → Memory → Type 0) (same_last : L → M → Type 0) (p : Performed L) (q : Performed M) : Type 0 where
   pub t_last : L
   pub s_last : M
@@ -43,7 +50,7 @@ pub record BothPerform {L M : Type 0} (alike : Memory → Memory → Type 0) (sa
   pub lasts : same_last t_last s_last
   pub share : p.holding.share ≡ q.holding.share
   pub memory : alike p.holding.memory q.holding.memory
-  pub footprint : p.footprint ≡ q.footprint
+  pub footprint : FootIn p.footprint q.footprint
 
 abbrev pub PerformAlike : {L M : Type 0} → (Memory → Memory → Type 0) → (L → M → Type 0) → Performed L → Performed M → Type 0
 PerformAlike alike same_last p q = (q.last ≡ None) ⊎ BothPerform alike same_last p q

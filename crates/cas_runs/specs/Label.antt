@@ -1,5 +1,5 @@
 -- Labels of a run: what a unit and its outside show to each other.
-use Rattle.std.specs.Prelude.{ℕ, nat_eq, Bool, true, false, List, [], ◌∷◌, Option, Some, None, if◌then◌else◌}
+use Rattle.std.specs.Prelude.{◌≡◌, ℕ, nat_eq, Bool, true, false, List, [], ◌∷◌, Option, Some, None, if◌then◌else◌}
 use Rattle.cas_base.specs.declared.kind.Kind.{Kind}
 use Rattle.cas_base.specs.declared.label.Label.{Label}
 use Rattle.cas_base.specs.declared.label.Label.TheVariants as plain
@@ -71,6 +71,11 @@ and_plain (Some label) labels = label ∷ labels
 abbrev pub plain_labels : List RunLabel → List Label
 plain_labels [] = []
 plain_labels (l ∷ ls) = and_plain (plain_label l) (plain_labels ls)
+
+-- none of them is a crossing label
+abbrev pub ArePlain : List RunLabel → Type 0
+ArePlain [] = Unit {0}
+ArePlain (l ∷ ls) = ((label : Label) × (plain_label l ≡ Some label)) × ArePlain ls
 
 -- the same name
 abbrev pub same_name : NameBytes → NameBytes → Bool

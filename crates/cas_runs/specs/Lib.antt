@@ -4,6 +4,7 @@ pub mod Calls
 pub mod Determined
 pub mod Edge
 pub mod Forms
+pub mod Forward
 pub mod Label
 pub mod Legal
 pub mod Machine

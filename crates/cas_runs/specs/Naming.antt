@@ -44,6 +44,7 @@ pub record Named : Type 0 where
 abbrev pub Naming : Type 0
 Naming = List Named
 
+-- the homes are equal
 abbrev pub same_home : Home → Home → Bool
 same_home (Own f a b) (Own g c d) = same_name f g && nat_eq a c && nat_eq b d
 same_home (Own f a b) (Theirs n) = false
@@ -59,6 +60,7 @@ kind_number U16 = 3
 kind_number I32 = 4
 kind_number U32 = 5
 
+-- the parts are equal
 abbrev pub same_part : Part → Part → Bool
 same_part p q = nat_eq p.from q.from && nat_eq p.size q.size && nat_eq (kind_number p.kind) (kind_number q.kind)
 
@@ -66,6 +68,7 @@ same_part p q = nat_eq p.from q.from && nat_eq p.size q.size && nat_eq (kind_num
 abbrev pub is_it : Home → Part → Named → Bool
 is_it home part n = same_home n.home home && same_part n.part part
 
+-- in a list with one more at the front
 abbrev pub one_later : Option ℕ → Option ℕ
 one_later None = None
 one_later (Some k) = Some (k + 1)
@@ -84,10 +87,12 @@ abbrev pub part_by : List Part → (at place : ℕ) → Option Part
 part_by [] at place = None
 part_by (p ∷ ps) at place = if is_place p at place then Some p else part_by ps at place
 
+-- an object that has crossed before crosses again
 abbrev pub again : Option Named → Naming → Home → (at place : ℕ) → Option Naming
 again None ns home at place = None
 again (Some n) ns home at place = if same_home n.home home && is_place n.part at place then Some ns else None
 
+-- where it has no number yet
 abbrev pub if_new : Option ℕ → Naming → Named → Option Naming
 if_new None ns n = Some (ns ++ n ∷ [])
 if_new (Some k) ns n = None
@@ -106,6 +111,7 @@ named_by parts ns (Pointer home at) (Word w) = None
 named_by parts ns (Pointer home at) (Place object place) =
     if nat_lt object (length ns) then again (slice_get ns object) ns home at place else if nat_eq object (length ns) then first_time (part_by (parts home) at place) ns home else None
 
+-- goes on with a value, if there is one
 abbrev pub and_then : {A B : Type 0} → Option A → (A → Option B) → Option B
 and_then None go = None
 and_then (Some a) go = go a
@@ -121,10 +127,12 @@ all_named_by parts ns (v ∷ vs) (x ∷ xs) = and_then (named_by parts ns v x) (
 abbrev pub reaches : Part → (at : ℕ) → Bool
 reaches part at = nat_le part.from at && nat_le at (part.from + part.size)
 
+-- it is so of one of the parts
 abbrev pub some_reaches : List Part → (at : ℕ) → Bool
 some_reaches [] at = false
 some_reaches (p ∷ ps) at = if reaches p at then true else some_reaches ps at
 
+-- it is so of this object
 abbrev pub reached_in : Option Named → Home → (at : ℕ) → Bool
 reached_in None home at = false
 reached_in (Some n) home at = same_home n.home home && reaches n.part at
@@ -134,6 +142,7 @@ abbrev pub can_point : (Home → List Part) → Naming → Home → (at : ℕ) �
 can_point parts ns (Own function activation block) at = some_reaches (parts (Own function activation block)) at
 can_point parts ns (Theirs object) at = reached_in (slice_get ns object) (Theirs object) at
 
+-- a word can always be shown
 abbrev pub can_show : (Home → List Part) → Naming → Value → Bool
 can_show parts ns (Number w) = true
 can_show parts ns (Pointer home at) = can_point parts ns home at
@@ -153,18 +162,22 @@ cells (v ∷ vs) from zero = []
 cells (v ∷ vs) zero (suc n) = v ∷ cells vs zero n
 cells (v ∷ vs) (suc from) (suc n) = cells vs from (suc n)
 
+-- the word of a cell, if it is one
 abbrev pub content : Value → Option ℕ
 content (Number w) = Some w
 content (Pointer home place) = None
 
+-- the words of the cells
 abbrev pub contents : List Value → List (Option ℕ)
 contents [] = []
 contents (v ∷ vs) = content v ∷ contents vs
 
+-- those of a part, where its block is there
 abbrev pub contents_in : Option (List Value) → Part → Option (List (Option ℕ))
 contents_in None part = None
 contents_in (Some block) part = Some (contents (cells block part.from part.size))
 
+-- whose activation the block belongs to
 abbrev pub owner_of : Home → Owner
 owner_of (Own function activation block) = Inside
 owner_of (Theirs object) = Outside
@@ -173,10 +186,12 @@ owner_of (Theirs object) = Outside
 abbrev pub object_of : Memory → Named → Object
 object_of memory n = record { owner = owner_of n.home; kind = n.part.kind; size = n.part.size; contents = contents_in (memory n.home) n.part }
 
+-- all of them
 abbrev pub objects_of : Memory → Naming → List Object
 objects_of memory [] = []
 objects_of memory (n ∷ ns) = object_of memory n ∷ objects_of memory ns
 
+-- objects are compared field by field
 abbrev pub same_owner : Owner → Owner → Bool
 same_owner Inside Inside = true
 same_owner Inside Outside = false
@@ -224,6 +239,7 @@ abbrev pub all_taken : Naming → List Shown → Option (List Value)
 all_taken ns [] = Some []
 all_taken ns (x ∷ xs) = and_then (taken ns x) (λ v. and_then (all_taken ns xs) (λ vs. Some (v ∷ vs)))
 
+-- the cell with a new word, if there is one
 abbrev pub refilled : Option ℕ → Value → Value
 refilled None old = old
 refilled (Some w) old = Number w
@@ -250,6 +266,7 @@ abbrev pub died : Home → List Value → Option (List Value)
 died (Own function activation block) values = Some values
 died (Theirs object) values = None
 
+-- what the outside leaves of a block
 abbrev pub left_in : Named → Option (List Value) → Option (List (Option ℕ)) → Option (List Value)
 left_in n None ws = None
 left_in n (Some block) None = died n.home block
@@ -261,6 +278,7 @@ filled zero ws = []
 filled (suc size) [] = Number 0 ∷ filled size []
 filled (suc size) (w ∷ ws) = refilled w (Number 0) ∷ filled size ws
 
+-- the block of a new object
 abbrev pub new_block : (size : ℕ) → Option (List (Option ℕ)) → Option (List Value)
 new_block size None = None
 new_block size (Some ws) = Some (filled size ws)

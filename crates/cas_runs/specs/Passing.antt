@@ -29,6 +29,7 @@ pub record Relation (F A G B : Type 0) : Type 1 where
   pub match : ℕ → A → Holding → Block → B → Holding → Block → Type 0
 
 module _ {F A G B : Type 0} (r : Relation F A G B) where
+  -- as many, each the same
   abbrev pub AllSame : List Value → List Value → Type 0
   AllSame [] [] = Unit {0}
   AllSame [] (w ∷ ws) = ⊥
@@ -79,6 +80,7 @@ module _ {F A G B : Type 0} (r : Relation F A G B) where
   PassesOn g None ws = Unit {0}
   PassesOn g (Some y) ws = (r.source.form y ≡ Then (Returns ws)) × (waiting_price r.target.tariff r.targets ≤ step_price r.source.tariff r.sources y)
 
+  -- and that for every result
   abbrev pub OnlyPasses : G → (List Value → Option B) → Type 0
   OnlyPasses g next = (r.source.blocks g ≡ []) × ((ws : List Value) → PassesOn g (next ws) ws)
 
@@ -143,6 +145,7 @@ module _ {F A G B : Type 0} (r : Relation F A G B) where
   abbrev pub brought_in : Past → Holding → Crossing → Crossed
   brought_in p h crossing = brought h.memory p.naming 0 crossing.objects
 
+  -- with the share that comes
   abbrev pub heard : Past → Holding → Crossing → Holding
   heard p h crossing = record { share = crossing.share; memory = (brought_in p h crossing).memory }
 
@@ -181,6 +184,7 @@ AllMade made [] (g ∷ gs) = ⊥
 AllMade made (f ∷ fs) [] = ⊥
 AllMade made (f ∷ fs) (g ∷ gs) = made f g × AllMade made fs gs
 
+-- it is in the list
 abbrev pub IsMember : {X : Type 0} → X → List X → Type 0
 IsMember x [] = ⊥
 IsMember x (y ∷ ys) = (x ≡ y) ⊎ IsMember x ys

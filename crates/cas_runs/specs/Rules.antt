@@ -2,9 +2,10 @@
 use Rattle.std.specs.Prelude.{◌≡◌, ℕ, ◌≤◌, nat_eq, nat_lt, List, [], ◌∷◌, length, Option, Some, None, slice_get, if◌then◌else◌}
 use Rattle.cas_base.specs.declared.kind.Kind.{Kind}
 use Rattle.cas_base.specs.declared.kind.Kind.TheVariants.{U32}
+use Rattle.cas_base.specs.declared.kind.Ty.{Ty}
 use Rattle.cas_runs.specs.Label.{NameBytes, Inside, Object, Crossing, RunLabel, Lock, Unlock, Out, Done, Enter, Back, Call, Leave, locks_of}
-use Rattle.cas_runs.specs.Edge.{LockWord, SharedWord, Edge, IsOfKind, AreOfKinds, guarded, AreUnder, IsOrdered, IsShare}
-use Rattle.cas_runs.specs.Outside.{Pending, Entered, IsAmong, pending, crossed}
+use Rattle.cas_runs.specs.Edge.{LockWord, SharedWord, Signature, Edge, AreOfTypes, returned, signature_of, IsOfKind, AreOfKinds, guarded, AreUnder, IsOrdered, IsShare}
+use Rattle.cas_runs.specs.Outside.{Pending, Entered, AreWordsOf, IsAmong, pending, crossed}
 use Rattle.cas_runs.specs.Machine.{Says, Crosses, Locks, Stops, Halt, Ended, Taken, Full, Machine, Saying, label_of, CanCross, Block, Run}
 
 -- the lock and these, in ascending order
@@ -130,19 +131,34 @@ pub record KeepsRules {S : Type 0} (edge : Edge) (m : Machine S) : Type 0 where
   pub crosses : (ls : List RunLabel) (bs : List Block) (b : Block) (x : S) → Run edge m ls bs b x → (next : RunLabel → Option S) → m.act x ≡ Crosses next → (l : RunLabel) (y : S) → CanCross l → next l ≡ Some y → MayCross edge ls l
   pub halts : (ls : List RunLabel) (bs : List Block) (b : Block) (x : S) → Run edge m ls bs b x → (why : Halt) → m.act x ≡ Stops why → MayHalt ls why
 
--- the words that the label carries are values of their kinds
-abbrev pub AreInKind : Edge → RunLabel → Type 0
-AreInKind edge (Unlock l words) = AreOfKinds words (guarded l edge.cells)
-AreInKind edge (Out w) = IsOfKind w U32
-AreInKind edge (Call f crossing) = IsShare edge crossing.share
-AreInKind edge (Leave crossing) = IsShare edge crossing.share
-AreInKind edge (Lock l words) = Unit {0}
-AreInKind edge Done = Unit {0}
-AreInKind edge (Enter f crossing) = Unit {0}
-AreInKind edge (Back crossing) = Unit {0}
+-- what is shown of the objects are words of their kinds
+abbrev pub ShowsWords : Object → Option (List (Option ℕ)) → Type 0
+ShowsWords o None = Unit {0}
+ShowsWords o (Some new) = AreWordsOf o.kind new
 
--- what the source keeps besides: the words that it says are values of their kinds, since it converts what it writes. A language between may keep
--- any words in a cell, and says what its source says
+abbrev pub AllShowWords : List Object → Type 0
+AllShowWords [] = Unit {0}
+AllShowWords (o ∷ os) = ShowsWords o o.contents × AllShowWords os
+
+-- the values are of these types, and the words of the share and of the objects are of their kinds
+pub record CrossInKind (edge : Edge) (types : List Ty) (crossing : Crossing) : Type 0 where
+  pub values : AreOfTypes crossing.objects types crossing.values
+  pub share : IsShare edge crossing.share
+  pub objects : AllShowWords crossing.objects
+
+-- what the label carries is in kind: arguments are of the parameters' types, and a result is of the type of the function that was entered
+abbrev pub AreInKind : Edge → List RunLabel → RunLabel → Type 0
+AreInKind edge before (Unlock l words) = AreOfKinds words (guarded l edge.cells)
+AreInKind edge before (Out w) = IsOfKind w U32
+AreInKind edge before (Call f crossing) = (s : Signature) → signature_of edge.functions f ≡ Some s → CrossInKind edge s.params crossing
+AreInKind edge before (Leave crossing) = (g : NameBytes) (older : List Pending) (s : Signature) → pending before ≡ Entered g ∷ older → signature_of edge.functions g ≡ Some s → CrossInKind edge (returned s.ret) crossing
+AreInKind edge before (Lock l words) = Unit {0}
+AreInKind edge before Done = Unit {0}
+AreInKind edge before (Enter f crossing) = Unit {0}
+AreInKind edge before (Back crossing) = Unit {0}
+
+-- what the source keeps besides: what it says and shows is in kind, since it is typed and converts what it writes. A language between may keep any
+-- words in a cell, and says what its source says
 pub record KeepsKinds {S : Type 0} (edge : Edge) (m : Machine S) : Type 0 where
-  pub says : (ls : List RunLabel) (bs : List Block) (b : Block) (x : S) → Run edge m ls bs b x → (saying : Saying) (y : S) → m.act x ≡ Says saying y → AreInKind edge (label_of saying)
-  pub crosses : (ls : List RunLabel) (bs : List Block) (b : Block) (x : S) → Run edge m ls bs b x → (next : RunLabel → Option S) → m.act x ≡ Crosses next → (l : RunLabel) (y : S) → CanCross l → next l ≡ Some y → AreInKind edge l
+  pub says : (ls : List RunLabel) (bs : List Block) (b : Block) (x : S) → Run edge m ls bs b x → (saying : Saying) (y : S) → m.act x ≡ Says saying y → AreInKind edge ls (label_of saying)
+  pub crosses : (ls : List RunLabel) (bs : List Block) (b : Block) (x : S) → Run edge m ls bs b x → (next : RunLabel → Option S) → m.act x ≡ Crosses next → (l : RunLabel) (y : S) → CanCross l → next l ≡ Some y → AreInKind edge ls l

@@ -48,6 +48,7 @@ abbrev pub IsLayout : {F S : Type 0} → Language F S → List F → Layout → 
 IsLayout l [] layout = Unit {0}
 IsLayout l (f ∷ fs) layout = AreLaidOut (l.blocks f) 0 (layout (l.name f)) × IsLayout l fs layout
 
+-- the word is a lock
 abbrev pub lock_at : Option Cell → ℕ → Option ℕ
 lock_at (Some LockWord) n = Some n
 lock_at (Some (SharedWord kind guard initial)) n = None
@@ -71,12 +72,14 @@ abbrev pub lock_numbers : Edge → Words → List NameBytes → List ℕ
 lock_numbers edge words [] = []
 lock_numbers edge words (n ∷ ns) = and_number (guard_of edge words n) (lock_numbers edge words ns)
 
+-- a shared word of the type, with its guard
 abbrev pub IsSharedCell : Ty → Option ℕ → Cell → Type 0
 IsSharedCell Void guard c = ⊥
 IsSharedCell (Ptr kind) guard c = ⊥
 IsSharedCell (Int kind) guard c = (initial : ℕ) × IsOfKind initial kind × (c ≡ SharedWord kind guard initial)
 IsSharedCell (Array kind size) guard c = (initial : ℕ) × IsOfKind initial kind × (c ≡ SharedWord kind guard initial)
 
+-- a word of a table of the type
 abbrev pub IsTableCell : Ty → Cell → Type 0
 IsTableCell Void c = ⊥
 IsTableCell (Ptr kind) c = ⊥
@@ -98,6 +101,7 @@ IsDeclared edge words name (Shared ty lock) = AreCells edge (words name) (words_
 IsDeclared edge words name (Table ty) = AreCells edge (words name) (words_of_ty ty) (IsTableCell ty)
 IsDeclared edge words name (Function ret params holds) = IsKnown edge words name ret params holds
 
+-- the edge has all of these
 abbrev pub AreDeclared : Edge → Words → List Decl → Type 0
 AreDeclared edge words [] = Unit {0}
 AreDeclared edge words (d ∷ ds) = IsDeclared edge words d.name d.form × AreDeclared edge words ds
@@ -113,6 +117,7 @@ abbrev pub HaveValues : Edge → ℕ → List ℕ → Type 0
 HaveValues edge n [] = Unit {0}
 HaveValues edge n (v ∷ vs) = ((c : Cell) × (slice_get edge.cells n ≡ Some c) × (first_value c ≡ v)) × HaveValues edge (n + 1) vs
 
+-- the defined globals have their values
 abbrev pub HaveData : Edge → Words → List Global → Type 0
 HaveData edge words [] = Unit {0}
 HaveData edge words (g ∷ gs) = ((s : Stretch) × (words g.decl.name ≡ Some s) × HaveValues edge s.first g.values) × HaveData edge words gs
@@ -125,10 +130,12 @@ abbrev pub ApartFrom : Words → Decl → List Decl → Type 0
 ApartFrom words d [] = Unit {0}
 ApartFrom words d (e ∷ es) = AreApart words d e × ApartFrom words d es
 
+-- no two of them share words
 abbrev pub AllApart : Words → List Decl → Type 0
 AllApart words [] = Unit {0}
 AllApart words (d ∷ ds) = ApartFrom words d ds × AllApart words ds
 
+-- the declaration is a function's definition
 abbrev pub defined_as : Form → Bool → Bool
 defined_as Lock defined = false
 defined_as (Shared ty lock) defined = false

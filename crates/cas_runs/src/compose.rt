@@ -2,13 +2,15 @@ ghost use Rattle.std.specs.Prelude.{◌≡◌, ℕ, ◌⊎◌, List};
 ghost use Rattle.cas_base.specs.declared.decl.Unit.{Unit as UnitOf};
 ghost use Rattle.cas_base.specs.declared.decl.Decl.{Decl};
 ghost use Rattle.cas_runs.specs.Access.{Words};
+ghost use Rattle.cas_runs.specs.Bounds.{IsTariff};
+ghost use Rattle.cas_runs.specs.Calls.{Activations, language};
 ghost use Rattle.cas_runs.specs.Label.{NameBytes, RunLabel};
 ghost use Rattle.cas_runs.specs.Edge.{Edge};
 ghost use Rattle.cas_runs.specs.Machine.{Machine, Block, Run, quiet_steps, quiet_now};
 ghost use Rattle.cas_runs.specs.Determined.{Same};
 ghost use Rattle.cas_runs.specs.Refines.{HasRun, BadBefore, PaysMore, Refines, NamesAlone, EachKept};
 ghost use Rattle.cas_runs.specs.Rules.{Proceeds};
-ghost use Rattle.cas_runs.specs.Unit.{Language, UnitRefines, FunctionRefines, ThreadRefines};
+ghost use Rattle.cas_runs.specs.Unit.{IsLayout, Language, Setting, UnitRefines, FunctionRefines, ThreadRefines};
 
 /// Refinements of machines compose.
 #[tactic(auto, using(crate::proofs::Composing::refines_both))]
@@ -45,6 +47,12 @@ pub fn runs_kept<T, S>()
 #[tactic(auto, using(crate::proofs::Composing::refines_itself))]
 pub fn refines_itself<S>()
     ensures { (edge : Edge) (m : Machine S) → Proceeds m → Refines edge m m }
+{}
+
+/// A unit in any language of activations refines itself.
+#[tactic(auto, using(crate::proofs::Ruling::unit_itself))]
+pub fn units_refine_themselves<F, A>()
+    ensures { (l : Activations F A) (setting : Setting) → IsTariff l.tariff → (fs : List F) → IsLayout (language l) fs setting.layout → Refines setting.edge ((language l).unit setting fs) ((language l).unit setting fs) }
 {}
 
 /// The labels of a run and the number of its quiet steps determine its blocks and where it stands.

@@ -12,7 +12,7 @@ mod rules;
 
 pub use compose::{
     functions_compose, refinements_compose, refines_itself, runs_kept, threads_compose,
-    units_compose,
+    units_compose, units_refine_themselves,
 };
 pub use layer::{FunctionPass, functions_refine, threads_refine, units_refine};
 pub use pass::{Pass, run_pass, steps_refine};
@@ -21,5 +21,5 @@ pub use refused::{
 };
 pub use rules::{
     functions_keep_rules, sections_keep_kinds, sections_keep_rules, threads_keep_rules,
-    units_keep_rules,
+    threads_never_cross, units_keep_rules,
 };

@@ -1,7 +1,8 @@
 ghost use Rattle.std.specs.Prelude.{ℕ, ◌≤◌, List, [], ◌∷◌};
 ghost use Rattle.cas_runs.specs.Bounds.{IsTariff};
-ghost use Rattle.cas_runs.specs.Calls.{Activations, language};
-ghost use Rattle.cas_runs.specs.Label.{NameBytes};
+ghost use Rattle.cas_runs.specs.Calls.{Activations, Thread, language};
+ghost use Rattle.cas_runs.specs.Label.{ArePlain, NameBytes, RunLabel};
+ghost use Rattle.cas_runs.specs.Machine.{Block, Run};
 ghost use Rattle.cas_runs.specs.Rules.{KeepsKinds, KeepsRules};
 ghost use Rattle.cas_runs.specs.Sections.{Instruction, StoresWords, one_lock, sections};
 ghost use Rattle.cas_runs.specs.Unit.{IsLayout, Setting};
@@ -33,4 +34,11 @@ pub fn functions_keep_rules<F, A>()
 #[tactic(auto, using(crate::proofs::Ruling::program_rules))]
 pub fn threads_keep_rules<F, A>()
     ensures { (l : Activations F A) (setting : Setting) → IsTariff l.tariff → (fs : List F) (entry : NameBytes) (thread : ℕ) → IsLayout (language l) fs setting.layout → KeepsRules setting.edge ((language l).thread setting fs entry thread) }
+{}
+
+/// In a run of a thread of a whole program no call crosses: each of its labels is a Lock, an Unlock, an Out or
+/// Done.
+#[tactic(auto, using(crate::proofs::Closed::threads_plain))]
+pub fn threads_never_cross<F, A>()
+    ensures { (l : Activations F A) (setting : Setting) (fs : List F) (entry : NameBytes) (thread : ℕ) (ls : List RunLabel) (bs : List Block) (b : Block) (x : Thread F A) → Run setting.edge ((language l).thread setting fs entry thread) ls bs b x → ArePlain ls }
 {}

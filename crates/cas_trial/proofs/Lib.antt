@@ -1,2 +1,4 @@
 pub mod Fits
 pub mod Joins
+pub mod Slowing
+pub mod Tailcalls

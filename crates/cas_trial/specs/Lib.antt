@@ -1,3 +1,5 @@
 pub mod Fitting
+pub mod Paces
 pub mod Places
+pub mod Relays
 pub mod Stages

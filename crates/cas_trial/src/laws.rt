@@ -1,11 +1,15 @@
-ghost use Rattle.std.specs.Prelude.{List, [], ◌∷◌};
+ghost use Rattle.std.specs.Prelude.{List, [], ◌∷◌, ◌≡◌};
+ghost use Rattle.cas_base.specs.declared.decl.Unit.{Unit as UnitOf};
 ghost use Rattle.cas_runs.specs.Calls.{language};
+ghost use Rattle.cas_runs.specs.Passing.{AllMade};
 ghost use Rattle.cas_runs.specs.Refines.{HasRun};
 ghost use Rattle.cas_runs.specs.Rules.{KeepsRules};
-ghost use Rattle.cas_runs.specs.Unit.{FitsUnit, IsLayout, Setting};
+ghost use Rattle.cas_runs.specs.Unit.{FitsUnit, IsLayout, Setting, UnitRefines};
 ghost use Rattle.cas_trial.specs.Fitting.{decls, edge, globals, labels, program, setting, words};
+ghost use Rattle.cas_trial.specs.Paces.{IsSame, fast, slow};
 ghost use Rattle.cas_trial.specs.Stages.{apart};
 ghost use Rattle.cas_trial.specs.declared.joining.Apart.{Apart as Program};
+ghost use Rattle.cas_trial.specs.declared.tailing.Relaying.{Relaying};
 
 /// A unit with a lock, a shared word and a function of another unit fits an edge.
 #[tactic(auto, using(crate::proofs::Fits::unit_fits))]
@@ -24,4 +28,11 @@ pub fn pointer_comes_back()
 #[tactic(auto, using(crate::proofs::Fits::apart_rules))]
 pub fn apart_keeps_rules()
     ensures { (setting : Setting) (fs : List Program) → IsLayout (language apart) fs setting.layout → KeepsRules setting.edge ((language apart).unit setting fs) }
+{}
+
+/// A unit whose functions take two steps for one of another refines that: each step pays for those that it
+/// stands for.
+#[tactic(auto, using(crate::proofs::Slowing::units_slow))]
+pub fn units_slow()
+    ensures { (s : UnitOf Relaying) (t : UnitOf Relaying) → t.decls ≡ s.decls → t.globals ≡ s.globals → AllMade IsSame t.funs s.funs → UnitRefines (language slow) (language fast) t s }
 {}

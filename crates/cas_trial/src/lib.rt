@@ -1,11 +1,13 @@
-//! A trial of the form in which each pass of the compiler is proved: a pass between two small languages with
-//! blocks of memory, over the layer of calls of `cas_runs`. It stands on `cas_base` and `cas_runs`.
+//! A trial of the form in which each pass of the compiler is proved, over the layer of calls of `cas_runs`: a
+//! pass between two small languages with blocks of memory, and one that makes tail calls. It stands on `cas_base` and `cas_runs`.
 #![tactic(auto)]
 
 mod joining;
 mod laws;
+mod tailing;
 #[cfg(test)]
 mod tests;
 
 pub use joining::{Apart, Joined, Joining, join, joined_weighs_less, threads_join, units_join};
-pub use laws::{a_unit_fits, apart_keeps_rules, pointer_comes_back};
+pub use laws::{a_unit_fits, apart_keeps_rules, pointer_comes_back, units_slow};
+pub use tailing::{Relayed, Relaying, TailCalls, relay, units_relay};

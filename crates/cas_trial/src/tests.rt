@@ -1,4 +1,4 @@
-use crate::{Apart, join};
+use crate::{Apart, Relaying, join, relay};
 
 // Each call that may answer want of memory, once with ample memory: it gives another answer.
 #[test]
@@ -11,6 +11,10 @@ fn always_want_of_memory(rt: HostRuntime) {
         },
     ) {
         Ok(made) => assert_eq!(rt; made.cells, (3, 7)),
+        Err(fault) => assert!(rt; false, "{fault:?}"),
+    }
+    match relay(rt.alloc(), &Relaying { word: 5 }) {
+        Ok(made) => assert_eq!(rt; made.word, 5),
         Err(fault) => assert!(rt; false, "{fault:?}"),
     }
 }

@@ -1,0 +1,5 @@
+use Rattle.cas_trial.proofs.Tailcalls.{tails_pass}
+use Rattle.cas_trial.proofs.tailing.TailCallsFunctionPass.passes.Goals as goal
+
+pub returns : goal.returns
+returns c = λ setting ts ss h l. tails_pass setting ts ss h l

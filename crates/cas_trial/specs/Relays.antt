@@ -1,0 +1,60 @@
+-- Two small languages without blocks of memory. A program's function `main` calls `show` with a word and returns its result: by a call and a return,
+-- or by a tail call.
+use Rattle.std.specs.Prelude.{◌≡◌, ℕ, List, [], ◌∷◌, Option, Some, None}
+use Rattle.cas_runs.specs.Naming.{Value, Number}
+use Rattle.cas_runs.specs.Machine.{Block}
+use Rattle.cas_runs.specs.Refines.{Within}
+use Rattle.cas_runs.specs.Bounds.{ByForms}
+use Rattle.cas_runs.specs.Access.{Accesses, Then, Holding}
+use Rattle.cas_runs.specs.Calls.{Last, Calls, Tails, Returns, Activations}
+use Rattle.cas_trial.specs.declared.tailing.Relayed.{Relayed}
+use Rattle.cas_trial.specs.declared.tailing.Relaying.{Relaying}
+use Rattle.cas_trial.specs.Stages.{main_name, show_name}
+
+-- where an activation stands: at its call, or with the result
+pub data Relay : Type 0 where
+  Begins : (word : ℕ) → Relay
+  Hands : (values : List Value) → Relay
+
+abbrev pub enters : ℕ → List Value → Option Relay
+enters word [] = Some (Begins word)
+enters word (v ∷ vs) = None
+
+abbrev pub hands : List Value → Option Relay
+hands values = Some (Hands values)
+
+abbrev pub calling_form : Relay → Accesses (Last Relay)
+calling_form (Begins word) = Then (Calls show_name (Number word ∷ []) hands)
+calling_form (Hands values) = Then (Returns values)
+
+abbrev pub tailing_form : Relay → Accesses (Last Relay)
+tailing_form (Begins word) = Then (Tails show_name (Number word ∷ []))
+tailing_form (Hands values) = Then (Returns values)
+
+-- with a call and a return
+abbrev pub calling : Activations Relaying Relay
+calling = record {
+  name = λ f. main_name;
+  blocks = λ f. [];
+  enter = λ f serial values. enters f.word values;
+  form = calling_form;
+  tariff = ByForms (λ a. 2) (λ a. []) 1 (λ f. 0) (λ f. 0) (λ f. 2 ∷ 2 ∷ []);
+}
+
+-- with a tail call
+abbrev pub tailing : Activations Relayed Relay
+tailing = record {
+  name = λ f. main_name;
+  blocks = λ f. [];
+  enter = λ f serial values. enters f.word values;
+  form = tailing_form;
+  tariff = ByForms (λ a. 2) (λ a. []) 1 (λ f. 0) (λ f. 0) (λ f. 2 ∷ []);
+}
+
+-- the program of the other language with the same word
+abbrev pub IsTailing : Relayed → Relaying → Type 0
+IsTailing to from = to.word ≡ from.word
+
+-- both stand at their calls: after its call the target has nothing more to do
+pub data AtCall : ℕ → Relay → Holding → Block → Relay → Holding → Block → Type 0 where
+  at_call : {n word : ℕ} {h k : Holding} {b c : Block} → Within b c → AtCall n (Begins word) h b (Begins word) k c
