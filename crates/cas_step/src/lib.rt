@@ -1,0 +1,2 @@
+//! The steps of a thread of Clight over resolved statements: definitions alone.
+#![tactic(auto)]
