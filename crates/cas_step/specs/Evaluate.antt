@@ -1,6 +1,6 @@
 -- The value of a resolved expression, and the cell of a target. Operands are evaluated from left to right, and the first that
 -- has no result ends it.
-use Rattle.std.specs.Prelude.{ℕ, ℤ, pos, neg_ℤ, Bool, true, false, List, [], ◌∷◌, Option, Some, None, slice_get}
+use Rattle.std.specs.Prelude.{ℕ, ℤ, pos, neg_ℤ, Bool, true, false, List, [], ◌∷◌, Option, slice_get}
 use Rattle.cas_base.specs.Word.{narrowed}
 use Rattle.cas_typed.specs.declared.tree.Signedness.{Signedness}
 use Rattle.cas_typed.specs.Resolved as t

@@ -1,5 +1,5 @@
 -- Which environments are those of typed modules, and which words and threads fit them.
-use Rattle.std.specs.Prelude.{◌≡◌, ⊤, ℕ, ◌+◌, ◌<◌, IsTrue, List, [], ◌∷◌, map, take, length, Option, Some, None, slice_get, All}
+use Rattle.std.specs.Prelude.{◌≡◌, ⊤, ℕ, ◌+◌, ◌<◌, ◌≤◌, IsTrue, List, [], ◌∷◌, map, take, length, Option, Some, None, slice_get, All}
 use Rattle.cas_base.specs.Kind.{is_of_kind}
 use Rattle.cas_base.specs.Ty.{words_of_ty}
 use Rattle.cas_base.specs.declared.decl.Decl.{Decl}
@@ -15,6 +15,7 @@ use Rattle.cas_typed.specs.Resolved.{TypedFunTree, TypedModuleTree}
 use Rattle.cas_typed.specs.Sorts.{IsSortedModule}
 use Rattle.cas_step.specs.Asks.{word}
 use Rattle.cas_step.specs.Env.{FunctionAt, Function, Entity, function, shared, table, lock, Env}
+use Rattle.cas_step.specs.Literals.{BodyHasWords}
 use Rattle.cas_step.specs.Step.{Config, Step, step, start}
 
 -- the function that stands there
@@ -22,7 +23,7 @@ pub record IsAt (modules : List TypedModuleTree) (f : FunctionAt) (unit : TypedM
   pub unit_is : slice_get modules f.unit ≡ Some unit
   pub function_is : slice_get unit.functions f.place ≡ Some it
 
--- a function is what its module says: its item's return type and closing brace, its locals and its body
+-- a function is what its module says: its item's return type and closing brace, its locals and its body, whose literals are words
 pub record IsFunctionOf (unit : TypedModuleTree) (it : TypedFunTree) (f : Function) : Type 0 where
   pub tree : FunTree
   pub item : slice_get unit.module_tree.items it.item ≡ Some (define tree)
@@ -30,6 +31,7 @@ pub record IsFunctionOf (unit : TypedModuleTree) (it : TypedFunTree) (f : Functi
   pub locals : f.locals ≡ map (λ v. v.ty) it.locals
   pub body : f.body ≡ it.body
   pub closing : f.closing ≡ tree.closing
+  pub literals : BodyHasWords it.body
 
 -- a function with these parameters that returns so
 pub record HasSignature (f : Function) (ret : Ty) (params : List Ty) : Type 0 where
@@ -58,8 +60,13 @@ pub record IsEnvOf (modules : List TypedModuleTree) (e : Env) : Type 0 where
   pub entities : (n g : ℕ) (unit : TypedModuleTree) (d : Decl) → slice_get modules n ≡ Some unit →
       slice_get (map decl_of unit.module_tree.items) g ≡ Some d → StandsFor modules e d.form (e.entity n g)
 
+-- the most threads that a program has
+abbrev pub most_threads : ℕ
+most_threads = 64
+
 -- each entry is a function of these modules that takes the thread's number
 pub record AreEntries (modules : List TypedModuleTree) (e : Env) (entries : List FunctionAt) : Type 0 where
+  pub count : length entries ≤ most_threads
   pub each : (thread : ℕ) (f : FunctionAt) → slice_get entries thread ≡ Some f →
       (unit : TypedModuleTree) × (it : TypedFunTree) × IsAt modules f unit it × HasSignature (e.function f) Void (Int I32 ∷ [])
 

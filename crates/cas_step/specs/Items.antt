@@ -1,5 +1,5 @@
 -- What an activation has to do, item by item, and what one step of it does: the table of the language's steps, a clause a row.
-use Rattle.std.specs.Prelude.{ℕ, Bool, List, [], ◌∷◌, Option, Some, None}
+use Rattle.std.specs.Prelude.{ℕ, List, [], ◌∷◌, Option, Some, None}
 use Rattle.cas_base.specs.declared.kind.Ty.{Ty}
 use Rattle.cas_base.specs.declared.kind.Ty.TheVariants.{Int, Ptr}
 use Rattle.cas_base.specs.declared.place.Place.{Place}
@@ -18,7 +18,7 @@ pub data Todo : Type 0 where
 
 -- what a step does at last, when all is evaluated, with the items that are left: nothing more; a store to a cell of an object or
 -- to a word of a global; a call with its arguments and the local that keeps its result; a return; an act on a lock; an output.
--- Whether a call goes to a function of the module or over its edge, and whether a return does, is for the run to say.
+-- Where a module stands alone a call may go over its edge, and so may a return: its run says which, by the item and the caller.
 pub data Deed (O : Type 0) : Type 0 where
   goes_on : (todo : List Todo) → Deed O
   stores : (object : O) → (place : ℕ) → Value O → (todo : List Todo) → Deed O

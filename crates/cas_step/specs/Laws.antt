@@ -1,5 +1,5 @@
 -- What is claimed of steps, in the language's own words.
-use Rattle.std.specs.Prelude.{◌≡◌, ℕ, ◌+◌, ◌<◌, ◌≤◌, List, [], ◌∷◌, ◌++◌, length, Option, Some, None, slice_get, Contains, ◌↔◌}
+use Rattle.std.specs.Prelude.{◌≡◌, ⊤, ℕ, ◌+◌, ◌<◌, ◌≤◌, List, [], ◌∷◌, ◌++◌, length, Option, Some, None, slice_get, Contains}
 use Rattle.cas_base.specs.declared.act.Act.{Act}
 use Rattle.cas_base.specs.declared.act.Act.TheVariants as act
 use Rattle.cas_typed.specs.Resolved as t
@@ -83,8 +83,8 @@ abbrev pub ChangesOnly : (written : List ℕ) → (before after these : List ℕ
 ChangesOnly written before after these =
     ((n : ℕ) → Contains written n → slice_get after n ≡ slice_get these n) × ((n : ℕ) → (Contains written n → ⊥) → slice_get after n ≡ slice_get before n)
 
--- two steps do the same, but that they begin at these words
-pub record AreSame (ws vs : List ℕ) (s r : Step) : Type 0 where
+-- the second step does the same as the first, but that it begins at these words
+pub record AreSame (vs : List ℕ) (s r : Step) : Type 0 where
   pub act : r.act ≡ s.act
   pub next : r.next ≡ s.next
   pub reads : r.reads ≡ s.reads
@@ -97,7 +97,7 @@ pub record AreSame (ws vs : List ℕ) (s r : Step) : Type 0 where
 abbrev pub StepsAreDetermined : Type 0
 StepsAreDetermined = (e : Env) (ws vs : List ℕ) (c : Config) (s : Step) → length ws ≡ length vs → AgreeOnTables e ws vs →
     step e ws c ≡ Some s → ((n : ℕ) → Contains s.reads n → slice_get ws n ≡ slice_get vs n) →
-    (r : Step) × (step e vs c ≡ Some r) × AreSame ws vs s r
+    (r : Step) × (step e vs c ≡ Some r) × AreSame vs s r
 
 -- A step writes its footprint's words alone.
 abbrev pub WritesAreToldOf : Type 0
@@ -106,7 +106,7 @@ WritesAreToldOf = (e : Env) (ws : List ℕ) (c : Config) (s : Step) → step e w
 -- a step that isn't Bad
 abbrev pub IsTaken : Act → Type 0
 IsTaken (act.Bad why) = ⊥
-IsTaken _ = Unit {0}
+IsTaken _ = ⊤
 
 -- In a whole program a thread that fits and hasn't ended has a step over words that fit, and where it isn't Bad its next
 -- configuration and the next words fit.

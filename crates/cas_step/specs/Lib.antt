@@ -4,6 +4,7 @@ pub mod Evaluate
 pub mod Fits
 pub mod Items
 pub mod Laws
+pub mod Literals
 pub mod Operators
 pub mod Pointers
 pub mod Step

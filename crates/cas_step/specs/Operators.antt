@@ -1,5 +1,5 @@
 -- Operators on words, and numbers as operators read them.
-use Rattle.std.specs.Prelude.{ℕ, ◌-◌, ◌^◌, ℤ, pos, negsuc, int_lt, int_le, nat_lt, nat_le, ◌==◌, Bool, true, false, not, Option, Some, None, if◌then◌else◌, bit_and, bit_or, bit_xor}
+use Rattle.std.specs.Prelude.{ℕ, ◌-◌, ◌^◌, ℤ, pos, negsuc, int_lt, int_le, nat_lt, ◌==◌, Bool, true, false, not, Option, Some, None, if◌then◌else◌, bit_and, bit_or, bit_xor}
 use Rattle.cas_base.specs.Word.{signed, word_add, word_sub, word_mul, word_shl, word_shr, word_sar, word_div_signed, word_rem_signed, word_div_unsigned, word_rem_unsigned}
 use Rattle.cas_base.specs.declared.act.Why.TheVariants.{DivZero, DivRange, Index}
 use Rattle.cas_syntax.specs.declared.tree.UnaryOperator.{UnaryOperator}

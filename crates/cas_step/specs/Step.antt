@@ -12,7 +12,7 @@ use Rattle.cas_base.specs.declared.place.Place.{Place}
 use Rattle.cas_typed.specs.declared.tree.Destination.{Destination}
 use Rattle.cas_step.specs.Asks as asks
 use Rattle.cas_step.specs.Asks.{Asks, Value, word, null}
-use Rattle.cas_step.specs.Env.{FunctionAt, Function, Entity, function, shared, table, lock, Env}
+use Rattle.cas_step.specs.Env.{FunctionAt, Entity, function, shared, table, lock, Env}
 use Rattle.cas_step.specs.Evaluate.{Sight}
 use Rattle.cas_step.specs.Items.{Todo, begin_all, Deed, goes_on, stores, writes, calls, returns, locks, unlocks, prints, deed_of, place_of}
 
