@@ -1,2 +1,4 @@
 mod Examples
+mod Footprints
 mod Running
+mod Within
