@@ -2,6 +2,8 @@
 use Rattle.std.proofs.Common.{arith, ◌≡◌, inl, inr, ℕ, zero, suc, ◌<◌, ◌≤◌, Bool, true, false, List, [], ◌∷◌, ◌++◌, length, Option, Some, None, refl, sym, ap, subst, ◌∙◌}
 use Rattle.std.specs.Prelude.{⊤, ◌+◌, ◌⊎◌, slice_get, slice_index_or, slice_set, Contains}
 use Rattle.std.proofs.lemmas.List.Elements.{Contains-append_cases, Contains-append_left, Contains-append_right}
+use Rattle.std.specs.Option.{unwrap_or}
+use Rattle.std.proofs.lemmas.Option.{unwrap_or-slice_get}
 use Rattle.cas_base.specs.declared.act.Why.{Why}
 use Rattle.cas_base.specs.declared.kind.Ty.{Ty}
 use Rattle.cas_typed.specs.Resolved.{TypedExprTree, TypedStmtTree, skip, assign, call, block, if_, while_, do_, for_, break_, continue_, return_, lock, unlock, print, absent, present}
@@ -86,6 +88,19 @@ single : (m n : ℕ) → Contains (m ∷ []) n → m ≡ n
 single m n (zero, below, e) = e
 single m n (suc k, below, e) = absurd (omega (arith, below))
 
+either_case : {A B C : Type 0} → A ⊎ B → (A → C) → (B → C) → C
+either_case (inl a) f g = f a
+either_case (inr b) f g = g b
+
+one_or_other : {A C : Type 0} (before : List ℕ) (x : Got A) (n : ℕ) → Contains (reads_of (having_read before x)) n → (Contains before n → C) → (Contains (reads_of x) n → C) → C
+one_or_other before x n c f g = either_case (Contains-append_cases before (reads_of x) n (subst (λ rs. Contains rs n) (reads-having_read before x) c)) f g
+
+in_front : {A : Type 0} (before : List ℕ) (x : Got A) (n : ℕ) → Contains before n → Contains (reads_of (having_read before x)) n
+in_front before x n c = subst (λ rs. Contains rs n) (sym (reads-having_read before x)) (Contains-append_left before (reads_of x) n c)
+
+behind : {A : Type 0} (before : List ℕ) (x : Got A) (n : ℕ) → Contains (reads_of x) n → Contains (reads_of (having_read before x)) n
+behind before x n c = subst (λ rs. Contains rs n) (sym (reads-having_read before x)) (Contains-append_right before (reads_of x) n c)
+
 module _ (entity : ℕ → Option Entity) (N : ℕ → Type 0) where
   -- what reading a word of a global leaves is a word of it
   trace_named : (g i : ℕ) (it : Option Entity) → entity g ≡ it → N g → i < length_of it → (n : ℕ) → Contains (trace_of it i) n → WordOf entity N n
@@ -96,3 +111,55 @@ module _ (entity : ℕ → Option Entity) (N : ℕ → Type 0) where
   trace_named g i (Some (env.lock m)) e named below n (k, b, same) = absurd (omega (arith, b))
   trace_named g i (Some (shared first len guard)) e named below n c =
       let is : first + i ≡ n = single (first + i) n c in (g, first, len, guard, named, e, omega (arith, is), omega (arith, is, below))
+
+  -- the words that are read belong to the named globals
+  pub answered_named : {A : Type 0} (P : A → Type 0) (ws : List ℕ) (memory : List Block) (x : Asks Object A) → Within entity N x P → (n : ℕ) →
+      Contains (reads_of (answered entity ws memory x)) n → WordOf entity N n
+  answered_named P ws memory (gives a) h n (k, b, same) = absurd (omega (arith, b))
+  answered_named P ws memory (fails why) h n (k, b, same) = absurd (omega (arith, b))
+  answered_named P ws memory (looks o more) h n c = answered_named P ws memory (more (cells_at memory o)) (h (cells_at memory o)) n c
+  answered_named P ws memory (reads g i more) h n c =
+      one_or_other (trace_of (entity g) i) (answered entity ws memory (more (word_at ws (entity g) i))) n c
+      (λ d. trace_named g i (entity g) refl h.0 h.1 n d)
+      (λ d. answered_named P ws memory (more (word_at ws (entity g) i)) (h.2 (word_at ws (entity g) i)) n d)
+
+  -- what is got is so
+  pub answered_so : {A : Type 0} (P : A → Type 0) (ws : List ℕ) (memory : List Block) (x : Asks Object A) → Within entity N x P → GotSo P (answered entity ws memory x)
+  answered_so P ws memory (gives a) h = h
+  answered_so P ws memory (fails why) h = tt
+  answered_so P ws memory (looks o more) h = answered_so P ws memory (more (cells_at memory o)) (h (cells_at memory o))
+  answered_so P ws memory (reads g i more) h =
+      so-having_read P (trace_of (entity g) i) (answered entity ws memory (more (word_at ws (entity g) i))) (answered_so P ws memory (more (word_at ws (entity g) i)) (h.2 (word_at ws (entity g) i)))
+
+-- words that agree
+
+by_get : (ws vs : List ℕ) (n : ℕ) → slice_get ws n ≡ slice_get vs n → slice_index_or ws n 0 ≡ slice_index_or vs n 0
+by_get ws vs n e = sym (unwrap_or-slice_get ws n 0) ∙ ap (λ w. unwrap_or w 0) e ∙ unwrap_or-slice_get vs n 0
+
+-- the same word in the table, where it is one
+abbrev pub AgreeIn : (ws vs : List ℕ) → Option Entity → Type 0
+AgreeIn ws vs it = (first len i : ℕ) → it ≡ Some (table first len) → i < len → slice_get ws (first + i) ≡ slice_get vs (first + i)
+
+word_same : (ws vs : List ℕ) (it : Option Entity) (i : ℕ) → i < length_of it → AgreeIn ws vs it →
+    ((n : ℕ) → Contains (trace_of it i) n → slice_get ws n ≡ slice_get vs n) → word_at ws it i ≡ word_at vs it i
+word_same ws vs None i below tables read = refl
+word_same ws vs (Some (function f)) i below tables read = refl
+word_same ws vs (Some outside) i below tables read = refl
+word_same ws vs (Some (env.lock m)) i below tables read = refl
+word_same ws vs (Some (table first len)) i below tables read = by_get ws vs (first + i) (tables first len i refl below)
+word_same ws vs (Some (shared first len guard)) i below tables read = by_get ws vs (first + i) (read (first + i) (0, omega arith, refl))
+
+-- the same is got from words that agree on what is read, and on tables
+pub answered_same : {A : Type 0} (entity : ℕ → Option Entity) (N : ℕ → Type 0) (P : A → Type 0) (ws vs : List ℕ) (memory : List Block) (x : Asks Object A) →
+    Within entity N x P → ((g : ℕ) → AgreeIn ws vs (entity g)) →
+    ((n : ℕ) → Contains (reads_of (answered entity ws memory x)) n → slice_get ws n ≡ slice_get vs n) →
+    answered entity vs memory x ≡ answered entity ws memory x
+answered_same entity N P ws vs memory (gives a) h tables read = refl
+answered_same entity N P ws vs memory (fails why) h tables read = refl
+answered_same entity N P ws vs memory (looks o more) h tables read = answered_same entity N P ws vs memory (more (cells_at memory o)) (h (cells_at memory o)) tables read
+answered_same entity N P ws vs memory (reads g i more) h tables read =
+    ap (λ n. having_read (trace_of (entity g) i) (answered entity vs memory (more n)))
+        (sym (word_same ws vs (entity g) i h.1 (tables g) (λ n c. read n (in_front (trace_of (entity g) i) (answered entity ws memory (more (word_at ws (entity g) i))) n c))))
+    ∙ ap (having_read (trace_of (entity g) i))
+        (answered_same entity N P ws vs memory (more (word_at ws (entity g) i)) (h.2 (word_at ws (entity g) i)) tables
+        (λ n c. read n (behind (trace_of (entity g) i) (answered entity ws memory (more (word_at ws (entity g) i))) n c)))

@@ -1,4 +1,5 @@
 mod Examples
 mod Footprints
 mod Running
+mod Steps
 mod Within

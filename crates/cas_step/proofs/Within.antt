@@ -177,10 +177,10 @@ module _ {O : Type 0} (s : Sight O) (N : ℕ → Type 0) where
   abbrev pub AllNamed : List ℕ → Type 0
   AllNamed gs = (g : ℕ) → Contains gs g → N g
 
-  left : (gs hs : List ℕ) → AllNamed (gs ++ hs) → AllNamed gs
+  pub left : (gs hs : List ℕ) → AllNamed (gs ++ hs) → AllNamed gs
   left gs hs all g c = all g (Contains-append_left gs hs g c)
 
-  right : (gs hs : List ℕ) → AllNamed (gs ++ hs) → AllNamed hs
+  pub right : (gs hs : List ℕ) → AllNamed (gs ++ hs) → AllNamed hs
   right gs hs all g c = all g (Contains-append_right gs hs g c)
 
   first : (g : ℕ) (gs : List ℕ) → AllNamed (g ∷ gs) → N g
