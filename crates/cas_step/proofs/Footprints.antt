@@ -1,18 +1,17 @@
 -- What an item's step reads and writes, and that it is determined by what it reads.
-use Rattle.std.proofs.Common.{arith, ◌≡◌, inl, inr, ℕ, zero, suc, ◌<◌, ◌≤◌, Bool, true, false, List, [], ◌∷◌, ◌++◌, length, Option, Some, None, refl, sym, ap, subst, ◌∙◌}
-use Rattle.std.specs.Prelude.{⊤, ◌+◌, ◌⊎◌, slice_get, slice_index_or, slice_set, Contains}
+use Rattle.std.proofs.Common.{arith, ◌≡◌, inl, inr, ℕ, zero, suc, ◌<◌, ◌≤◌, List, [], ◌∷◌, ◌++◌, Option, Some, None, refl, sym, ap, subst, ◌∙◌}
+use Rattle.std.specs.Prelude.{⊤, ◌+◌, ◌⊎◌, slice_get, slice_index_or, Contains}
 use Rattle.std.proofs.lemmas.List.Elements.{Contains-append_cases, Contains-append_left, Contains-append_right}
 use Rattle.std.specs.Option.{unwrap_or}
 use Rattle.std.proofs.lemmas.Option.{unwrap_or-slice_get}
-use Rattle.cas_base.specs.declared.act.Why.{Why}
 use Rattle.cas_base.specs.declared.kind.Ty.{Ty}
 use Rattle.cas_typed.specs.Resolved.{TypedExprTree, TypedStmtTree, skip, assign, call, block, if_, while_, do_, for_, break_, continue_, return_, lock, unlock, print, absent, present}
-use Rattle.cas_step.specs.Asks.{Value, word, null, pointer, Asks, gives, fails, reads, looks, and_then, word_in}
+use Rattle.cas_step.specs.Asks.{Value, Asks, gives, fails, reads, looks, word_in}
 use Rattle.cas_step.specs.Env.{Entity, function, outside, shared, table, length_of}
 use Rattle.cas_step.specs.Env as env
-use Rattle.cas_step.specs.Evaluate.{Sight, Cell, of_object, of_global, either, value_of, values_of, test_of, target_of}
-use Rattle.cas_step.specs.Items.{Todo, begin, begun, loop, next, Deed, goes_on, stores, writes, calls, returns, locks, unlocks, prints, into, chooses, returned, statement_deed, deed_of}
-use Rattle.cas_step.specs.Laws.{names, target_names, option_names, names_of_all, statement_names, item_names}
+use Rattle.cas_step.specs.Evaluate.{Sight, Cell, of_object, of_global, value_of, values_of, test_of, target_of}
+use Rattle.cas_step.specs.Items.{Todo, begin, begun, loop, next, Deed, writes, into, chooses, returned, statement_deed, deed_of}
+use Rattle.cas_step.specs.Laws.{names, target_names, option_names, statement_names, item_names}
 use Rattle.cas_step.specs.Step.{Object, Block, Got, got, bad, having_read, trace_of, word_at, answered, cells_at}
 use Rattle.cas_step.proofs.Within.{Within, Any, Below, then_within, word_within, value_within, values_within, test_within, target_within, CellBelow, AllNamed, left, right}
 
@@ -84,11 +83,11 @@ so-having_read P before (bad rs why) h = tt
 abbrev pub WordOf : (ℕ → Option Entity) → (ℕ → Type 0) → ℕ → Type 0
 WordOf entity N n = (g first len : ℕ) × (guard : Option ℕ) × N g × (entity g ≡ Some (shared first len guard)) × (first ≤ n) × (n < first + len)
 
-single : (m n : ℕ) → Contains (m ∷ []) n → m ≡ n
+pub single : (m n : ℕ) → Contains (m ∷ []) n → m ≡ n
 single m n (zero, below, e) = e
 single m n (suc k, below, e) = absurd (omega (arith, below))
 
-either_case : {A B C : Type 0} → A ⊎ B → (A → C) → (B → C) → C
+pub either_case : {A B C : Type 0} → A ⊎ B → (A → C) → (B → C) → C
 either_case (inl a) f g = f a
 either_case (inr b) f g = g b
 
@@ -103,7 +102,7 @@ behind before x n c = subst (λ rs. Contains rs n) (sym (reads-having_read befor
 
 module _ (entity : ℕ → Option Entity) (N : ℕ → Type 0) where
   -- what reading a word of a global leaves is a word of it
-  trace_named : (g i : ℕ) (it : Option Entity) → entity g ≡ it → N g → i < length_of it → (n : ℕ) → Contains (trace_of it i) n → WordOf entity N n
+  pub trace_named : (g i : ℕ) (it : Option Entity) → entity g ≡ it → N g → i < length_of it → (n : ℕ) → Contains (trace_of it i) n → WordOf entity N n
   trace_named g i None e named below n (k, b, same) = absurd (omega (arith, b))
   trace_named g i (Some (function f)) e named below n (k, b, same) = absurd (omega (arith, b))
   trace_named g i (Some outside) e named below n (k, b, same) = absurd (omega (arith, b))

@@ -1,9 +1,8 @@
 -- What evaluating reads: words of the globals that are named, at places below their lengths.
-use Rattle.std.proofs.Common.{arith, ◌≡◌, ℕ, ◌<◌, Bool, true, false, List, [], ◌∷◌, ◌++◌, length, Option, Some, None, refl, sym, ap, subst}
+use Rattle.std.proofs.Common.{arith, ◌≡◌, ℕ, ◌<◌, Bool, true, false, List, [], ◌∷◌, ◌++◌, length, Option, Some, None, refl, subst}
 use Rattle.std.specs.Prelude.{⊤, ◌+◌, ℤ, pos, negsuc, neg_ℤ, ◌+ℤ◌, nat_lt, ◌==◌, ◌||◌, if◌then◌else◌, slice_get, Contains}
 use Rattle.std.proofs.lemmas.List.Elements.{Contains-append_left, Contains-append_right}
 use Rattle.std.proofs.lemmas.Bool.{ltb-true}
-use Rattle.cas_base.specs.declared.act.Why.{Why}
 use Rattle.cas_syntax.specs.declared.tree.BinaryOperator.{BinaryOperator}
 use Rattle.cas_syntax.specs.declared.tree.BinaryOperator.TheVariants as bin
 use Rattle.cas_typed.specs.declared.tree.Signedness.{Signedness}
@@ -14,7 +13,7 @@ use Rattle.cas_step.specs.Env.{Entity, length_of}
 use Rattle.cas_step.specs.Evaluate.{Sight, Cell, of_object, of_global, either, local_value, global_value, global_place, element_place, forward, backward, a_word, a_truth, condition, value_of, values_of, test_of, target_of}
 use Rattle.cas_step.specs.Laws.{names, target_names, names_of_all}
 use Rattle.cas_step.specs.Operators.{number_of, place_below, or_index, or_undefined, quotient, remainder, binary_result}
-use Rattle.cas_step.specs.Pointers.{pointed, if_live, live, moved, cell_of, behind, cell_behind, places, difference, is_same_place, equal, compared}
+use Rattle.cas_step.specs.Pointers.{pointed, live, moved, cell_of, behind, cell_behind, places, difference, is_same_place, equal, compared}
 
 -- it reads words of these globals, at places below their lengths, and what it gives is so
 abbrev pub Within : {O A : Type 0} → (ℕ → Option Entity) → (ℕ → Type 0) → Asks O A → (A → Type 0) → Type 0
