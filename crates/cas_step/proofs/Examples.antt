@@ -71,12 +71,12 @@ turn = when (is 1 1) (t.continue_ (at 0)) ∷ when (is 1 3) (t.break_ (at 0)) �
 -- for (;;) { if (i == 2) break; i += 1; } print(i);   do i += 1; while (0); print(i);   a break in an inner loop: for (; i < 2; i += 1) { while (1) break; print(i); }
 loop_rows :
     map (thread (Int I32 ∷ []) [] [])
-        ((t.for_ (at 1) (t.present (set 2 1 (number 0))) (Some (less 1 9)) (t.present (add_to 3 1 1)) (block turn) ∷ print 6 (t.local 1) ∷ [])
-        ∷ (set 1 1 (number 4294967295) ∷ t.while_ (at 2) (less 1 9) (block (add_to 3 1 1 ∷ turn)) ∷ print 6 (t.local 1) ∷ [])
-        ∷ (set 1 1 (number 4294967295) ∷ t.do_ (at 2) (block (add_to 3 1 1 ∷ turn)) (less 1 9) ∷ print 6 (t.local 1) ∷ [])
-        ∷ (t.for_ (at 1) t.absent None t.absent (block (when (is 1 2) (t.break_ (at 2)) ∷ add_to 3 1 1 ∷ [])) ∷ print 6 (t.local 1) ∷ [])
-        ∷ (t.do_ (at 1) (add_to 2 1 1) (number 0) ∷ print 6 (t.local 1) ∷ [])
-        ∷ (t.for_ (at 1) t.absent (Some (less 1 2)) (t.present (add_to 3 1 1)) (block (t.while_ (at 2) (number 1) (t.break_ (at 2)) ∷ print 4 (t.local 1) ∷ [])) ∷ []) ∷ [])
+    ((t.for_ (at 1) (t.present (set 2 1 (number 0))) (Some (less 1 9)) (t.present (add_to 3 1 1)) (block turn) ∷ print 6 (t.local 1) ∷ [])
+    ∷ (set 1 1 (number 4294967295) ∷ t.while_ (at 2) (less 1 9) (block (add_to 3 1 1 ∷ turn)) ∷ print 6 (t.local 1) ∷ [])
+    ∷ (set 1 1 (number 4294967295) ∷ t.do_ (at 2) (block (add_to 3 1 1 ∷ turn)) (less 1 9) ∷ print 6 (t.local 1) ∷ [])
+    ∷ (t.for_ (at 1) t.absent None t.absent (block (when (is 1 2) (t.break_ (at 2)) ∷ add_to 3 1 1 ∷ [])) ∷ print 6 (t.local 1) ∷ [])
+    ∷ (t.do_ (at 1) (add_to 2 1 1) (number 0) ∷ print 6 (t.local 1) ∷ [])
+    ∷ (t.for_ (at 1) t.absent (Some (less 1 2)) (t.present (add_to 3 1 1)) (block (t.while_ (at 2) (number 1) (t.break_ (at 2)) ∷ print 4 (t.local 1) ∷ [])) ∷ []) ∷ [])
     ≡ outcome ended (0 ∷ 2 ∷ 3 ∷ []) [] ∷ outcome ended (0 ∷ 2 ∷ 3 ∷ []) [] ∷ outcome ended (0 ∷ 2 ∷ 3 ∷ []) []
     ∷ outcome ended (2 ∷ []) [] ∷ outcome ended (1 ∷ []) [] ∷ outcome ended (0 ∷ 1 ∷ []) [] ∷ []
 loop_rows = refl
@@ -110,8 +110,8 @@ older_row = refl
 -- int *f() { int x; return &x; } with p = f(); q = p; print(1); and then print(*p), print(p == 0), p + 0, p - p
 dead_rows :
     map (λ last. thread (Ptr I32 ∷ Ptr I32 ∷ []) (function_of (Ptr I32) (Int I32 ∷ []) (return (Some (t.place_of 0)) ∷ []) ∷ []) (second ∷ [])
-            (call 1 (kept 1 (Ptr I32)) [] ∷ point 2 2 (t.local 1) ∷ print 3 (number 1) ∷ last ∷ []))
-        (print 4 (t.behind I32 (t.local 2)) ∷ print 4 (t.compare bin.Eq (t.local 2) t.null) ∷ point 4 2 (plus (t.local 2) 0) ∷ print 4 (t.pointer_difference (t.local 2) (t.local 1)) ∷ [])
+    (call 1 (kept 1 (Ptr I32)) [] ∷ point 2 2 (t.local 1) ∷ print 3 (number 1) ∷ last ∷ []))
+    (print 4 (t.behind I32 (t.local 2)) ∷ print 4 (t.compare bin.Eq (t.local 2) t.null) ∷ point 4 2 (plus (t.local 2) 0) ∷ print 4 (t.pointer_difference (t.local 2) (t.local 1)) ∷ [])
     ≡ outcome (bad Dead 4) (1 ∷ []) [] ∷ outcome (bad Dead 4) (1 ∷ []) [] ∷ outcome (bad Dead 4) (1 ∷ []) [] ∷ outcome (bad Dead 4) (1 ∷ []) [] ∷ []
 dead_rows = refl
 
@@ -143,7 +143,7 @@ element g a = t.element g (at 0) Signed a
 -- lock(L); g = g + c[1]; b[1] = g; unlock(L);   b[2] = 1 / 0;   print(b[-1]);
 global_rows :
     map over_words ((t.lock (at 1) 0 ∷ t.assign (at 2) (t.to_global 1 (at 0)) (int (t.binary bin.Add Signed (t.global 1 (at 0)) (element 2 (number 1))))
-        ∷ t.assign (at 3) (t.to_element 3 (at 0) Signed (number 1)) (int (t.global 1 (at 0))) ∷ t.unlock (at 4) 0 ∷ [])
+    ∷ t.assign (at 3) (t.to_element 3 (at 0) Signed (number 1)) (int (t.global 1 (at 0))) ∷ t.unlock (at 4) 0 ∷ [])
     ∷ (t.assign (at 1) (t.to_element 3 (at 0) Signed (number 2)) (int (t.binary bin.Div Signed (number 1) (number 0))) ∷ [])
     ∷ (print 1 (element 3 (number 4294967295)) ∷ []) ∷ [])
     ≡ outcome ended [] (1 ∷ 9 ∷ 5 ∷ 6 ∷ 8 ∷ 9 ∷ []) ∷ outcome (bad Index 1) [] (1 ∷ 3 ∷ 5 ∷ 6 ∷ 8 ∷ 9 ∷ []) ∷ outcome (bad Index 1) [] (1 ∷ 3 ∷ 5 ∷ 6 ∷ 8 ∷ 9 ∷ []) ∷ []

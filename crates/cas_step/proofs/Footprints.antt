@@ -6,13 +6,13 @@ use Rattle.std.specs.Option.{unwrap_or}
 use Rattle.std.proofs.lemmas.Option.{unwrap_or-slice_get}
 use Rattle.cas_base.specs.declared.kind.Ty.{Ty}
 use Rattle.cas_typed.specs.Resolved.{TypedExprTree, TypedStmtTree, skip, assign, call, block, if_, while_, do_, for_, break_, continue_, return_, lock, unlock, print, absent, present}
-use Rattle.cas_step.specs.Asks.{Value, Asks, gives, fails, reads, looks, word_in}
+use Rattle.cas_step.specs.Asks.{Value, Asks, gives, fails, reads, looks, loads, word_in}
 use Rattle.cas_step.specs.Env.{Entity, function, outside, shared, table, length_of}
 use Rattle.cas_step.specs.Env as env
 use Rattle.cas_step.specs.Evaluate.{Sight, Cell, of_object, of_global, value_of, values_of, test_of, target_of}
 use Rattle.cas_step.specs.Items.{Todo, begin, begun, loop, next, Deed, writes, into, chooses, returned, statement_deed, deed_of}
 use Rattle.cas_step.specs.Laws.{names, target_names, option_names, statement_names, item_names}
-use Rattle.cas_step.specs.Step.{Object, Block, Got, got, bad, having_read, trace_of, word_at, answered, cells_at}
+use Rattle.cas_step.specs.Step.{Object, Block, Got, got, bad, having_read, trace_of, word_at, answered, cells_at, size_of, value_at}
 use Rattle.cas_step.proofs.Within.{Within, Any, Below, then_within, word_within, value_within, values_within, test_within, target_within, CellBelow, AllNamed, left, right}
 
 -- what a deed writes is a word of a named global, at a place below its length
@@ -116,7 +116,8 @@ module _ (entity : ℕ → Option Entity) (N : ℕ → Type 0) where
       Contains (reads_of (answered entity ws memory x)) n → WordOf entity N n
   answered_named P ws memory (gives a) h n (k, b, same) = absurd (omega (arith, b))
   answered_named P ws memory (fails why) h n (k, b, same) = absurd (omega (arith, b))
-  answered_named P ws memory (looks o more) h n c = answered_named P ws memory (more (cells_at memory o)) (h (cells_at memory o)) n c
+  answered_named P ws memory (looks o more) h n c = answered_named P ws memory (more (size_of (cells_at memory o))) (h (size_of (cells_at memory o))) n c
+  answered_named P ws memory (loads o p more) h n c = answered_named P ws memory (more (value_at (cells_at memory o) p)) (h (value_at (cells_at memory o) p)) n c
   answered_named P ws memory (reads g i more) h n c =
       one_or_other (trace_of (entity g) i) (answered entity ws memory (more (word_at ws (entity g) i))) n c
       (λ d. trace_named g i (entity g) refl h.0 h.1 n d)
@@ -126,7 +127,8 @@ module _ (entity : ℕ → Option Entity) (N : ℕ → Type 0) where
   pub answered_so : {A : Type 0} (P : A → Type 0) (ws : List ℕ) (memory : List Block) (x : Asks Object A) → Within entity N x P → GotSo P (answered entity ws memory x)
   answered_so P ws memory (gives a) h = h
   answered_so P ws memory (fails why) h = tt
-  answered_so P ws memory (looks o more) h = answered_so P ws memory (more (cells_at memory o)) (h (cells_at memory o))
+  answered_so P ws memory (looks o more) h = answered_so P ws memory (more (size_of (cells_at memory o))) (h (size_of (cells_at memory o)))
+  answered_so P ws memory (loads o p more) h = answered_so P ws memory (more (value_at (cells_at memory o) p)) (h (value_at (cells_at memory o) p))
   answered_so P ws memory (reads g i more) h =
       so-having_read P (trace_of (entity g) i) (answered entity ws memory (more (word_at ws (entity g) i))) (answered_so P ws memory (more (word_at ws (entity g) i)) (h.2 (word_at ws (entity g) i)))
 
@@ -155,10 +157,11 @@ pub answered_same : {A : Type 0} (entity : ℕ → Option Entity) (N : ℕ → T
     answered entity vs memory x ≡ answered entity ws memory x
 answered_same entity N P ws vs memory (gives a) h tables read = refl
 answered_same entity N P ws vs memory (fails why) h tables read = refl
-answered_same entity N P ws vs memory (looks o more) h tables read = answered_same entity N P ws vs memory (more (cells_at memory o)) (h (cells_at memory o)) tables read
+answered_same entity N P ws vs memory (looks o more) h tables read = answered_same entity N P ws vs memory (more (size_of (cells_at memory o))) (h (size_of (cells_at memory o))) tables read
+answered_same entity N P ws vs memory (loads o p more) h tables read = answered_same entity N P ws vs memory (more (value_at (cells_at memory o) p)) (h (value_at (cells_at memory o) p)) tables read
 answered_same entity N P ws vs memory (reads g i more) h tables read =
     ap (λ n. having_read (trace_of (entity g) i) (answered entity vs memory (more n)))
-        (sym (word_same ws vs (entity g) i h.1 (tables g) (λ n c. read n (in_front (trace_of (entity g) i) (answered entity ws memory (more (word_at ws (entity g) i))) n c))))
+    (sym (word_same ws vs (entity g) i h.1 (tables g) (λ n c. read n (in_front (trace_of (entity g) i) (answered entity ws memory (more (word_at ws (entity g) i))) n c))))
     ∙ ap (having_read (trace_of (entity g) i))
-        (answered_same entity N P ws vs memory (more (word_at ws (entity g) i)) (h.2 (word_at ws (entity g) i)) tables
-        (λ n c. read n (behind (trace_of (entity g) i) (answered entity ws memory (more (word_at ws (entity g) i))) n c)))
+    (answered_same entity N P ws vs memory (more (word_at ws (entity g) i)) (h.2 (word_at ws (entity g) i)) tables
+    (λ n c. read n (behind (trace_of (entity g) i) (answered entity ws memory (more (word_at ws (entity g) i))) n c)))

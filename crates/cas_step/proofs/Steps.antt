@@ -122,10 +122,10 @@ asked e h = answered (entity_in e h) h.words h.config.memory (deed_of (sight_of 
 here_named : (e : Env) (h : Here) (n : ℕ) → Contains ((step_here e h).reads ++ (step_here e h).writes) n → WordOf (entity_in e h) (Names h) n
 here_named e h n c = either_case (Contains-append_cases (step_here e h).reads (step_here e h).writes n c)
     (λ d. answered_named (entity_in e h) (Names h) (DeedBelow (entity_in e h) (Names h)) h.words h.config.memory (deed_of (sight_of e h) (e.function h.newest.function).ret h.newest.todo)
-        (deed_within (sight_of e h) (Names h) (e.function h.newest.function).ret h.newest.todo (λ g i. i)) n (subst (λ rs. Contains rs n) (step_reads e h (asked e h)) d))
+    (deed_within (sight_of e h) (Names h) (e.function h.newest.function).ret h.newest.todo (λ g i. i)) n (subst (λ rs. Contains rs n) (step_reads e h (asked e h)) d))
     (λ d. step_writes e h (Names h) (asked e h)
-        (answered_so (entity_in e h) (Names h) (DeedBelow (entity_in e h) (Names h)) h.words h.config.memory (deed_of (sight_of e h) (e.function h.newest.function).ret h.newest.todo)
-            (deed_within (sight_of e h) (Names h) (e.function h.newest.function).ret h.newest.todo (λ g i. i))) n d)
+    (answered_so (entity_in e h) (Names h) (DeedBelow (entity_in e h) (Names h)) h.words h.config.memory (deed_of (sight_of e h) (e.function h.newest.function).ret h.newest.todo)
+    (deed_within (sight_of e h) (Names h) (e.function h.newest.function).ret h.newest.todo (λ g i. i))) n d)
 
 -- the step is that of the newest activation
 step_is : (e : Env) (ws : List ℕ) (c : Config) (a : Activation) (older : List Activation) (s : Step) → c.activations ≡ a ∷ older → step e ws c ≡ Some s → step_here e (here c a older ws) ≡ s
@@ -155,9 +155,10 @@ unchanged : (ws vs : List ℕ) → ChangesOnly [] ws ws vs
 unchanged ws vs = (λ n c. nowhere n c, λ n differs. refl)
 
 set_changes : (ws vs : List ℕ) (m x : ℕ) → length ws ≡ length vs → ChangesOnly (m ∷ []) vs (slice_set vs m x) (slice_set ws m x)
-set_changes ws vs m x e =
-    (λ n c. subst (λ k. slice_get (slice_set vs m x) k ≡ slice_get (slice_set ws m x) k) (single m n c) (set_same vs ws m x (sym e)),
-    λ n differs. set_other vs m x n (λ same. differs (0, omega arith, same)))
+set_changes ws vs m x e = (
+  λ n c. subst (λ k. slice_get (slice_set vs m x) k ≡ slice_get (slice_set ws m x) k) (single m n c) (set_same vs ws m x (sym e)),
+  λ n differs. set_other vs m x n (λ same. differs (0, omega arith, same)),
+)
 
 -- the same step over other words
 
@@ -225,10 +226,12 @@ determined_by : (e : Env) (ws vs : List ℕ) (c : Config) (activations : List Ac
     (r : Step) × (step_of e vs c activations ≡ Some r) × AreSame vs s r
 determined_by e ws vs c [] s len tables is read = absurd (cc is)
 determined_by e ws vs c (a ∷ older) s len tables is read =
-    let same : step_here e (here c a older ws) ≡ s = cc is in
-    (step_here e (here c a older vs), refl,
-    subst (λ r. AreSame vs r (step_here e (here c a older vs))) same
-        (here_same e c a older ws vs len tables (λ n d. read n (subst (λ r. Contains r.reads n) same d))))
+    let same : step_here e (here c a older ws) ≡ s = cc is in (
+      step_here e (here c a older vs),
+      refl,
+      subst (λ r. AreSame vs r (step_here e (here c a older vs))) same
+          (here_same e c a older ws vs len tables (λ n d. read n (subst (λ r. Contains r.reads n) same d))),
+    )
 
 pub steps_are_determined : StepsAreDetermined
 steps_are_determined e ws vs c s len tables is read = determined_by e ws vs c c.activations s len tables is read

@@ -1,6 +1,6 @@
 -- What evaluating reads: words of the globals that are named, at places below their lengths.
-use Rattle.std.proofs.Common.{arith, ◌≡◌, ℕ, ◌<◌, Bool, true, false, List, [], ◌∷◌, ◌++◌, length, Option, Some, None, refl, subst}
-use Rattle.std.specs.Prelude.{⊤, ◌+◌, ℤ, pos, negsuc, neg_ℤ, ◌+ℤ◌, nat_lt, ◌==◌, ◌||◌, if◌then◌else◌, slice_get, Contains}
+use Rattle.std.proofs.Common.{arith, ◌≡◌, ℕ, ◌<◌, Bool, true, false, List, [], ◌∷◌, ◌++◌, Option, Some, None, refl, subst}
+use Rattle.std.specs.Prelude.{⊤, ◌+◌, ℤ, pos, negsuc, neg_ℤ, ◌+ℤ◌, nat_lt, ◌==◌, ◌||◌, if◌then◌else◌, Contains}
 use Rattle.std.proofs.lemmas.List.Elements.{Contains-append_left, Contains-append_right}
 use Rattle.std.proofs.lemmas.Bool.{ltb-true}
 use Rattle.cas_syntax.specs.declared.tree.BinaryOperator.{BinaryOperator}
@@ -8,19 +8,20 @@ use Rattle.cas_syntax.specs.declared.tree.BinaryOperator.TheVariants as bin
 use Rattle.cas_typed.specs.declared.tree.Signedness.{Signedness}
 use Rattle.cas_typed.specs.Resolved as t
 use Rattle.cas_typed.specs.Resolved.{TypedExprTree, TypedTargetTree, to_local, to_global, to_element, to_behind}
-use Rattle.cas_step.specs.Asks.{Value, word, null, pointer, Asks, gives, fails, reads, looks, and_then, word_in}
+use Rattle.cas_step.specs.Asks.{Value, word, null, pointer, Asks, gives, fails, reads, looks, loads, and_then, word_in}
 use Rattle.cas_step.specs.Env.{Entity, length_of}
 use Rattle.cas_step.specs.Evaluate.{Sight, Cell, of_object, of_global, either, local_value, global_value, global_place, element_place, forward, backward, a_word, a_truth, condition, value_of, values_of, test_of, target_of}
 use Rattle.cas_step.specs.Laws.{names, target_names, names_of_all}
 use Rattle.cas_step.specs.Operators.{number_of, place_below, or_index, or_undefined, quotient, remainder, binary_result}
-use Rattle.cas_step.specs.Pointers.{pointed, live, moved, cell_of, behind, cell_behind, places, difference, is_same_place, equal, compared}
+use Rattle.cas_step.specs.Pointers.{pointed, live, moved, behind, cell_behind, places, difference, is_same_place, equal, compared}
 
 -- it reads words of these globals, at places below their lengths, and what it gives is so
 abbrev pub Within : {O A : Type 0} → (ℕ → Option Entity) → (ℕ → Type 0) → Asks O A → (A → Type 0) → Type 0
 Within entity N (gives a) P = P a
 Within entity N (fails why) P = ⊤
 Within entity N (reads g i more) P = N g × (i < length_of (entity g)) × ((n : ℕ) → Within entity N (more n) P)
-Within {O} entity N (looks o more) P = (cells : Option (List (Value O))) → Within entity N (more cells) P
+Within entity N (looks o more) P = (size : Option ℕ) → Within entity N (more size) P
+Within {O} entity N (loads o p more) P = (v : Value O) → Within entity N (more v) P
 
 -- anything
 abbrev pub Any : {A : Type 0} → A → Type 0
@@ -36,16 +37,17 @@ module _ {O : Type 0} (entity : ℕ → Option Entity) (N : ℕ → Type 0) wher
   then_within P Q (gives a) next h go = go a h
   then_within P Q (fails why) next h go = tt
   then_within P Q (reads g i more) next h go = (h.0, h.1, λ n. then_within P Q (more n) next (h.2 n) go)
-  then_within P Q (looks o more) next h go = λ cells. then_within P Q (more cells) next (h cells) go
+  then_within P Q (looks o more) next h go = λ size. then_within P Q (more size) next (h size) go
+  then_within P Q (loads o p more) next h go = λ v. then_within P Q (more v) next (h v) go
 
   pub word_within : (v : Value O) → Within entity N (word_in v) Any
   word_within (word n) = tt
   word_within null = tt
   word_within (pointer o p) = tt
 
-  live_within : {A : Type 0} (P : A → Type 0) (o : O) (next : List (Value O) → Asks O A) → ((cells : List (Value O)) → Within entity N (next cells) P) → Within entity N (live o next) P
+  live_within : {A : Type 0} (P : A → Type 0) (o : O) (next : ℕ → Asks O A) → ((size : ℕ) → Within entity N (next size) P) → Within entity N (live o next) P
   live_within P o next h None = tt
-  live_within P o next h (Some cells) = h cells
+  live_within P o next h (Some size) = h size
 
   index_within : {A : Type 0} (P : A → Type 0) (place : Option ℕ) (next : ℕ → Asks O A) → ((i : ℕ) → place ≡ Some i → Within entity N (next i) P) → Within entity N (or_index place next) P
   index_within P None next h = tt
@@ -57,22 +59,17 @@ module _ {O : Type 0} (entity : ℕ → Option Entity) (N : ℕ → Type 0) wher
 
   moved_within : (p : Option (O × ℕ)) (i : ℤ) → Within entity N (moved p i) Any
   moved_within None i = tt
-  moved_within (Some (o, p)) i = live_within Any o _ (λ cells. index_within Any (place_below (length cells + 1) (pos p +ℤ i)) _ (λ q is. tt))
-
-  cell_within : (v : Option (Value O)) → Within entity N (cell_of v) Any
-  cell_within None = tt
-  cell_within (Some v) = tt
+  moved_within (Some (o, p)) i = live_within Any o _ (λ size. index_within Any (place_below (size + 1) (pos p +ℤ i)) _ (λ q is. tt))
 
   local_within : (o : O) → Within entity N (local_value o) Any
-  local_within o = live_within Any o _ (λ cells. cell_within (slice_get cells 0))
-
-  behind_within : (p : Option (O × ℕ)) → Within entity N (behind p) Any
-  behind_within None = tt
-  behind_within (Some (o, p)) = live_within Any o _ (λ cells. cell_within (slice_get cells p))
+  local_within o = λ v. tt
 
   cell_behind_within : (p : Option (O × ℕ)) → Within entity N (cell_behind p) Any
   cell_behind_within None = tt
-  cell_behind_within (Some (o, p)) = live_within Any o _ (λ cells. if_within Any (nat_lt p (length cells)) _ _ tt tt)
+  cell_behind_within (Some (o, p)) = live_within Any o _ (λ size. if_within Any (nat_lt p size) _ _ tt tt)
+
+  behind_within : (p : Option (O × ℕ)) → Within entity N (behind p) Any
+  behind_within p = then_within Any Any (cell_behind p) _ (cell_behind_within p) (λ c h v. tt)
 
   places_within : (same : O → O → Bool) (p q : Option (O × ℕ)) → Within entity N (places same p q) Any
   places_within same None q = tt
@@ -88,7 +85,7 @@ module _ {O : Type 0} (entity : ℕ → Option Entity) (N : ℕ → Type 0) wher
   equal_within same None (Some (q, r)) = live_within Any q _ (λ cells. tt)
   equal_within same (Some (o, p)) None = live_within Any o _ (λ cells. tt)
   equal_within same (Some (o, p)) (Some (q, r)) =
-      live_within Any o _ (λ cells. live_within Any q _ (λ others. same_place_within same (same o q) p (length cells) r (length others)))
+      live_within Any o _ (λ cells. live_within Any q _ (λ others. same_place_within same (same o q) p cells r others))
 
   compared_within : (same : O → O → Bool) (op : BinaryOperator) (p q : Option (O × ℕ)) → Within entity N (compared same op p q) Any
   compared_within same bin.Eq p q = equal_within same p q

@@ -1,14 +1,14 @@
 -- The value of a resolved expression, and the cell of a target. Operands are evaluated from left to right, and the first that
 -- has no result ends it.
-use Rattle.std.specs.Prelude.{ℕ, ℤ, pos, neg_ℤ, Bool, true, false, List, [], ◌∷◌, Option, slice_get}
+use Rattle.std.specs.Prelude.{ℕ, ℤ, pos, neg_ℤ, Bool, true, false, List, [], ◌∷◌, Option}
 use Rattle.cas_base.specs.Word.{narrowed}
 use Rattle.cas_typed.specs.declared.tree.Signedness.{Signedness}
 use Rattle.cas_typed.specs.Resolved as t
 use Rattle.cas_typed.specs.Resolved.{TypedExprTree, TypedTargetTree, to_local, to_global, to_element, to_behind}
-use Rattle.cas_step.specs.Asks.{Value, word, null, pointer, Asks, gives, reads, and_then, word_in}
+use Rattle.cas_step.specs.Asks.{Value, word, null, pointer, Asks, gives, reads, loads, and_then, word_in}
 use Rattle.cas_step.specs.Env.{Entity, length_of}
 use Rattle.cas_step.specs.Operators.{number_of, truth, is_true, place_below, or_index, binary_result, unary_result}
-use Rattle.cas_step.specs.Pointers.{pointed, live, moved, cell_of, behind, cell_behind, difference, compared}
+use Rattle.cas_step.specs.Pointers.{pointed, moved, behind, cell_behind, difference, compared}
 
 -- where an expression stands: what the items of its module stand for, which objects are the locals of its activation, and
 -- whether two objects are the same
@@ -30,7 +30,7 @@ either a b false = b
 module _ {O : Type 0} where
   -- the first cell of a local
   abbrev pub local_value : O → Asks O (Value O)
-  local_value o = live o (λ cells. cell_of (slice_get cells 0))
+  local_value o = loads o 0 gives
 
   -- the word at a place of a global
   abbrev pub global_value : (item place : ℕ) → Asks O (Value O)

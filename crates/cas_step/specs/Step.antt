@@ -1,5 +1,5 @@
 -- The step of a thread over shared words. (Clight's small steps.)
-use Rattle.std.specs.Prelude.{ℕ, ◌+◌, nat_eq, ◌&&◌, Bool, if◌then◌else◌, List, [], ◌∷◌, ◌++◌, replicate, Option, Some, None, slice_get, slice_index_or, slice_set}
+use Rattle.std.specs.Prelude.{ℕ, ◌+◌, nat_eq, ◌&&◌, Bool, if◌then◌else◌, List, [], ◌∷◌, ◌++◌, length, replicate, Option, Some, None, slice_get, slice_index_or, slice_set}
 use Rattle.cas_base.specs.Ty.{words_of_ty}
 use Rattle.cas_base.specs.Word.{narrowed}
 use Rattle.cas_base.specs.declared.act.Act.{Act}
@@ -59,6 +59,16 @@ local_at (Some locals) n = slice_get locals n
 abbrev pub cells_at : List Block → Object → Option (List (Value Object))
 cells_at memory o = local_at (locals_at memory o.serial) o.local
 
+-- how many cells they are
+abbrev pub size_of : Option (List (Value Object)) → Option ℕ
+size_of None = None
+size_of (Some cells) = Some (length cells)
+
+-- the value at a place of them; every cell that is loaded is there
+abbrev pub value_at : Option (List (Value Object)) → (place : ℕ) → Value Object
+value_at None p = word 0
+value_at (Some cells) p = slice_index_or cells p (word 0)
+
 -- locals with a value at a place of one of them
 abbrev pub with_local : List (List (Value Object)) → (local place : ℕ) → Value Object → List (List (Value Object))
 with_local locals n i v = slice_set locals n (slice_set (slice_index_or locals n []) i v)
@@ -103,7 +113,8 @@ answered entity ws memory (asks.gives a) = got [] a
 answered entity ws memory (asks.fails why) = bad [] why
 answered entity ws memory (asks.reads g i more) =
     having_read (trace_of (entity g) i) (answered entity ws memory (more (word_at ws (entity g) i)))
-answered entity ws memory (asks.looks o more) = answered entity ws memory (more (cells_at memory o))
+answered entity ws memory (asks.looks o more) = answered entity ws memory (more (size_of (cells_at memory o)))
+answered entity ws memory (asks.loads o p more) = answered entity ws memory (more (value_at (cells_at memory o) p))
 
 -- the step
 
