@@ -7,4 +7,5 @@ pub mod Laws
 pub mod Literals
 pub mod Operators
 pub mod Pointers
+pub mod Sound
 pub mod Step
