@@ -1,5 +1,6 @@
 mod Examples
 mod Footprints
+mod Operator_examples
 mod Running
 mod Steps
 mod Within
