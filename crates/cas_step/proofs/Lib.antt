@@ -1,3 +1,4 @@
+mod Answering
 mod Examples
 mod Footprints
 mod Operator_examples

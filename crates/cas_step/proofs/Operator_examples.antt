@@ -1,5 +1,5 @@
 -- Operators on words and pointers, computed, with the first reason why there is no result.
-use Rattle.std.proofs.Common.{◌≡◌, ℕ, List, [], ◌∷◌, Some, None, refl}
+use Rattle.std.proofs.Common.{◌≡◌, ℕ, [], ◌∷◌, Some, refl}
 use Rattle.std.specs.Prelude.{map}
 use Rattle.cas_base.specs.declared.act.Why.{Why}
 use Rattle.cas_base.specs.declared.act.Why.TheVariants.{DivZero, DivRange, Index, Null, Dead, Across}
@@ -11,7 +11,7 @@ use Rattle.cas_syntax.specs.declared.tree.BinaryOperator.TheVariants as bin
 use Rattle.cas_typed.specs.declared.tree.Signedness.TheVariants.{Signed, Unsigned}
 use Rattle.cas_typed.specs.Resolved as t
 use Rattle.cas_typed.specs.Resolved.{TypedExprTree}
-use Rattle.cas_step.proofs.Running.{at, function_of, number, print, point, End, ended, bad, Outcome, outcome, thread}
+use Rattle.cas_step.proofs.Running.{at, function_of, number, print, ended, bad, Outcome, outcome, thread}
 use Rattle.cas_step.specs.Env.{function}
 
 -- print(a); where local 1 is int a[3], 2 is int x, 3 is int y, 4 is a null pointer, and 5 a pointer to what is dead
