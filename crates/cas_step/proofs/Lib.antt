@@ -5,3 +5,4 @@ mod Operator_examples
 mod Running
 mod Steps
 mod Within
+mod Words

@@ -1,6 +1,6 @@
 -- Operations on pointers, each with the first reason why it has no result: Null, Dead, Across, Index.
-use Rattle.std.specs.Prelude.{ℕ, ◌+◌, ℤ, pos, ◌+ℤ◌, ◌-ℤ◌, nat_lt, nat_le, ◌==◌, ◌||◌, Bool, true, false, not, Option, Some, None, if◌then◌else◌}
-use Rattle.cas_base.specs.Word.{word_of}
+use Rattle.std.specs.Prelude.{ℕ, ◌+◌, ℤ, pos, ◌+ℤ◌, nat_lt, nat_le, ◌==◌, ◌||◌, Bool, true, false, not, Option, Some, None, if◌then◌else◌}
+use Rattle.cas_base.specs.Word.{word_sub}
 use Rattle.cas_base.specs.declared.act.Why.TheVariants.{Index, Null, Dead, Across}
 use Rattle.cas_syntax.specs.declared.tree.BinaryOperator.{BinaryOperator}
 use Rattle.cas_syntax.specs.declared.tree.BinaryOperator.TheVariants as bin
@@ -43,7 +43,7 @@ module _ {O : Type 0} (same : O → O → Bool) where
 
   -- how many elements the first lies behind the second
   abbrev pub difference : Option (O × ℕ) → Option (O × ℕ) → Asks O ℕ
-  difference a b = and_then (places a b) (λ ps. gives (word_of (pos ps.0 -ℤ pos ps.1)))
+  difference a b = and_then (places a b) (λ ps. gives (word_sub ps.0 ps.1))
 
   -- whether places of these objects, with so many cells, are equal; of different objects neither may be the end
   abbrev pub is_same_place : (one : Bool) → (p n r m : ℕ) → Asks O Bool
