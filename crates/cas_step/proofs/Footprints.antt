@@ -75,7 +75,7 @@ reads-having_read : {A : Type 0} (before : List ℕ) (x : Got A) → reads_of (h
 reads-having_read before (got rs a) = refl
 reads-having_read before (bad rs why) = refl
 
-so-having_read : {A : Type 0} (P : A → Type 0) (before : List ℕ) (x : Got A) → GotSo P x → GotSo P (having_read before x)
+pub so-having_read : {A : Type 0} (P : A → Type 0) (before : List ℕ) (x : Got A) → GotSo P x → GotSo P (having_read before x)
 so-having_read P before (got rs a) h = h
 so-having_read P before (bad rs why) h = tt
 

@@ -6,3 +6,4 @@ mod Running
 mod Steps
 mod Within
 mod Words
+mod Values

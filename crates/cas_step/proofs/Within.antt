@@ -154,7 +154,7 @@ below_by : (limit m n : ℕ) (b : Bool) → nat_lt m limit ≡ b → (if b then 
 below_by limit m n true e f = let same : m ≡ n = cc f in subst (λ k. k < limit) same (ltb-true m limit e)
 below_by limit m n false e f = absurd (cc f)
 
-below : (limit : ℕ) (i : ℤ) (n : ℕ) → place_below limit i ≡ Some n → n < limit
+pub below : (limit : ℕ) (i : ℤ) (n : ℕ) → place_below limit i ≡ Some n → n < limit
 below limit (pos m) n e = below_by limit m n (nat_lt m limit) refl e
 below limit (negsuc m) n e = absurd (cc e)
 

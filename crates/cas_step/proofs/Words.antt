@@ -14,21 +14,21 @@ use Rattle.cas_syntax.specs.declared.tree.BinaryOperator.{BinaryOperator}
 use Rattle.cas_syntax.specs.declared.tree.BinaryOperator.TheVariants as bin
 use Rattle.cas_typed.specs.declared.tree.Signedness.{Signedness}
 use Rattle.cas_typed.specs.declared.tree.Signedness.TheVariants.{Signed, Unsigned}
-use Rattle.cas_step.specs.Asks.{Asks, gives}
+use Rattle.cas_step.specs.Asks.{Asks, gives, fails}
 use Rattle.cas_step.specs.Operators.{truth, or_undefined, quotient, remainder, shifted_right, is_less, is_at_most, binary_result, unary_result}
 use Rattle.cas_base.proofs.WordLaws.{quotient_fits, rem_fits, signed_fits}
 use Rattle.cas_base.specs.Word.{signed, word_of, has_no_signed_quotient, word_add, word_sub, word_mul, word_shl, word_shr, word_sar}
 
-add_word : (a b : ℕ) → word_add a b < 2 ^ 32
+pub add_word : (a b : ℕ) → word_add a b < 2 ^ 32
 add_word a b = grind (arith, nat_tests, ints)
 
-sub_word : (a b : ℕ) → word_sub a b < 2 ^ 32
+pub sub_word : (a b : ℕ) → word_sub a b < 2 ^ 32
 sub_word a b = grind (arith, nat_tests, ints)
 
-mul_word : (a b : ℕ) → word_mul a b < 2 ^ 32
+pub mul_word : (a b : ℕ) → word_mul a b < 2 ^ 32
 mul_word a b = grind (arith, nat_tests, ints)
 
-shl_word : (a b : ℕ) → word_shl a b < 2 ^ 32
+pub shl_word : (a b : ℕ) → word_shl a b < 2 ^ 32
 shl_word a b = grind (arith, nat_tests, ints)
 
 shr_word : (a b : ℕ) → a < 2 ^ 32 → word_shr a b < 2 ^ 32
@@ -54,12 +54,13 @@ abbrev pub IsWordIfAny : Option ℕ → Type 0
 IsWordIfAny None = ⊤
 IsWordIfAny (Some n) = n < 2 ^ 32
 
--- what is given is a word
+-- a word is given, or nothing
 abbrev pub GivesWord : {O : Type 0} → Asks O ℕ → Type 0
 GivesWord (gives n) = n < 2 ^ 32
-GivesWord _ = ⊤
+GivesWord (fails why) = ⊤
+GivesWord _ = ⊥
 
-truth_word : (b : Bool) → truth b < 2 ^ 32
+pub truth_word : (b : Bool) → truth b < 2 ^ 32
 truth_word true = omega arith
 truth_word false = omega arith
 
