@@ -1,0 +1,167 @@
+-- What an item's step reads and writes, and that it is determined by what it reads.
+use Rattle.std.proofs.Common.{arith, ◌≡◌, inl, inr, ℕ, zero, suc, ◌<◌, ◌≤◌, List, [], ◌∷◌, ◌++◌, Option, Some, None, refl, sym, ap, subst, ◌∙◌}
+use Rattle.std.specs.Prelude.{⊤, ◌+◌, ◌⊎◌, slice_get, slice_index_or, Contains}
+use Rattle.std.proofs.lemmas.List.Elements.{Contains-append_cases, Contains-append_left, Contains-append_right}
+use Rattle.std.specs.Option.{unwrap_or}
+use Rattle.std.proofs.lemmas.Option.{unwrap_or-slice_get}
+use Rattle.cas_base.specs.declared.kind.Ty.{Ty}
+use Rattle.cas_typed.specs.Resolved.{TypedExprTree, TypedStmtTree, skip, assign, call, block, if_, while_, do_, for_, break_, continue_, return_, lock, unlock, print, absent, present}
+use Rattle.cas_step.specs.Asks.{Value, Asks, gives, fails, reads, looks, loads, word_in}
+use Rattle.cas_step.specs.Env.{Entity, function, outside, shared, table, length_of}
+use Rattle.cas_step.specs.Env as env
+use Rattle.cas_step.specs.Evaluate.{Sight, Cell, of_object, of_global, value_of, values_of, test_of, target_of}
+use Rattle.cas_step.specs.Items.{Todo, begin, begun, loop, next, Deed, writes, into, chooses, returned, statement_deed, deed_of}
+use Rattle.cas_step.specs.Laws.{names, target_names, option_names, statement_names, item_names}
+use Rattle.cas_step.specs.Step.{Object, Block, Got, got, bad, having_read, trace_of, word_at, answered, cells_at, size_of, value_at}
+use Rattle.cas_step.proofs.Within.{Within, Any, Below, then_within, word_within, value_within, values_within, test_within, target_within, CellBelow, AllNamed, left, right}
+
+-- what a deed writes is a word of a named global, at a place below its length
+abbrev pub DeedBelow : {O : Type 0} → (ℕ → Option Entity) → (ℕ → Type 0) → Deed O → Type 0
+DeedBelow entity N (writes g i n todo) = Below entity N g i
+DeedBelow entity N _ = ⊤
+
+module _ {O : Type 0} (s : Sight O) (N : ℕ → Type 0) where
+  into_within : (c : Cell O) (v : Value O) (todo : List Todo) → CellBelow s N c → Within s.entity N (into c v todo) (DeedBelow s.entity N)
+  into_within (of_object o p) v todo h = tt
+  into_within (of_global g i) v todo h = then_within s.entity N Any (DeedBelow s.entity N) (word_in v) _ (word_within s.entity N v) (λ n k. h)
+
+  chooses_within : (c : Option TypedExprTree) (some others : List Todo) → AllNamed s N (option_names c) → Within s.entity N (chooses s c some others) (DeedBelow s.entity N)
+  chooses_within None some others all = tt
+  chooses_within (Some c) some others all = then_within s.entity N Any (DeedBelow s.entity N) (test_of s c) _ (test_within s N c all) (λ is h. tt)
+
+  returned_within : (a : Option TypedExprTree) → AllNamed s N (option_names a) → Within s.entity N (returned s a) (DeedBelow s.entity N)
+  returned_within None all = tt
+  returned_within (Some a) all = then_within s.entity N Any (DeedBelow s.entity N) (value_of s a) _ (value_within s N a all) (λ v h. tt)
+
+  statement_within : (a : TypedStmtTree) (todo : List Todo) → AllNamed s N (statement_names a) → Within s.entity N (statement_deed s a todo) (DeedBelow s.entity N)
+  statement_within (skip p) todo all = tt
+  statement_within (assign p target a) todo all =
+      then_within s.entity N (CellBelow s N) (DeedBelow s.entity N) (target_of s target) _ (target_within s N target (left s N (target_names target) (names a) all)) (λ c h.
+      then_within s.entity N Any (DeedBelow s.entity N) (value_of s a) _ (value_within s N a (right s N (target_names target) (names a) all)) (λ v k. into_within c v todo h))
+  statement_within (block p bs) todo all = tt
+  statement_within (if_ p c a otherwise) todo all = chooses_within (Some c) _ _ all
+  statement_within (while_ p c a) todo all = chooses_within (Some c) _ _ all
+  statement_within (do_ p a c) todo all = tt
+  statement_within (for_ p i c after a) todo all = tt
+  statement_within (break_ p) todo all = tt
+  statement_within (continue_ p) todo all = tt
+  statement_within (call p kept g at args) todo all = then_within s.entity N Any (DeedBelow s.entity N) (values_of s args) _ (values_within s N args all) (λ vs h. tt)
+  statement_within (return_ p a) todo all = returned_within a all
+  statement_within (lock p g) todo all = tt
+  statement_within (unlock p g) todo all = tt
+  statement_within (print p a) todo all =
+      then_within s.entity N Any (DeedBelow s.entity N) (value_of s a) _ (value_within s N a all) (λ v h.
+      then_within s.entity N Any (DeedBelow s.entity N) (word_in v) _ (word_within s.entity N v) (λ n k. tt))
+
+  pub deed_within : (ret : Ty) (todo : List Todo) → AllNamed s N (item_names todo) → Within s.entity N (deed_of s ret todo) (DeedBelow s.entity N)
+  deed_within ret [] all = tt
+  deed_within ret (begin a ∷ todo) all = statement_within a todo all
+  deed_within ret (begun p c a ∷ todo) all = chooses_within (Some c) _ _ all
+  deed_within ret (loop p c after a ∷ todo) all = chooses_within c _ _ all
+  deed_within ret (next p absent ∷ todo) all = tt
+  deed_within ret (next p (present a) ∷ todo) all = statement_within a todo all
+
+-- the words that were read
+abbrev pub reads_of : {A : Type 0} → Got A → List ℕ
+reads_of (got rs a) = rs
+reads_of (bad rs why) = rs
+
+-- what was got is so
+abbrev pub GotSo : {A : Type 0} → (A → Type 0) → Got A → Type 0
+GotSo P (got rs a) = P a
+GotSo P (bad rs why) = ⊤
+
+reads-having_read : {A : Type 0} (before : List ℕ) (x : Got A) → reads_of (having_read before x) ≡ before ++ reads_of x
+reads-having_read before (got rs a) = refl
+reads-having_read before (bad rs why) = refl
+
+pub so-having_read : {A : Type 0} (P : A → Type 0) (before : List ℕ) (x : Got A) → GotSo P x → GotSo P (having_read before x)
+so-having_read P before (got rs a) h = h
+so-having_read P before (bad rs why) h = tt
+
+-- a word of one of these globals
+abbrev pub WordOf : (ℕ → Option Entity) → (ℕ → Type 0) → ℕ → Type 0
+WordOf entity N n = (g first len : ℕ) × (guard : Option ℕ) × N g × (entity g ≡ Some (shared first len guard)) × (first ≤ n) × (n < first + len)
+
+pub single : (m n : ℕ) → Contains (m ∷ []) n → m ≡ n
+single m n (zero, below, e) = e
+single m n (suc k, below, e) = absurd (omega (arith, below))
+
+pub either_case : {A B C : Type 0} → A ⊎ B → (A → C) → (B → C) → C
+either_case (inl a) f g = f a
+either_case (inr b) f g = g b
+
+one_or_other : {A C : Type 0} (before : List ℕ) (x : Got A) (n : ℕ) → Contains (reads_of (having_read before x)) n → (Contains before n → C) → (Contains (reads_of x) n → C) → C
+one_or_other before x n c f g = either_case (Contains-append_cases before (reads_of x) n (subst (λ rs. Contains rs n) (reads-having_read before x) c)) f g
+
+in_front : {A : Type 0} (before : List ℕ) (x : Got A) (n : ℕ) → Contains before n → Contains (reads_of (having_read before x)) n
+in_front before x n c = subst (λ rs. Contains rs n) (sym (reads-having_read before x)) (Contains-append_left before (reads_of x) n c)
+
+behind : {A : Type 0} (before : List ℕ) (x : Got A) (n : ℕ) → Contains (reads_of x) n → Contains (reads_of (having_read before x)) n
+behind before x n c = subst (λ rs. Contains rs n) (sym (reads-having_read before x)) (Contains-append_right before (reads_of x) n c)
+
+module _ (entity : ℕ → Option Entity) (N : ℕ → Type 0) where
+  -- what reading a word of a global leaves is a word of it
+  pub trace_named : (g i : ℕ) (it : Option Entity) → entity g ≡ it → N g → i < length_of it → (n : ℕ) → Contains (trace_of it i) n → WordOf entity N n
+  trace_named g i None e named below n (k, b, same) = absurd (omega (arith, b))
+  trace_named g i (Some (function f)) e named below n (k, b, same) = absurd (omega (arith, b))
+  trace_named g i (Some outside) e named below n (k, b, same) = absurd (omega (arith, b))
+  trace_named g i (Some (table first len)) e named below n (k, b, same) = absurd (omega (arith, b))
+  trace_named g i (Some (env.lock m)) e named below n (k, b, same) = absurd (omega (arith, b))
+  trace_named g i (Some (shared first len guard)) e named below n c =
+      let is : first + i ≡ n = single (first + i) n c in (g, first, len, guard, named, e, omega (arith, is), omega (arith, is, below))
+
+  -- the words that are read belong to the named globals
+  pub answered_named : {A : Type 0} (P : A → Type 0) (ws : List ℕ) (memory : List Block) (x : Asks Object A) → Within entity N x P → (n : ℕ) →
+      Contains (reads_of (answered entity ws memory x)) n → WordOf entity N n
+  answered_named P ws memory (gives a) h n (k, b, same) = absurd (omega (arith, b))
+  answered_named P ws memory (fails why) h n (k, b, same) = absurd (omega (arith, b))
+  answered_named P ws memory (looks o more) h n c = answered_named P ws memory (more (size_of (cells_at memory o))) (h (size_of (cells_at memory o))) n c
+  answered_named P ws memory (loads o p more) h n c = answered_named P ws memory (more (value_at (cells_at memory o) p)) (h (value_at (cells_at memory o) p)) n c
+  answered_named P ws memory (reads g i more) h n c =
+      one_or_other (trace_of (entity g) i) (answered entity ws memory (more (word_at ws (entity g) i))) n c
+      (λ d. trace_named g i (entity g) refl h.0 h.1 n d)
+      (λ d. answered_named P ws memory (more (word_at ws (entity g) i)) (h.2 (word_at ws (entity g) i)) n d)
+
+  -- what is got is so
+  pub answered_so : {A : Type 0} (P : A → Type 0) (ws : List ℕ) (memory : List Block) (x : Asks Object A) → Within entity N x P → GotSo P (answered entity ws memory x)
+  answered_so P ws memory (gives a) h = h
+  answered_so P ws memory (fails why) h = tt
+  answered_so P ws memory (looks o more) h = answered_so P ws memory (more (size_of (cells_at memory o))) (h (size_of (cells_at memory o)))
+  answered_so P ws memory (loads o p more) h = answered_so P ws memory (more (value_at (cells_at memory o) p)) (h (value_at (cells_at memory o) p))
+  answered_so P ws memory (reads g i more) h =
+      so-having_read P (trace_of (entity g) i) (answered entity ws memory (more (word_at ws (entity g) i))) (answered_so P ws memory (more (word_at ws (entity g) i)) (h.2 (word_at ws (entity g) i)))
+
+-- words that agree
+
+by_get : (ws vs : List ℕ) (n : ℕ) → slice_get ws n ≡ slice_get vs n → slice_index_or ws n 0 ≡ slice_index_or vs n 0
+by_get ws vs n e = sym (unwrap_or-slice_get ws n 0) ∙ ap (λ w. unwrap_or w 0) e ∙ unwrap_or-slice_get vs n 0
+
+-- the same word in the table, where it is one
+abbrev pub AgreeIn : (ws vs : List ℕ) → Option Entity → Type 0
+AgreeIn ws vs it = (first len i : ℕ) → it ≡ Some (table first len) → i < len → slice_get ws (first + i) ≡ slice_get vs (first + i)
+
+word_same : (ws vs : List ℕ) (it : Option Entity) (i : ℕ) → i < length_of it → AgreeIn ws vs it →
+    ((n : ℕ) → Contains (trace_of it i) n → slice_get ws n ≡ slice_get vs n) → word_at ws it i ≡ word_at vs it i
+word_same ws vs None i below tables read = refl
+word_same ws vs (Some (function f)) i below tables read = refl
+word_same ws vs (Some outside) i below tables read = refl
+word_same ws vs (Some (env.lock m)) i below tables read = refl
+word_same ws vs (Some (table first len)) i below tables read = by_get ws vs (first + i) (tables first len i refl below)
+word_same ws vs (Some (shared first len guard)) i below tables read = by_get ws vs (first + i) (read (first + i) (0, omega arith, refl))
+
+-- the same is got from words that agree on what is read, and on tables
+pub answered_same : {A : Type 0} (entity : ℕ → Option Entity) (N : ℕ → Type 0) (P : A → Type 0) (ws vs : List ℕ) (memory : List Block) (x : Asks Object A) →
+    Within entity N x P → ((g : ℕ) → AgreeIn ws vs (entity g)) →
+    ((n : ℕ) → Contains (reads_of (answered entity ws memory x)) n → slice_get ws n ≡ slice_get vs n) →
+    answered entity vs memory x ≡ answered entity ws memory x
+answered_same entity N P ws vs memory (gives a) h tables read = refl
+answered_same entity N P ws vs memory (fails why) h tables read = refl
+answered_same entity N P ws vs memory (looks o more) h tables read = answered_same entity N P ws vs memory (more (size_of (cells_at memory o))) (h (size_of (cells_at memory o))) tables read
+answered_same entity N P ws vs memory (loads o p more) h tables read = answered_same entity N P ws vs memory (more (value_at (cells_at memory o) p)) (h (value_at (cells_at memory o) p)) tables read
+answered_same entity N P ws vs memory (reads g i more) h tables read =
+    ap (λ n. having_read (trace_of (entity g) i) (answered entity vs memory (more n)))
+    (sym (word_same ws vs (entity g) i h.1 (tables g) (λ n c. read n (in_front (trace_of (entity g) i) (answered entity ws memory (more (word_at ws (entity g) i))) n c))))
+    ∙ ap (having_read (trace_of (entity g) i))
+    (answered_same entity N P ws vs memory (more (word_at ws (entity g) i)) (h.2 (word_at ws (entity g) i)) tables
+    (λ n c. read n (behind (trace_of (entity g) i) (answered entity ws memory (more (word_at ws (entity g) i))) n c)))

@@ -1,0 +1,9 @@
+mod Answering
+mod Examples
+mod Footprints
+mod Operator_examples
+mod Running
+mod Steps
+mod Within
+mod Words
+mod Values

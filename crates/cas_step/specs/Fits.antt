@@ -1,0 +1,90 @@
+-- Which environments are those of typed modules, and which words and threads fit them.
+use Rattle.std.specs.Prelude.{◌≡◌, ⊤, ℕ, ◌+◌, ◌<◌, ◌≤◌, IsTrue, List, [], ◌∷◌, map, take, length, Option, Some, None, slice_get, All}
+use Rattle.cas_base.specs.Kind.{is_of_kind}
+use Rattle.cas_base.specs.Ty.{words_of_ty}
+use Rattle.cas_base.specs.declared.decl.Decl.{Decl}
+use Rattle.cas_base.specs.declared.decl.Form.{Form}
+use Rattle.cas_base.specs.declared.decl.Form.TheVariants.{Lock, Shared, Table, Function as AFunction}
+use Rattle.cas_base.specs.declared.kind.Kind.{Kind}
+use Rattle.cas_base.specs.declared.kind.Kind.TheVariants.{I32}
+use Rattle.cas_base.specs.declared.kind.Ty.{Ty}
+use Rattle.cas_base.specs.declared.kind.Ty.TheVariants.{Void, Int, Array}
+use Rattle.cas_syntax.specs.Tree.{FunTree, define}
+use Rattle.cas_typed.specs.Modules.{decl_of, return_type}
+use Rattle.cas_typed.specs.Resolved.{TypedFunTree, TypedModuleTree}
+use Rattle.cas_typed.specs.Sorts.{IsSortedModule}
+use Rattle.cas_step.specs.Asks.{word}
+use Rattle.cas_step.specs.Env.{FunctionAt, Function, Entity, function, shared, table, lock, Env}
+use Rattle.cas_step.specs.Literals.{BodyHasWords}
+use Rattle.cas_step.specs.Step.{Config, Step, step, start}
+
+-- the function that stands there
+pub record IsAt (modules : List TypedModuleTree) (f : FunctionAt) (unit : TypedModuleTree) (it : TypedFunTree) : Type 0 where
+  pub unit_is : slice_get modules f.unit ≡ Some unit
+  pub function_is : slice_get unit.functions f.place ≡ Some it
+
+-- a function is what its module says: its item's return type and closing brace, its locals and its body, whose literals are words
+pub record IsFunctionOf (unit : TypedModuleTree) (it : TypedFunTree) (f : Function) : Type 0 where
+  pub tree : FunTree
+  pub item : slice_get unit.module_tree.items it.item ≡ Some (define tree)
+  pub ret : f.ret ≡ return_type tree.decl.form
+  pub locals : f.locals ≡ map (λ v. v.ty) it.locals
+  pub body : f.body ≡ it.body
+  pub closing : f.closing ≡ tree.closing
+  pub literals : BodyHasWords it.body
+
+-- a function with these parameters that returns so
+pub record HasSignature (f : Function) (ret : Ty) (params : List Ty) : Type 0 where
+  pub returns_so : f.ret ≡ ret
+  pub takes : take (length params) f.locals ≡ params
+
+-- the words from this one on, as many as the type has, are of the type's kind
+abbrev pub AreCells : List (Option Kind) → (first : ℕ) → Ty → Type 0
+AreCells kinds first (Int k) = slice_get kinds first ≡ Some (Some k)
+AreCells kinds first (Array k n) = (i : ℕ) → i < n → slice_get kinds (first + i) ≡ Some (Some k)
+AreCells kinds first _ = ⊥
+
+-- what a declaration may stand for in a whole program: a function with its signature, words of its type, a lock's word
+abbrev pub StandsFor : List TypedModuleTree → Env → Form → Option Entity → Type 0
+StandsFor modules e (AFunction ret params holds) (Some (function f)) =
+    (unit : TypedModuleTree) × (it : TypedFunTree) × IsAt modules f unit it × HasSignature (e.function f) ret params
+StandsFor modules e (Shared ty name) (Some (shared first n guard)) = (n ≡ words_of_ty ty) × AreCells e.kinds first ty
+StandsFor modules e (Table ty) (Some (table first n)) = (n ≡ words_of_ty ty) × AreCells e.kinds first ty
+StandsFor modules e Lock (Some (lock n)) = slice_get e.kinds n ≡ Some None
+StandsFor modules e _ _ = ⊥
+
+-- the environment is that of a whole program of these modules, each of which is well sorted
+pub record IsEnvOf (modules : List TypedModuleTree) (e : Env) : Type 0 where
+  pub sorted : All IsSortedModule modules
+  pub functions : (f : FunctionAt) (unit : TypedModuleTree) (it : TypedFunTree) → IsAt modules f unit it → IsFunctionOf unit it (e.function f)
+  pub entities : (n g : ℕ) (unit : TypedModuleTree) (d : Decl) → slice_get modules n ≡ Some unit →
+      slice_get (map decl_of unit.module_tree.items) g ≡ Some d → StandsFor modules e d.form (e.entity n g)
+
+-- the most threads that a program has
+abbrev pub most_threads : ℕ
+most_threads = 64
+
+-- each entry is a function of these modules that takes the thread's number
+pub record AreEntries (modules : List TypedModuleTree) (e : Env) (entries : List FunctionAt) : Type 0 where
+  pub count : length entries ≤ most_threads
+  pub each : (thread : ℕ) (f : FunctionAt) → slice_get entries thread ≡ Some f →
+      (unit : TypedModuleTree) × (it : TypedFunTree) × IsAt modules f unit it × HasSignature (e.function f) Void (Int I32 ∷ [])
+
+-- the word is a value of the kind; a lock's may be any
+abbrev pub FitsWord : Option Kind → ℕ → Type 0
+FitsWord None n = ⊤
+FitsWord (Some k) n = IsTrue (is_of_kind n k)
+
+abbrev pub FitEach : List (Option Kind) → List ℕ → Type 0
+FitEach [] [] = ⊤
+FitEach (k ∷ ks) (n ∷ ns) = FitsWord k n × FitEach ks ns
+FitEach _ _ = ⊥
+
+-- words fit: they are as many as the program's, and each word of a global is a value of its kind
+abbrev pub FitsWords : Env → List ℕ → Type 0
+FitsWords e ws = FitEach e.kinds ws
+
+-- a thread fits: it begins at an entry with its number, and takes steps, each over some words that fit
+pub data FitsConfig (e : Env) (entries : List FunctionAt) : Config → Type 0 where
+  at_start : (thread : ℕ) (f : FunctionAt) → slice_get entries thread ≡ Some f → FitsConfig e entries (start e f (word thread ∷ []))
+  and_step : (c : Config) (ws : List ℕ) (s : Step) → FitsConfig e entries c → FitsWords e ws → step e ws c ≡ Some s → FitsConfig e entries s.next

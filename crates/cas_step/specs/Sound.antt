@@ -1,0 +1,111 @@
+-- What holds of each thread that fits: values have the types of their cells, pointers go to places within or at the end of
+-- objects of their kind, and what is to do stands in the function.
+use Rattle.std.specs.Prelude.{◌≡◌, ⊤, ℕ, ◌<◌, ◌≤◌, nat_eq, if◌then◌else◌, Bool, IsTrue, List, [], ◌∷◌, length, map, Option, Some, None, slice_get}
+use Rattle.cas_base.specs.Kind.{is_of_kind}
+use Rattle.cas_base.specs.Ty.{words_of_ty}
+use Rattle.cas_base.specs.declared.decl.Decl.{Decl}
+use Rattle.cas_base.specs.declared.kind.Kind.{Kind}
+use Rattle.cas_base.specs.declared.kind.Ty.{Ty}
+use Rattle.cas_base.specs.declared.kind.Ty.TheVariants.{Int, Ptr, Array}
+use Rattle.cas_typed.specs.Modules.{decl_of}
+use Rattle.cas_typed.specs.Resolved.{TypedStmtTree, TypedStmtOption, absent, present, TypedFunTree, TypedModuleTree}
+use Rattle.cas_typed.specs.Sorts.{MayKeep, IsTest, IsSorted}
+use Rattle.cas_step.specs.Asks.{Value, word, null, pointer}
+use Rattle.cas_step.specs.Env.{FunctionAt, Env}
+use Rattle.cas_step.specs.Fits.{IsAt, IsEnvOf, AreEntries, FitsConfig}
+use Rattle.cas_step.specs.Items.{Todo, begin, begun, loop, next}
+use Rattle.cas_step.specs.Literals.{StatementHasWords, OptionHasWords}
+use Rattle.cas_step.specs.Step.{Object, Activation, Block, Config}
+
+-- the types of an activation's locals
+abbrev pub types_of : Env → Activation → List Ty
+types_of e a = (e.function a.function).locals
+
+-- the types of the locals of the activation with this serial number; none where it has returned
+abbrev pub types_at : Env → List Activation → (serial : ℕ) → Option (List Ty)
+types_at e [] serial = None
+types_at e (a ∷ older) serial = if nat_eq a.serial serial then Some (types_of e a) else types_at e older serial
+
+-- a local that is an object of cells of this kind
+abbrev pub IsObjectOf : Ty → Kind → Type 0
+IsObjectOf (Int j) k = j ≡ k
+IsObjectOf (Array j n) k = j ≡ k
+IsObjectOf _ k = ⊥
+
+-- a pointer to cells of this kind: its object's activation has begun, and where that hasn't returned, the object is of the kind
+-- and the place is within it or at its end
+pub record PointsTo (e : Env) (c : Config) (k : Kind) (o : Object) (p : ℕ) : Type 0 where
+  pub begun_before : o.serial < c.fresh
+  pub in_reach : (tys : List Ty) → types_at e c.activations o.serial ≡ Some tys →
+      (ty : Ty) × (slice_get tys o.local ≡ Some ty) × IsObjectOf ty k × (p ≤ words_of_ty ty)
+
+-- the value is of this type
+abbrev pub IsOfType : Env → Config → Ty → Value Object → Type 0
+IsOfType e c (Int k) (word n) = IsTrue (is_of_kind n k)
+IsOfType e c (Ptr k) null = ⊤
+IsOfType e c (Ptr k) (pointer o p) = PointsTo e c k o p
+IsOfType e c _ _ = ⊥
+
+-- the type of each of a local's cells
+abbrev pub cell_type : Ty → Ty
+cell_type (Array k n) = Int k
+cell_type ty = ty
+
+abbrev pub EachOfType : Env → Config → Ty → List (Value Object) → Type 0
+EachOfType e c ty [] = ⊤
+EachOfType e c ty (v ∷ vs) = IsOfType e c ty v × EachOfType e c ty vs
+
+-- locals of these types, each with as many cells as its type has
+abbrev pub AreLocals : Env → Config → List Ty → List (List (Value Object)) → Type 0
+AreLocals e c [] [] = ⊤
+AreLocals e c (ty ∷ tys) (cells ∷ locals) = (length cells ≡ words_of_ty ty) × EachOfType e c (cell_type ty) cells × AreLocals e c tys locals
+AreLocals e c _ _ = ⊥
+
+-- the memory has the locals of these activations, and no others
+abbrev pub AreBlocks : Env → Config → List Activation → List Block → Type 0
+AreBlocks e c [] [] = ⊤
+AreBlocks e c (a ∷ older) (b ∷ bs) = (b.serial ≡ a.serial) × AreLocals e c (types_of e a) b.locals × AreBlocks e c older bs
+AreBlocks e c _ _ = ⊥
+
+-- a statement that may stand in a function of these locals that returns so
+abbrev pub MayBegin : List Ty → List Decl → (ret : Ty) → TypedStmtTree → Type 0
+MayBegin vs ds ret a = (l : Bool) × IsSorted vs ds ret l a × StatementHasWords a
+
+abbrev pub MayBeginPart : List Ty → List Decl → (ret : Ty) → TypedStmtOption → Type 0
+MayBeginPart vs ds ret absent = ⊤
+MayBeginPart vs ds ret (present a) = MayBegin vs ds ret a
+
+-- items that may stand there
+abbrev pub MayDo : List Ty → List Decl → (ret : Ty) → List Todo → Type 0
+MayDo vs ds ret [] = ⊤
+MayDo vs ds ret (begin a ∷ todo) = MayBegin vs ds ret a × MayDo vs ds ret todo
+MayDo vs ds ret (begun p c a ∷ todo) = IsTest vs ds (Some c) × OptionHasWords (Some c) × MayBegin vs ds ret a × MayDo vs ds ret todo
+MayDo vs ds ret (loop p c after a ∷ todo) = IsTest vs ds c × OptionHasWords c × MayBeginPart vs ds ret after × MayBegin vs ds ret a × MayDo vs ds ret todo
+MayDo vs ds ret (next p after ∷ todo) = MayBeginPart vs ds ret after × MayDo vs ds ret todo
+
+-- an activation of a function of these modules, which does what stands in the function
+pub record IsSoundActivation (modules : List TypedModuleTree) (e : Env) (a : Activation) : Type 0 where
+  pub unit : TypedModuleTree
+  pub it : TypedFunTree
+  pub at_place : IsAt modules a.function unit it
+  pub doing : MayDo (types_of e a) (map decl_of unit.module_tree.items) (e.function a.function).ret a.todo
+
+-- the caller may keep what the newer activation returns
+abbrev pub CallerKeeps : Env → Activation → List Activation → Type 0
+CallerKeeps e a [] = ⊤
+CallerKeeps e a (caller ∷ older) = MayKeep (types_of e caller) a.target (e.function a.function).ret
+
+-- activations, the newest first, each begun before this serial number and after those that are older
+abbrev pub AreActivations : List TypedModuleTree → Env → (before : ℕ) → List Activation → Type 0
+AreActivations modules e before [] = ⊤
+AreActivations modules e before (a ∷ older) = (a.serial < before) × IsSoundActivation modules e a × CallerKeeps e a older × AreActivations modules e a.serial older
+
+-- a thread is sound
+pub record IsSound (modules : List TypedModuleTree) (e : Env) (c : Config) : Type 0 where
+  pub activations : AreActivations modules e c.fresh c.activations
+  pub memory : AreBlocks e c c.activations c.memory
+
+-- Each thread that fits is sound.
+abbrev pub FittingIsSound : Type 0
+FittingIsSound = (modules : List TypedModuleTree) (e : Env) (entries : List FunctionAt) (c : Config) →
+    IsEnvOf modules e → AreEntries modules e entries → FitsConfig e entries c → IsSound modules e c

@@ -1,0 +1,268 @@
+-- The step of a thread over shared words. (Clight's small steps.)
+use Rattle.std.specs.Prelude.{ℕ, ◌+◌, nat_eq, ◌&&◌, Bool, if◌then◌else◌, List, [], ◌∷◌, ◌++◌, length, replicate, Option, Some, None, slice_get, slice_index_or, slice_set}
+use Rattle.cas_base.specs.Ty.{words_of_ty}
+use Rattle.cas_base.specs.Word.{narrowed}
+use Rattle.cas_base.specs.declared.act.Act.{Act}
+use Rattle.cas_base.specs.declared.act.Act.TheVariants as act
+use Rattle.cas_base.specs.declared.act.Why.{Why}
+use Rattle.cas_base.specs.declared.act.Why.TheVariants.{Index}
+use Rattle.cas_base.specs.declared.kind.Ty.{Ty}
+use Rattle.cas_base.specs.declared.kind.Ty.TheVariants.{Int, Ptr}
+use Rattle.cas_base.specs.declared.place.Place.{Place}
+use Rattle.cas_typed.specs.declared.tree.Destination.{Destination}
+use Rattle.cas_step.specs.Asks as asks
+use Rattle.cas_step.specs.Asks.{Asks, Value, word, null}
+use Rattle.cas_step.specs.Env.{FunctionAt, Entity, function, shared, table, lock, Env}
+use Rattle.cas_step.specs.Evaluate.{Sight}
+use Rattle.cas_step.specs.Items.{Todo, begin_all, Deed, goes_on, stores, writes, calls, returns, locks, unlocks, prints, deed_of, place_of}
+
+-- an object: a local of the activation with this serial number
+pub record Object : Type 0 where
+  pub serial : ℕ
+  pub local : ℕ
+
+abbrev pub same_object : Object → Object → Bool
+same_object a b = nat_eq a.serial b.serial && nat_eq a.local b.local
+
+-- a call that hasn't returned: its serial number, which no other call has, its function, the caller's local
+-- for its result, and what it has to do, the first item first
+pub record Activation : Type 0 where
+  pub serial : ℕ
+  pub function : FunctionAt
+  pub target : Option Destination
+  pub todo : List Todo
+
+-- the locals of the activation with this serial number, each with its cells
+pub record Block : Type 0 where
+  pub serial : ℕ
+  pub locals : List (List (Value Object))
+
+-- a thread: its activations, the newest first, their locals, and the next serial number. It has ended where it
+-- has no activation
+pub record Config : Type 0 where
+  pub activations : List Activation
+  pub memory : List Block
+  pub fresh : ℕ
+
+-- the memory
+
+-- the locals of the activation with this serial number; none where it has returned
+abbrev pub locals_at : List Block → (serial : ℕ) → Option (List (List (Value Object)))
+locals_at [] serial = None
+locals_at (b ∷ bs) serial = if nat_eq b.serial serial then Some b.locals else locals_at bs serial
+
+abbrev pub local_at : Option (List (List (Value Object))) → (local : ℕ) → Option (List (Value Object))
+local_at None n = None
+local_at (Some locals) n = slice_get locals n
+
+-- the cells of an object; none where it is dead
+abbrev pub cells_at : List Block → Object → Option (List (Value Object))
+cells_at memory o = local_at (locals_at memory o.serial) o.local
+
+-- how many cells they are
+abbrev pub size_of : Option (List (Value Object)) → Option ℕ
+size_of None = None
+size_of (Some cells) = Some (length cells)
+
+-- the value at a place of them; every cell that is loaded is there
+abbrev pub value_at : Option (List (Value Object)) → (place : ℕ) → Value Object
+value_at None p = word 0
+value_at (Some cells) p = slice_index_or cells p (word 0)
+
+-- locals with a value at a place of one of them
+abbrev pub with_local : List (List (Value Object)) → (local place : ℕ) → Value Object → List (List (Value Object))
+with_local locals n i v = slice_set locals n (slice_set (slice_index_or locals n []) i v)
+
+-- the memory with a value at a place of an object
+abbrev pub memory_with : List Block → Object → (place : ℕ) → Value Object → List Block
+memory_with [] o i v = []
+memory_with (b ∷ bs) o i v =
+    if nat_eq b.serial o.serial then record { serial = b.serial; locals = with_local b.locals o.local i v } ∷ bs else b ∷ memory_with bs o i v
+
+-- the memory without the locals of an activation, whose objects are dead from now on
+abbrev pub memory_without : List Block → (serial : ℕ) → List Block
+memory_without [] serial = []
+memory_without (b ∷ bs) serial = if nat_eq b.serial serial then bs else b ∷ memory_without bs serial
+
+-- what is asked, answered
+
+-- what was got, with the shared words that were read for it; or why nothing was, with those that were read before
+pub data Got (A : Type 0) : Type 0 where
+  got : (reads : List ℕ) → A → Got A
+  bad : (reads : List ℕ) → Why → Got A
+
+-- the same with these reads before
+abbrev pub having_read : {A : Type 0} → List ℕ → Got A → Got A
+having_read before (got rs a) = got (before ++ rs) a
+having_read before (bad rs why) = bad (before ++ rs) why
+
+-- the word at a place of a global
+abbrev pub word_at : List ℕ → Option Entity → (place : ℕ) → ℕ
+word_at ws (Some (shared first n guard)) i = slice_index_or ws (first + i) 0
+word_at ws (Some (table first n)) i = slice_index_or ws (first + i) 0
+word_at ws _ i = 0
+
+-- what reading this word of a global puts into the footprint: words of tables of constants are in none
+abbrev pub trace_of : Option Entity → (place : ℕ) → List ℕ
+trace_of (Some (shared first n guard)) i = (first + i) ∷ []
+trace_of _ i = []
+
+-- what is got where these words and this memory answer. All words are read at one moment
+abbrev pub answered : {A : Type 0} → (entity : ℕ → Option Entity) → (words : List ℕ) → List Block → Asks Object A → Got A
+answered entity ws memory (asks.gives a) = got [] a
+answered entity ws memory (asks.fails why) = bad [] why
+answered entity ws memory (asks.reads g i more) =
+    having_read (trace_of (entity g) i) (answered entity ws memory (more (word_at ws (entity g) i)))
+answered entity ws memory (asks.looks o more) = answered entity ws memory (more (size_of (cells_at memory o)))
+answered entity ws memory (asks.loads o p more) = answered entity ws memory (more (value_at (cells_at memory o) p))
+
+-- the step
+
+-- a step: its act, the thread and the shared words after it, the words that it reads and writes by number, and
+-- the place of its statement with the number of the module
+pub record Step : Type 0 where
+  pub act : Act
+  pub next : Config
+  pub words : List ℕ
+  pub reads : List ℕ
+  pub writes : List ℕ
+  pub unit : ℕ
+  pub place : Place
+
+-- where a thread stands that hasn't ended: with its newest activation, the older ones, and the shared words
+pub record Here : Type 0 where
+  pub config : Config
+  pub newest : Activation
+  pub older : List Activation
+  pub words : List ℕ
+
+-- what the items of the newest activation's module stand for
+abbrev pub entity_in : Env → Here → (item : ℕ) → Option Entity
+entity_in e h g = e.entity h.newest.function.unit g
+
+abbrev pub sight_of : Env → Here → Sight Object
+sight_of e h = record {
+  entity = entity_in e h;
+  own = λ n. record { serial = h.newest.serial; local = n };
+  same = same_object;
+}
+
+-- the newest activation with this left to do, behind the older ones
+abbrev pub doing : Here → List Todo → List Activation
+doing h todo = record { serial = h.newest.serial; function = h.newest.function; target = h.newest.target; todo = todo } ∷ h.older
+
+-- the thread with these activations and this memory
+abbrev pub thread_with : Here → List Activation → List Block → Config
+thread_with h activations memory = record { activations = activations; memory = memory; fresh = h.config.fresh }
+
+module _ (e : Env) (h : Here) where
+  -- a step that leaves the shared words, after which the thread is this
+  abbrev pub step_to : (reads : List ℕ) → Act → Config → Step
+  step_to rs a next = record {
+    act = a;
+    next = next;
+    words = h.words;
+    reads = rs;
+    writes = [];
+    unit = h.newest.function.unit;
+    place = place_of (e.function h.newest.function).closing h.newest.todo;
+  }
+
+  -- a Bad step, after which all is as before
+  abbrev pub bad_step : (reads : List ℕ) → Why → Step
+  bad_step rs why = step_to rs (act.Bad why) h.config
+
+  -- a step after which the newest activation has this left to do
+  abbrev pub goes_step : (reads : List ℕ) → Act → List Todo → Step
+  goes_step rs a todo = step_to rs a (thread_with h (doing h todo) h.config.memory)
+
+  -- a step that writes the word with this number
+  abbrev pub write_step : (reads : List ℕ) → (number value : ℕ) → List Todo → Step
+  write_step rs number n todo = record {
+    act = act.Quiet;
+    next = thread_with h (doing h todo) h.config.memory;
+    words = slice_set h.words number n;
+    reads = rs;
+    writes = number ∷ [];
+    unit = h.newest.function.unit;
+    place = place_of (e.function h.newest.function).closing h.newest.todo;
+  }
+
+  -- a step that writes a word of a shared global
+  abbrev pub global_step : (reads : List ℕ) → Option Entity → (place value : ℕ) → List Todo → Step
+  global_step rs (Some (shared first len guard)) i n todo = write_step rs (first + i) n todo
+  global_step rs _ i n todo = bad_step rs Index
+
+-- what the cells of a local begin with
+abbrev pub zero_of : Ty → Value Object
+zero_of (Ptr k) = null
+zero_of _ = word 0
+
+-- the locals of a new activation: those with an argument, then the others, at 0 or null
+abbrev pub locals_of : List Ty → (arguments : List (Value Object)) → List (List (Value Object))
+locals_of [] vs = []
+locals_of (ty ∷ tys) [] = replicate (words_of_ty ty) (zero_of ty) ∷ locals_of tys []
+locals_of (ty ∷ tys) (v ∷ vs) = (v ∷ []) ∷ locals_of tys vs
+
+-- the thread, with these activations and this memory, where a call of this function with these arguments has begun
+abbrev pub with_call : Env → List Activation → List Block → (serial : ℕ) → FunctionAt → List (Value Object) → Option Destination → Config
+with_call e activations memory serial f vs target = record {
+  activations = record { serial = serial; function = f; target = target; todo = begin_all (e.function f).body [] } ∷ activations;
+  memory = record { serial = serial; locals = locals_of (e.function f).locals vs } ∷ memory;
+  fresh = serial + 1;
+}
+
+-- a returned value, converted to the type of the local that keeps it
+abbrev pub converted : Ty → Value Object → Value Object
+converted (Int k) (word n) = word (narrowed n k)
+converted _ v = v
+
+-- the memory where the caller with this serial number has kept what was returned
+abbrev pub memory_keeping : List Block → (serial : ℕ) → Option Destination → Option (Value Object) → List Block
+memory_keeping memory serial (Some d) (Some v) = memory_with memory (record { serial = serial; local = d.local }) 0 (converted d.ty v)
+memory_keeping memory serial _ _ = memory
+
+module _ (e : Env) (h : Here) where
+  -- a call
+  abbrev pub call_step : (reads : List ℕ) → Option Entity → List (Value Object) → Option Destination → List Todo → Step
+  call_step rs (Some (function f)) vs target todo = step_to e h rs act.Quiet (with_call e (doing h todo) h.config.memory h.config.fresh f vs target)
+  call_step rs _ vs target todo = bad_step e h rs Index
+
+  -- a return: to the caller, or, from the outermost activation, the end of the thread
+  abbrev pub return_step : (reads : List ℕ) → (older : List Activation) → Option (Value Object) → Step
+  return_step rs [] v = step_to e h rs act.Done (thread_with h [] (memory_without h.config.memory h.newest.serial))
+  return_step rs (a ∷ older) v =
+      step_to e h rs act.Quiet (thread_with h (a ∷ older) (memory_keeping (memory_without h.config.memory h.newest.serial) a.serial h.newest.target v))
+
+  -- an act on a lock
+  abbrev pub lock_step : (reads : List ℕ) → Option Entity → (ℕ → Act) → List Todo → Step
+  lock_step rs (Some (lock n)) a todo = goes_step e h rs (a n) todo
+  lock_step rs _ a todo = bad_step e h rs Index
+
+  -- the step that does this
+  abbrev pub step_doing : Got (Deed Object) → Step
+  step_doing (bad rs why) = bad_step e h rs why
+  step_doing (got rs (goes_on todo)) = goes_step e h rs act.Quiet todo
+  step_doing (got rs (stores o i v todo)) = step_to e h rs act.Quiet (thread_with h (doing h todo) (memory_with h.config.memory o i v))
+  step_doing (got rs (writes g i n todo)) = global_step e h rs (entity_in e h g) i n todo
+  step_doing (got rs (calls g vs target todo)) = call_step rs (entity_in e h g) vs target todo
+  step_doing (got rs (returns v)) = return_step rs h.older v
+  step_doing (got rs (locks g todo)) = lock_step rs (entity_in e h g) act.Lock todo
+  step_doing (got rs (unlocks g todo)) = lock_step rs (entity_in e h g) act.Unlock todo
+  step_doing (got rs (prints n todo)) = goes_step e h rs (act.Out n) todo
+
+  -- the step of the newest activation's first item
+  abbrev pub step_here : Step
+  step_here = step_doing (answered (entity_in e h) h.words h.config.memory (deed_of (sight_of e h) (e.function h.newest.function).ret h.newest.todo))
+
+-- the next step of a thread over these shared words; None where it has ended
+abbrev pub step_of : Env → List ℕ → Config → (activations : List Activation) → Option Step
+step_of e ws c [] = None
+step_of e ws c (a ∷ older) = Some (step_here e (record { config = c; newest = a; older = older; words = ws }))
+
+abbrev pub step : Env → List ℕ → Config → Option Step
+step e ws c = step_of e ws c c.activations
+
+-- a thread at the start of a function with these arguments
+abbrev pub start : Env → FunctionAt → List (Value Object) → Config
+start e f vs = with_call e [] [] 0 f vs None
