@@ -13,6 +13,7 @@ use Rattle.cas_runs.specs.Edge.{Cell, LockWord, SharedWord, TableWord, Signature
 use Rattle.cas_runs.specs.Access.{Stretch, Words}
 use Rattle.cas_runs.specs.Naming.{Layout, Part, ArePlaced}
 use Rattle.cas_runs.specs.Machine.{Machine}
+use Rattle.cas_runs.specs.Outside.{Holds}
 use Rattle.cas_runs.specs.Refines.{Refines}
 
 -- where a machine runs: the edge, where the words of each global and lock stand, which stretches of blocks are objects, and the values that nothing
@@ -90,9 +91,13 @@ IsTableCell (Array kind size) c = (value : ℕ) × IsOfKind value kind × (c ≡
 abbrev pub AreCells : Edge → Option Stretch → ℕ → (Cell → Type 0) → Type 0
 AreCells edge stretch count IsSuch = (s : Stretch) × (stretch ≡ Some s) × (s.size ≡ count) × ((k : ℕ) → k < count → (c : Cell) × (slice_get edge.cells (s.first + k) ≡ Some c) × IsSuch c)
 
--- the function is known by its types and by the locks that it holds
+-- the same locks, in whatever order and however often
+abbrev pub AreSameLocks : List ℕ → List ℕ → Type 0
+AreSameLocks locks others = Holds locks others × Holds others locks
+
+-- the function is known by its types and by the set of locks that it holds
 abbrev pub IsKnown : Edge → Words → NameBytes → Ty → List Ty → List NameBytes → Type 0
-IsKnown edge words name ret params holds = (f : Signature) × (signature_of edge.functions name ≡ Some f) × (f.ret ≡ ret) × (f.params ≡ params) × (f.holds ≡ lock_numbers edge words holds)
+IsKnown edge words name ret params holds = (f : Signature) × (signature_of edge.functions name ≡ Some f) × (f.ret ≡ ret) × (f.params ≡ params) × AreSameLocks f.holds (lock_numbers edge words holds)
 
 -- the edge has what is declared
 abbrev pub IsDeclared : Edge → Words → NameBytes → Form → Type 0
