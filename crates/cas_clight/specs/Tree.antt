@@ -5,7 +5,7 @@ use Rattle.cas_base.specs.declared.decl.Decl.{Decl}
 use Rattle.cas_base.specs.declared.kind.Kind.{Kind}
 use Rattle.cas_base.specs.declared.place.Place.{Place}
 use Rattle.cas_clight.specs.declared.tree.BinaryOperator.{BinaryOperator}
-use Rattle.cas_syntax.specs.declared.tree.Ident.{Ident}
+use Rattle.cas_clight.specs.declared.tree.Ident.{Ident}
 use Rattle.cas_clight.specs.declared.tree.Expr.{Expr, Binary'}
 use Rattle.cas_clight.specs.declared.tree.Expr.TheVariants.{Lit}
 use Rattle.cas_clight.specs.declared.tree.Stmt.{Stmt}

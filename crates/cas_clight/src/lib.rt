@@ -4,4 +4,4 @@
 
 mod tree;
 
-pub use tree::{BinaryOperator, Expr, Fun, Item, Module, Stmt, StmtForm};
+pub use tree::{BinaryOperator, Expr, Fun, Ident, Item, Module, Stmt, StmtForm};

@@ -1,5 +1,11 @@
-use cas_base::{Decl, Kind, Place, Seq};
-use cas_syntax::Ident;
+use cas_base::{Decl, Kind, Name, Place, Seq};
+
+/// A name where a text has it.
+#[derive(Debug, Drop)]
+pub struct Ident {
+    pub name: Name,
+    pub place: Place,
+}
 
 /// The operators that take two operands and always both.
 #[derive(Clone, Copy, Debug, PartialEq, Eq)]

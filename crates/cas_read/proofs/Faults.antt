@@ -15,13 +15,17 @@ use Rattle.cas_syntax.specs.Tokens.{sign}
 use Rattle.cas_syntax.specs.Tree.{ItemTree}
 use Rattle.cas_read.specs.Frames.{Frame, Control, InItems}
 use Rattle.cas_read.specs.Machine.{Outcome, is_at, go, run, finish, Fault, Verdict}
-use Rattle.cas_read.specs.Left.{place_left}
 use Rattle.cas_read.proofs.CompleteItems.{reads_module, some_within, some_without}
 use Rattle.cas_read.proofs.Sound as sound
 use Rattle.cas_read.proofs.Valid.{is_inside, Valid, valid_start, Judged, goes_on, limited_here, left_out_here, const_inside, refused}
 use Rattle.cas_read.proofs.ViableBodies.{outside_never}
 use Rattle.cas_read.proofs.ViableStates.{completes}
 use Rattle.cas_read.proofs.ViableWalks.{taken_by, judged, comes_plain, comes_near, reach, reach_valid, reach_snoc, run_step, plain_step, walk_run, reached, Stops, Ends, stops_or_ends}
+
+-- the place of the token from which on so many are left, or of the end
+abbrev pub place_left : List Token → (end : Place) → (left : ℕ) → Place
+place_left [] end left = end
+place_left (t ∷ ts) end left = if nat_eq left (length ts + 1) then t.place else place_left ts end left
 
 pub place_left_token : (front rest : List Token) (t : Token) (end : Place) → place_left (front ++ t ∷ rest) end (length rest + 1) ≡ t.place
 place_left_token [] rest t end = let e : nat_eq (length rest + 1) (length rest + 1) ≡ true = grind arith in rw e refl
@@ -73,7 +77,7 @@ stops_there on behind (Ok m) code items e h = cc
 stops_there on behind (Err c) code items e h = cc
 
 -- a run that ends too early fails at the end
-pub ends_unfinished : (c : Control) (f : Fault) → finish c ≡ Err f → record { code = R6; left = 0 } ≡ f
+ends_unfinished : (c : Control) (f : Fault) → finish c ≡ Err f → record { code = R6; left = 0 } ≡ f
 ends_unfinished (InItems items) f e = cc
 ends_unfinished c f e = cc
 

@@ -1,15 +1,15 @@
 -- How the work of a command ends, from how its parts ended.
 use Rattle.std.proofs.Common.{◌≡◌, ◌<◌, ◌⊎◌, ℕ, List, [], ◌∷◌, ◌++◌, Some, None, Result, Ok, Err, refl, ◌∙◌, inl, inr, subst, append-nil, codes, arith}
-use Rattle.std.specs.declared.vec.Vec.{Vec}
-use Rattle.std.specs.declared.alloc.Global.{Global}
+use Rattle.cas_clight.specs.Tree.{ModuleTree}
 use Rattle.cas_top.specs.declared.refusal.Refusal.{Refusal}
 use Rattle.cas_top.specs.declared.refusal.Refusal.TheVariants as refusal
 use Rattle.std.specs.List.{concat}
 use Rattle.cas_top.specs.Answer.{Told, Taken, IsRead, IsText, IsRefusal, IsCut, IsPartly, IsUntold, usage, cannot_read, too_long, refused}
-use Rattle.cas_top.specs.Plan.{PrintsLines, RefusesText}
-use Rattle.cas_top.specs.Printed.{line_of, fault_line}
+use Rattle.cas_top.specs.First_form.{IsFirstForm}
+use Rattle.cas_top.specs.Plan.{PrintsLines}
+use Rattle.cas_top.specs.Printed.{line_of}
 use Rattle.cas_outside.specs.Sink.{TakesPrefix}
-use Rattle.cas_top.specs.View.{IsEnd, IsPutLines, IsTold, IsSaid, IsCause, IsShown, Counts}
+use Rattle.cas_top.specs.View.{IsEnd, IsPutLines, IsTold, IsSaid, IsCause, Counts}
 use Rattle.cas_top.specs.Words.{Run, Command, Wanted, run, source_text}
 
 -- the lines of a module that was read are the text of the command
@@ -36,16 +36,16 @@ end_of_put told r source lock lines before after old new (Err refusal.Memory) fi
 end_of_put told r source lock lines before after old new (Err refusal.Usage) first second prints put same = absurd put
 end_of_put told r source lock lines before after old new (Err (refusal.Unread n)) first second prints put same = absurd put
 end_of_put told r source lock lines before after old new (Err (refusal.TooLong n)) first second prints put same = absurd put
-end_of_put told r source lock lines before after old new (Err (refusal.Misread n code p)) first second prints put same = absurd put
 end_of_put told r source lock lines before after old new (Err (refusal.NotFirstForm n)) first second prints put same = absurd put
 
--- a module text that is refused
-pub refusal_of_text : (told : Told) (r : Run) (source lock line : List ℕ) →
-    IsRead told (source_text r.source) source → IsRead told (source_text r.lock) lock → RefusesText r source line → IsRefusal told (run r) 1 line
-refusal_of_text told r source lock line first second refuses = record {
+-- a module that isn't of the first form is refused
+pub refusal_of_form : (told : Told) (r : Run) (source lock : List ℕ) →
+    IsRead told (source_text r.source) source → IsRead told (source_text r.lock) lock → ((tree : ModuleTree) → IsFirstForm source r.thread tree → ⊥) →
+    IsRefusal told (run r) 1 (line_of (r.source ++ codes ":1:1: R0"))
+refusal_of_form told r source lock first second not_form = record {
   texts = source ∷ lock ∷ [];
   read = (first, (second, tt));
-  plan = (refl, refuses);
+  plan = (refl, not_form, refl);
 }
 
 -- a line with nothing behind the name
@@ -68,30 +68,17 @@ run_end told told' r w v source text lock lines shown before mid after old new a
     end_of_put told r source lock lines before after old new answer (subst S at_first first.0) (subst L at_second (subst P same second.0))
     (subst Q texts prints) (subst R whole put) (second.1 ∙ first.1)
 
--- why a module text prints no lines ends the work
-cause_of_shown : (told : Told) (r : Run) (source lock : List ℕ) (before after : List (List ℕ)) (now : Taken) (why : Refusal) →
-    IsRead told (source_text r.source) source → IsRead told (source_text r.lock) lock → after ≡ before → IsShown r source (Err why) →
-    IsCause told (run r) before after now now why
-cause_of_shown told r source lock before after now (refusal.Misread n code p) first second same shown =
-    (refusal_of_text told r source lock (fault_line n.now code p) first second shown, same, refl)
-cause_of_shown told r source lock before after now (refusal.NotFirstForm n) first second same shown =
-    (refusal_of_text told r source lock (line_of (n.now ++ codes ":1:1: R0")) first second shown, same, refl)
-cause_of_shown told r source lock before after now refusal.Memory first second same shown = (inl refl, same)
-cause_of_shown told r source lock before after now refusal.Usage first second same shown = absurd shown
-cause_of_shown told r source lock before after now (refusal.Unread n) first second same shown = absurd shown
-cause_of_shown told r source lock before after now (refusal.TooLong n) first second same shown = absurd shown
-cause_of_shown told r source lock before after now refusal.Unwritten first second same shown = absurd shown
-
--- both texts were read, and the first prints no lines
-pub run_refused : (told told' : Told) (r : Run) (w v : Wanted) (source text lock : List ℕ) (before mid after : List (List ℕ)) (now : Taken) (why : Refusal) →
+-- both texts were read, and the first isn't of the first form
+pub run_refused : (told told' : Told) (r : Run) (w v : Wanted) (source text lock : List ℕ) (before mid after : List (List ℕ)) (now : Taken) →
     w ≡ source_text r.source → v ≡ source_text r.lock → IsRead told w source × mid ≡ before → told' ≡ told → IsRead told' v lock × after ≡ mid →
-    text ≡ source → IsShown r text (Err why) → IsCause told (run r) before after now now why
-run_refused told told' r w v source text lock before mid after now why at_first at_second first same second texts shown =
+    text ≡ source → ((tree : ModuleTree) → IsFirstForm text r.thread tree → ⊥) →
+    IsRefusal told (run r) 1 (line_of (r.source ++ codes ":1:1: R0")) × (after ≡ before) × (now ≡ now)
+run_refused told told' r w v source text lock before mid after now at_first at_second first same second texts not_form =
     let P : Told → Type 0 = λ t. IsRead t v lock in
     let S : Wanted → Type 0 = λ u. IsRead told u source in
     let L : Wanted → Type 0 = λ u. IsRead told u lock in
-    let Q : List ℕ → Type 0 = λ t. IsShown r t (Err why) in
-    cause_of_shown told r source lock before after now why (subst S at_first first.0) (subst L at_second (subst P same second.0)) (second.1 ∙ first.1) (subst Q texts shown)
+    let Q : List ℕ → Type 0 = λ t. (tree : ModuleTree) → IsFirstForm t r.thread tree → ⊥ in
+    (refusal_of_form told r source lock (subst S at_first first.0) (subst L at_second (subst P same second.0)) (subst Q texts not_form), second.1 ∙ first.1, refl)
 
 pub other_status : (status answer : ℕ) → status < 4 ⊎ 9 < status → answer ≡ status → answer ≡ 4 → ⊥
 other_status status answer (inl h) e f = omega arith
@@ -125,9 +112,6 @@ unwritten_command told c before after out_old out_new puts puts_now (refusal.Unr
 unwritten_command told c before after out_old out_new puts puts_now (refusal.TooLong name) count now old new answer cause counts said four =
     let h = untold 12 _ count now old new answer (inr (omega arith)) said four in
     inr (cause.2, counts, (h.0, line_of (codes "cascc: too long " ++ name.now), too_long c name.now cause.0, h.1))
-unwritten_command told c before after out_old out_new puts puts_now (refusal.Misread name code p) count now old new answer cause counts said four =
-    let h = untold 1 _ count now old new answer (inl (omega arith)) said four in
-    inr (cause.2, counts, (h.0, fault_line name.now code p, refused c 1 (fault_line name.now code p) cause.0, h.1))
 unwritten_command told c before after out_old out_new puts puts_now (refusal.NotFirstForm name) count now old new answer cause counts said four =
     let h = untold 1 _ count now old new answer (inl (omega arith)) said four in
     inr (cause.2, counts, (h.0, line_of (name.now ++ codes ":1:1: R0"), refused c 1 (line_of (name.now ++ codes ":1:1: R0")) cause.0, h.1))
@@ -140,7 +124,6 @@ pub unread_or_kept : (told : Told) (c : Command) (before after : List (List ℕ)
 unread_or_kept told c before after old new puts puts_now refusal.Usage cause counts = absurd cause
 unread_or_kept told c before after old new puts puts_now (refusal.Unread name) cause counts = inr (cause.1, counts)
 unread_or_kept told c before after old new puts puts_now (refusal.TooLong name) cause counts = inl cause.1
-unread_or_kept told c before after old new puts puts_now (refusal.Misread name code p) cause counts = inl cause.1
 unread_or_kept told c before after old new puts puts_now (refusal.NotFirstForm name) cause counts = inl cause.1
 unread_or_kept told c before after old new puts puts_now refusal.Unwritten cause counts = inl cause.1
 unread_or_kept told c before after old new puts puts_now refusal.Memory cause counts = inl cause.1
@@ -154,7 +137,6 @@ pub cut_of_cause : (told : Told) (c : Command) (before after : List (List ℕ)) 
 cut_of_cause told c before after old new refusal.Usage cause = absurd cause
 cut_of_cause told c before after old new (refusal.Unread name) cause = inl cause.1
 cut_of_cause told c before after old new (refusal.TooLong name) cause = inl cause.2
-cut_of_cause told c before after old new (refusal.Misread name code p) cause = inl cause.2
 cut_of_cause told c before after old new (refusal.NotFirstForm name) cause = inl cause.2
 cut_of_cause told c before after old new refusal.Unwritten cause = inr cause.0
 cut_of_cause told c before after old new refusal.Memory cause = cause.0
@@ -165,7 +147,6 @@ pub partly_of_cause : (told : Told) (c : Command) (before after : List (List ℕ
 partly_of_cause told c before after old new puts puts_now refusal.Usage cause counts risen = absurd cause
 partly_of_cause told c before after old new puts puts_now (refusal.Unread name) cause counts risen = absurd (not_risen puts puts_now counts risen)
 partly_of_cause told c before after old new puts puts_now (refusal.TooLong name) cause counts risen = absurd (not_risen puts puts_now counts risen)
-partly_of_cause told c before after old new puts puts_now (refusal.Misread name code p) cause counts risen = absurd (not_risen puts puts_now counts risen)
 partly_of_cause told c before after old new puts puts_now (refusal.NotFirstForm name) cause counts risen = absurd (not_risen puts puts_now counts risen)
 partly_of_cause told c before after old new puts puts_now refusal.Unwritten cause counts risen = cause.0
 partly_of_cause told c before after old new puts puts_now refusal.Memory cause counts risen = absurd (not_risen puts puts_now counts risen)

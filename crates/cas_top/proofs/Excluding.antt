@@ -1,14 +1,10 @@
 -- A shelf that tells its texts tells one of each name, so a command comes to one thing.
-use Rattle.std.proofs.Common.{◌≡◌, ◌<◌, ◌≤◌, ℕ, List, [], ◌∷◌, length, Option, Some, None, refl, sym, ◌∙◌, ap, subst, inl, inr, arith}
+use Rattle.std.proofs.Common.{◌≡◌, ◌<◌, ◌≤◌, ℕ, List, [], ◌∷◌, length, Option, Some, refl, sym, ◌∙◌, ap, subst, inl, inr, arith}
 use Rattle.cas_outside.specs.Shelf.{Texts, text_of}
 use Rattle.cas_top.specs.Answer.{IsRead, AreRead, IsFirstLong}
 use Rattle.cas_top.specs.Exclusion.{CausesExclude}
-use Rattle.cas_clight.specs.Tree.{ModuleTree}
-use Rattle.cas_read.proofs.Texts.{one_module, no_module_and_fault}
-use Rattle.cas_syntax.specs.Tree as syntax
-use Rattle.cas_top.specs.First_form.{first_form}
-use Rattle.cas_top.specs.Plan.{prints, refuses, Plans, PrintsLines, RefusesText}
-use Rattle.cas_top.specs.Words.{Command, Run, Wanted, run, wanted_texts}
+use Rattle.cas_top.specs.Plan.{prints, refuses, Plans}
+use Rattle.cas_top.specs.Words.{Command, Wanted, run, wanted_texts}
 
 some_injective : (x y : List ℕ) → Some x ≡ Some y → x ≡ y
 some_injective x y h = cc
@@ -40,23 +36,11 @@ read_and_long held (w ∷ ws) (x ∷ xs) name h (inl k) =
     within_and_longer w.limit x k.1.0 (one_text (text_of held w.name) x k.1.0 h.0.tells k.1.1) h.0.within k.1.2
 read_and_long held (w ∷ ws) (x ∷ xs) name h (inr k) = read_and_long held ws xs name h.1 k.2
 
-one_form : (name : List ℕ) (m n : syntax.ModuleTree) (tree : ModuleTree) → m ≡ n → first_form name m ≡ Some tree → first_form name n ≡ None → ⊥
-one_form name m n tree same some none =
-    let P : syntax.ModuleTree → Type 0 = λ x. first_form name x ≡ Some tree in
-    let kept : first_form name n ≡ Some tree = subst P same some in
-    cc
-
--- a text that prints lines isn't refused
-shown_and_refused : (r : Run) (text : List ℕ) (lines : List (List ℕ)) (line : List ℕ) → PrintsLines text r.thread lines → RefusesText r text line → ⊥
-shown_and_refused r text lines line (tree, (m, read, form), report, finished, whole) (inl (code, p, fault, same)) = no_module_and_fault text m code p read fault
-shown_and_refused r text lines line (tree, (m, read, form), report, finished, whole) (inr (n, other, none, same)) =
-    one_form r.thread m n tree (one_module text m n read other) form none
-
 -- on the same texts a command doesn't come to both
 pub one_plan : (c : Command) (texts lines : List (List ℕ)) (s t : ℕ) (line : List ℕ) → Plans c texts (prints s lines) → Plans c texts (refuses t line) → ⊥
 one_plan (run r) [] lines s t line h k = absurd h
 one_plan (run r) (a ∷ []) lines s t line h k = absurd h
-one_plan (run r) (a ∷ b ∷ []) lines s t line h k = shown_and_refused r a lines line h.1 k.1
+one_plan (run r) (a ∷ b ∷ []) lines s t line h k = k.1 h.1.0 h.1.1
 one_plan (run r) (a ∷ b ∷ d ∷ rest) lines s t line h k = absurd h
 
 pub causes_exclude : CausesExclude

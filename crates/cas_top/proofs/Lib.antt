@@ -1,6 +1,6 @@
 pub mod Ends
 pub mod Excluding
-pub mod FormLaws
+pub mod First_form_laws
 pub mod ReportLaws
 pub mod RunLaws
 pub mod SumLaws

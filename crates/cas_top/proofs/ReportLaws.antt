@@ -3,11 +3,12 @@ use Rattle.std.proofs.Common.{◌≡◌, ◌↔◌, ℕ, ◌+◌, zero, suc, Lis
 use Rattle.cas_base.specs.declared.decl.Decl.{Decl}
 use Rattle.cas_base.specs.declared.kind.Kind.TheVariants.{I32}
 use Rattle.cas_base.specs.declared.place.Place.{Place}
-use Rattle.cas_syntax.specs.declared.tree.Ident.{Ident}
+use Rattle.cas_clight.specs.declared.tree.Ident.{Ident}
 use Rattle.cas_clight.specs.Tree.{ExprTree, literal, StmtTree, print, ItemTree, define, ModuleTree}
 use Rattle.cas_clight.specs.Program.{env_of}
 use Rattle.cas_clight.specs.Step.{Config, Here, Sight, Env, begin, word, gives, value_of, sight_of, thread_with, print_step, return_step, started}
 use Rattle.cas_clight.specs.World.{World, MayStep, world_after, Interleaves, at_first, and_step, IsFirstWorld, HasEnded}
+use Rattle.cas_top.specs.First_form.{IsFirstForm}
 use Rattle.cas_top.specs.Machine.{State, Report, RunsTo, executed, Runs, stays, steps, start, loads, IsBodyCode, IsItemsCode}
 use Rattle.cas_top.specs.Plan.{entry, IsDone, IsFinished}
 use Rattle.cas_top.specs.declared.machine.End.{End}
@@ -15,7 +16,7 @@ use Rattle.cas_top.specs.declared.machine.End.TheVariants.{Done}
 use Rattle.cas_top.specs.declared.machine.Instr.{Instr}
 use Rattle.cas_top.specs.declared.machine.Instr.TheVariants.{OutEax, Ret}
 use Rattle.cas_top.proofs.RunLaws.{one_end}
-use Rattle.cas_top.proofs.SumLaws.{slice_get-append_seam, behind, evaluated}
+use Rattle.cas_top.proofs.SumLaws.{slice_get-append_seam, behind, evaluated, sum_has_code}
 
 -- the second element behind a list
 slice_get-append_second : {A : Type 0} (xs : List A) (x y : A) (ys : List A) → slice_get (xs ++ x ∷ y ∷ ys) (length xs + 1) ≡ Some y
@@ -134,3 +135,10 @@ runs_to_finished tree {code} is_code same_code (s, run, e, ends, is) =
     let is_done : Done ≡ e = cc (ap (λ (u : State). u.end) same) in
     let Q : Report → Type 0 = λ r. IsFinished tree r in
     subst Q (ap (λ (u : State). report_of u Done) same ∙ ap (report_of s) is_done ∙ sym is) finished
+
+-- a module of the first form has code
+pub has_code : {text name : List ℕ} {tree : ModuleTree} → IsFirstForm text name tree → (code : List Instr) × IsItemsCode tree.items code
+has_code form =
+    let (sum, is_code) = sum_has_code (literal form.first I32) _ (loads form.first I32) form.others in
+    let P : ModuleTree → Type 0 = λ t. (code : List Instr) × IsItemsCode t.items code in
+    subst P (sym form.form.given) (body_of sum, (sum, is_code, refl))

@@ -8,6 +8,7 @@ use Rattle.cas_clight.specs.declared.tree.BinaryOperator.{BinaryOperator}
 use Rattle.cas_clight.specs.declared.tree.BinaryOperator.TheVariants.{Add}
 use Rattle.cas_clight.specs.Tree.{ExprTree, literal, binary}
 use Rattle.cas_clight.specs.Step.{Sight, word, gives, and_then, result_of, value_of}
+use Rattle.cas_top.specs.First_form.{sum_tree}
 use Rattle.cas_top.specs.Machine.{State, executed, Runs, steps, start, IsExprCode, loads, adds}
 use Rattle.cas_top.specs.declared.machine.Instr.{Instr}
 use Rattle.cas_top.specs.declared.machine.Instr.TheVariants.{AddEax}
@@ -43,6 +44,11 @@ evaluated (loads n k) = (n, λ s. refl, λ rest t run. steps (start 0) t refl ru
 evaluated (adds sum code n k is_code) =
     let (m, value, leaves) = evaluated is_code in
     (word_add m n, λ s. ap (λ g. and_then g (λ u. and_then (gives [] (word n)) (λ v. result_of Add u v))) (value s), leaves_sum code m n leaves)
+
+-- literals that are added to an expression with code give one with code
+pub sum_has_code : (e : ExprTree) (code : List Instr) → IsExprCode e code → (vs : List ℕ) → (c : List Instr) × IsExprCode (sum_tree e vs) c
+sum_has_code e code is_code [] = (code, is_code)
+sum_has_code e code is_code (v ∷ vs) = sum_has_code (binary Add e (literal v I32)) _ (adds e code v I32 is_code) vs
 
 -- there is one operator
 pub only_add : (op : BinaryOperator) → op ≡ Add

@@ -1,6 +1,7 @@
 pub mod Answer
 pub mod Exclusion
 pub mod First_form
+pub mod First_form_reader
 pub mod Machine
 pub mod Plan
 pub mod Printed

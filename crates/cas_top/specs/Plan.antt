@@ -1,17 +1,13 @@
 -- What a command comes to on the texts of its names: a refusal, or lines to print.
-use Rattle.std.specs.Prelude.{◌≡◌, ◌↔◌, ◌⊎◌, ℕ, None, List, [], ◌∷◌, ◌++◌, Some, slice_get, codes}
+use Rattle.std.specs.Prelude.{◌≡◌, ◌↔◌, ℕ, List, [], ◌∷◌, ◌++◌, Some, slice_get, codes}
 use Rattle.cas_clight.specs.Tree.{ModuleTree}
 use Rattle.cas_clight.specs.Program.{env_of}
 use Rattle.cas_clight.specs.Step.{FunctionAt}
 use Rattle.cas_clight.specs.World.{World, IsFirstWorld, Interleaves, HasEnded}
-use Rattle.cas_base.specs.declared.place.Place.{Place}
-use Rattle.cas_lex.specs.declared.code.ReadCode.{ReadCode}
-use Rattle.cas_syntax.specs.Reading.{IsReadAs, HasReadFault}
-use Rattle.cas_syntax.specs.Tree as syntax
-use Rattle.cas_top.specs.First_form.{first_form, IsFirstForm}
+use Rattle.cas_top.specs.First_form.{IsFirstForm}
 use Rattle.cas_top.specs.Machine.{Report, IsItemsCode, RunsTo}
-use Rattle.cas_top.specs.Printed.{line_of, report_lines, fault_line}
-use Rattle.cas_top.specs.Words.{Command, Run, run}
+use Rattle.cas_top.specs.Printed.{line_of, report_lines}
+use Rattle.cas_top.specs.Words.{Command, run}
 use Rattle.cas_top.specs.declared.machine.End.{End}
 use Rattle.cas_top.specs.declared.machine.End.TheVariants.{Done}
 use Rattle.cas_top.specs.declared.machine.Instr.{Instr}
@@ -56,14 +52,11 @@ PrintsLines text thread lines =
     (tree : ModuleTree) × IsFirstForm text thread tree
     × (report : Report) × IsFinished tree report × (lines ≡ report_lines report)
 
--- the line that refuses a module text: its first fault; or `R0`, where it is read as a module that isn't of the first form
-abbrev pub RefusesText : Run → (text line : List ℕ) → Type 0
-RefusesText r text line =
-    ((code : ReadCode) × (p : Place) × HasReadFault text code p × (line ≡ fault_line r.source code p))
-    ⊎ ((m : syntax.ModuleTree) × IsReadAs text m × (first_form r.thread m ≡ None) × (line ≡ line_of (r.source ++ codes ":1:1: R0")))
-
 -- what a command comes to, where these are the texts of its names in their order
 abbrev pub Plans : Command → (texts : List (List ℕ)) → Plan → Type 0
 Plans (run r) (source ∷ lock ∷ []) (prints status lines) = (status ≡ 0) × PrintsLines source r.thread lines
-Plans (run r) (source ∷ lock ∷ []) (refuses status line) = (status ≡ 1) × RefusesText r source line
+Plans (run r) (source ∷ lock ∷ []) (refuses status line) =
+    (status ≡ 1)
+    × ((tree : ModuleTree) → IsFirstForm source r.thread tree → ⊥)
+    × (line ≡ line_of (r.source ++ codes ":1:1: R0"))
 Plans c texts plan = ⊥

@@ -11,8 +11,7 @@ use Rattle.cas_top.specs.declared.words.Command.TheVariants as code
 use Rattle.cas_top.specs.declared.words.Run.{Run}
 use Rattle.cas_top.specs.declared.words.Wanted.{Wanted}
 use Rattle.cas_top.specs.Answer.{Told, Taken, IsRefusal, IsFirstLong, IsCut, IsPartly, IsPrinted, IsRead, IsFailed, IsTried}
-use Rattle.cas_top.specs.Plan.{PrintsLines, RefusesText}
-use Rattle.cas_top.specs.Printed.{line_of, fault_line}
+use Rattle.cas_top.specs.Printed.{line_of}
 use Rattle.cas_top.specs.Words as words
 
 abbrev pub run_view : Run → words.Run
@@ -39,22 +38,12 @@ IsPutLines old text new (Err refusal.Unwritten) = TakesPrefix old text new
 IsPutLines old text new (Err refusal.Memory) = TakesPrefix old text new
 IsPutLines old text new (Err r) = ⊥
 
--- the lines that a module text prints, or why it prints none
-abbrev pub IsShown : words.Run → (text : List ℕ) → Result (Vec (List ℕ) Global) Refusal → Type 0
-IsShown r text (Ok lines) = PrintsLines text r.thread lines.items
-IsShown r text (Err (refusal.Misread n code p)) = RefusesText r text (fault_line n.now code p)
-IsShown r text (Err (refusal.NotFirstForm n)) = RefusesText r text (line_of (n.now ++ codes ":1:1: R0"))
-IsShown r text (Err refusal.Memory) = Unit {0}
-IsShown r text (Err other) = ⊥
-
 -- why the work of a command ended so: the shelf's failed names and what `out` took, before and after
 abbrev pub IsCause : Told → words.Command → (before after : List (List ℕ)) → (old new : Taken) → Refusal → Type 0
 IsCause told c before after old new refusal.Usage = ⊥
 IsCause told c before after old new (refusal.Unread name) = IsFailed told c before after name.now × (new ≡ old)
 IsCause told c before after old new (refusal.TooLong name) =
     IsFirstLong told (words.wanted_texts c) name.now × (after ≡ before) × (new ≡ old)
-IsCause told c before after old new (refusal.Misread name code p) =
-    IsRefusal told c 1 (fault_line name.now code p) × (after ≡ before) × (new ≡ old)
 IsCause told c before after old new (refusal.NotFirstForm name) =
     IsRefusal told c 1 (line_of (name.now ++ codes ":1:1: R0")) × (after ≡ before) × (new ≡ old)
 IsCause told c before after old new refusal.Unwritten = IsPartly told (Some c) old new × (after ≡ before)
@@ -87,5 +76,4 @@ IsSaid refusal.Memory before now old new answer = (answer ≡ 9) × IsTried (lin
 IsSaid refusal.Usage before now old new answer = IsTold 2 (line_of (codes "cascc: usage")) before now old new answer
 IsSaid (refusal.Unread name) before now old new answer = IsTold 3 (line_of (codes "cascc: cannot read " ++ name.now)) before now old new answer
 IsSaid (refusal.TooLong name) before now old new answer = IsTold 12 (line_of (codes "cascc: too long " ++ name.now)) before now old new answer
-IsSaid (refusal.Misread name code p) before now old new answer = IsTold 1 (fault_line name.now code p) before now old new answer
 IsSaid (refusal.NotFirstForm name) before now old new answer = IsTold 1 (line_of (name.now ++ codes ":1:1: R0")) before now old new answer

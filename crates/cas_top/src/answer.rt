@@ -1,18 +1,20 @@
 //! The work of a command: its texts are read, its module becomes a program, and the lines that a run of the
 //! program prints are put.
 
-ghost use Rattle.std.specs.Prelude.{◌≡◌, ◌≤◌, length};
+ghost use Rattle.std.specs.Prelude.{◌≡◌, ◌≤◌, length, IfOk, IfSome, IfNone};
 ghost use Rattle.std.specs.List.{concat};
+ghost use Rattle.cas_clight.specs.Tree.{ModuleTree};
+ghost use Rattle.cas_top.specs.First_form.{IsFirstForm};
+ghost use Rattle.cas_top.specs.Plan.{PrintsLines};
 ghost use Rattle.cas_top.specs.Words.{run, source_limit};
-ghost use Rattle.cas_top.specs.View.{command_view, run_view, wanted_view, IsEnd, Counts, IsFetched, IsPutLines, IsShown};
+ghost use Rattle.cas_top.specs.View.{command_view, run_view, wanted_view, IsEnd, Counts, IsFetched, IsPutLines};
 
-use crate::first_form::first_form;
+use crate::first_form::read_first_form;
 use crate::outcome::lines_of;
 use crate::refusal::Refusal;
 use crate::words::{Command, Run, Wanted, source_text};
 use cas_base::{NoMemory, Text};
 use cas_outside::{Shelf, ShelfFault, Sink, SinkFault};
-use cas_read::{ReadFault, read_module};
 use std::alloc::Global;
 
 /// Does the work of a command.
@@ -51,9 +53,10 @@ fn perform_run<'a, S: Shelf, O: Sink>(
         Ok(text) => text,
         Err(refusal) => return Err(refusal),
     };
-    match lines_of_text(alloc, source.as_slice(), given) {
-        Ok(lines) => put_lines(out, lines.as_slice()),
-        Err(refusal) => Err(refusal),
+    match lines_of_text(alloc, source.as_slice(), given.thread) {
+        Ok(Some(lines)) => put_lines(out, lines.as_slice()),
+        Ok(None) => Err(Refusal::NotFirstForm(given.source)),
+        Err(NoMemory) => Err(Refusal::Memory),
     }
 }
 
@@ -74,26 +77,15 @@ fn fetch<'a, S: Shelf>(
     }
 }
 
-// The lines that a module text prints on one thread.
-fn lines_of_text<'a>(alloc: Global, text: &[u8], given: Run<'a>) -> Result<Vec<Text>, Refusal<'a>>
+// The lines that a module text of the first form prints on one thread, whose function has this name.
+fn lines_of_text(alloc: Global, text: &[u8], thread: &str) -> Result<Option<Vec<Text>>, NoMemory>
     requires { length text.now ≤ source_limit }
-    ensures shown { IsShown (run_view given.entry) text.now result }
+    ensures printed { IfOk result (λ o. IfSome o (λ lines. PrintsLines text.now thread.now lines.items)) }
+    ensures others { IfOk result (λ o. IfNone o ((tree : ModuleTree) → IsFirstForm text.now thread.now tree → ⊥)) }
 {
-    let tree = match read_module(alloc, text) {
-        Ok(tree) => tree,
-        Err(ReadFault::At { code, place }) => {
-            return Err(Refusal::Misread(given.source, code, place));
-        }
-        Err(ReadFault::Memory) => return Err(Refusal::Memory),
-    };
-    match first_form(alloc, &tree, given.thread) {
-        Ok(Some(module)) => match lines_of(alloc, &module) {
-            Ok(Some(lines)) => Ok(lines),
-            Ok(None) => unreachable!(),
-            Err(NoMemory) => Err(Refusal::Memory),
-        },
-        Ok(None) => Err(Refusal::NotFirstForm(given.source)),
-        Err(NoMemory) => Err(Refusal::Memory),
+    match read_first_form(alloc, text, thread)? {
+        Some(module) => lines_of(alloc, &module),
+        None => Ok(None),
     }
 }
 

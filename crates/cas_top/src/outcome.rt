@@ -1,8 +1,7 @@
 //! What a run of a module comes to: its code is generated and run, and its output printed.
-ghost use Rattle.std.specs.Prelude.{◌≡◌, ℕ, List, Some, IfOk, IfSome, IfNone};
+ghost use Rattle.std.specs.Prelude.{◌≡◌, ℕ, List, IfOk, IfSome, IfNone};
 ghost use Rattle.cas_clight.specs.Tree.{module_tree};
-ghost use Rattle.cas_syntax.specs.Tree as syntax;
-ghost use Rattle.cas_top.specs.First_form.{first_form};
+ghost use Rattle.cas_top.specs.First_form.{IsFirstForm};
 ghost use Rattle.cas_top.specs.Machine.{Report};
 ghost use Rattle.cas_top.specs.Plan.{IsFinished};
 ghost use Rattle.cas_top.specs.Printed.{report_lines};
@@ -17,7 +16,7 @@ use std::alloc::Global;
 /// The lines that a finished run of the module prints. A module of the first form has them.
 pub(crate) fn lines_of(alloc: Global, tree: &Module) -> Result<Option<Vec<Text>>, NoMemory>
     ensures printed { IfOk result (λ o. IfSome o (λ lines. (report : Report) × IsFinished (module_tree tree.now) report × (lines.items ≡ report_lines report))) }
-    ensures others { IfOk result (λ o. IfNone o ((name : List ℕ) (m : syntax.ModuleTree) → first_form name m ≡ Some (module_tree tree.now) → ⊥)) }
+    ensures others { IfOk result (λ o. IfNone o ((text name : List ℕ) → IsFirstForm text name (module_tree tree.now) → ⊥)) }
 {
     let Some(code) = generate(alloc, tree)? else {
         return Ok(None);
@@ -31,8 +30,7 @@ mod tests {
     use super::*;
     use crate::machine::Instr;
     use cas_base::{Decl, Form, Kind, Name, Place, Seq, Ty};
-    use cas_clight::{BinaryOperator, Expr, Fun, Item, Stmt, StmtForm};
-    use cas_syntax::Ident;
+    use cas_clight::{BinaryOperator, Expr, Fun, Ident, Item, Stmt, StmtForm};
     use std::test::Fail;
 
     const PLACE: Place = Place { line: 1, col: 1 };

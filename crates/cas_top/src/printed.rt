@@ -1,10 +1,9 @@
-//! The lines that a run prints, and that of a fault of a module text.
+//! The lines that a run prints.
 ghost use Rattle.std.specs.Prelude.{◌≡◌, ◌<◌, ◌^◌, ◌++◌, IfOk, OnOk, length, map};
-ghost use Rattle.cas_top.specs.Printed.{code_letters, fault_line, out_line, end_words, end_line, end_lines, report_lines};
+ghost use Rattle.cas_top.specs.Printed.{out_line, end_words, end_line, end_lines, report_lines};
 
 use crate::machine::{End, Report};
-use cas_base::{NoMemory, Place, Text};
-use cas_read::ReadCode;
+use cas_base::{NoMemory, Text};
 use std::alloc::Global;
 
 /// The lines of a report: its outputs in order, and then the ends of its threads.
@@ -66,37 +65,6 @@ fn end_words(end: End) -> &'static str
     match end {
         End::Done => "done",
         End::Bad => "bad place",
-    }
-}
-
-/// `NAME:LINE:COL: CODE`.
-pub(crate) fn fault_line(
-    alloc: Global,
-    name: &str,
-    code: ReadCode,
-    place: Place,
-) -> Result<Text, NoMemory>
-    ensures { IfOk result (λ line. line ≡ fault_line name.now code place) }
-{
-    let Place { line, col } = place;
-    let letters = code_letters(code);
-    let text = format!(in alloc; "{name}:{line}:{col}: {letters}\n")?;
-    Ok(Text::of(text))
-}
-
-// The code of a fault, in letters.
-fn code_letters(code: ReadCode) -> &'static str
-    ensures { result.now ≡ code_letters code }
-{
-    match code {
-        ReadCode::R1 => "R1",
-        ReadCode::R2 => "R2",
-        ReadCode::R3 => "R3",
-        ReadCode::R4 => "R4",
-        ReadCode::R5 => "R5",
-        ReadCode::R6 => "R6",
-        ReadCode::R7 => "R7",
-        ReadCode::R8 => "R8",
     }
 }
 

@@ -2,13 +2,11 @@
 
 ghost use Rattle.std.specs.Prelude.{◌≡◌, ◌++◌, IfOk, string_bytes};
 ghost use Rattle.cas_top.specs.Answer.{IsTried};
-ghost use Rattle.cas_top.specs.Printed.{fault_line, line_of};
+ghost use Rattle.cas_top.specs.Printed.{line_of};
 ghost use Rattle.cas_top.specs.View.{IsSaid, IsTold};
 
-use crate::printed::fault_line;
-use cas_base::{NoMemory, Place};
+use cas_base::NoMemory;
 use cas_outside::{Sink, SinkFault};
-use cas_read::ReadCode;
 use std::alloc::Global;
 
 /// The status where a put failed.
@@ -26,9 +24,7 @@ pub(crate) enum Refusal<'a> {
     Unread(&'a str),
     /// The text of this name is longer than its limit.
     TooLong(&'a str),
-    /// The module text of this name has this fault first, at this place.
-    Misread(&'a str, ReadCode, Place),
-    /// The module of this name isn't of the first form, or its function isn't the thread's.
+    /// The module text of this name isn't of the first form, or its function isn't the thread's.
     NotFirstForm(&'a str),
     /// A put on `out` failed.
     Unwritten,
@@ -44,7 +40,6 @@ pub(crate) fn refuse<E: Sink>(alloc: Global, err: &mut E, refusal: Refusal) -> u
         Refusal::Usage => say(err, b"cascc: usage\n", 2),
         Refusal::Unread(name) => say_name(alloc, err, "cascc: cannot read ", name, "", 3),
         Refusal::TooLong(name) => say_name(alloc, err, "cascc: too long ", name, "", 12),
-        Refusal::Misread(name, code, place) => say_fault(alloc, err, name, code, place),
         Refusal::NotFirstForm(name) => say_name(alloc, err, "", name, ":1:1: R0", 1),
         Refusal::Unwritten => try_line(err, b"cascc: cannot write\n", UNWRITTEN),
         Refusal::Memory => try_line(err, b"cascc: memory\n", OUT_OF_MEMORY),
@@ -75,16 +70,6 @@ fn say_name<E: Sink>(
 {
     match line(alloc, before, name, after) {
         Ok(line) => say(err, line.as_bytes(), status),
-        Err(NoMemory) => try_line(err, b"cascc: memory\n", OUT_OF_MEMORY),
-    }
-}
-
-// Puts the line of a fault of a module text.
-fn say_fault<E: Sink>(alloc: Global, err: &mut E, name: &str, code: ReadCode, place: Place) -> u8
-    ensures { IsTold 1 (fault_line name.now code place) (E.faults err.old) (E.faults err.new) (E.taken err.old) (E.taken err.new) result }
-{
-    match fault_line(alloc, name, code, place) {
-        Ok(line) => say(err, line.as_str().as_bytes(), 1),
         Err(NoMemory) => try_line(err, b"cascc: memory\n", OUT_OF_MEMORY),
     }
 }

@@ -115,9 +115,9 @@ fn repeated(alloc: Global, text: &str, count: usize) -> Result<String, AllocErro
     Ok(whole)
 }
 
-// The text of the first form with so many literals 1, without spaces in the sum.
-fn ones(alloc: Global, count: usize) -> Result<String, AllocError> {
-    let added = repeated(alloc, "+1", count - 1)?;
+// The text of the first form with so many literals 1 behind the first.
+fn ones(alloc: Global, others: usize) -> Result<String, AllocError> {
+    let added = repeated(alloc, " + 1", others)?;
     format!(in alloc; "void w(int me) {{ print(1{added}); }}")
 }
 
@@ -152,9 +152,7 @@ fn sums_are_printed(rt: HostRuntime) -> Result<(), Fail> {
     )?;
     let spaced = "\nvoid  w ( int\nme ){print(0);}\n";
     assert_module(&rt, alloc, spaced, wanted(0, "0 0\nthread 0 done\n", ""))?;
-    let other = "/* one */ void w(int x) { print((1 + 2) + 0x10); } // two";
-    assert_module(&rt, alloc, other, wanted(0, "0 19\nthread 0 done\n", ""))?;
-    let most = ones(alloc, 500)?;
+    let most = ones(alloc, 499)?;
     assert_module(
         &rt,
         alloc,
@@ -167,28 +165,16 @@ fn sums_are_printed(rt: HostRuntime) -> Result<(), Fail> {
 #[test]
 fn other_modules_are_refused(rt: HostRuntime) -> Result<(), Fail> {
     let alloc = rt.alloc();
-    let too_many = ones(alloc, 501)?;
-    let braces = repeated(alloc, "{", 201)?;
-    let nested = format!(in alloc; "void w(int me) {{{braces}")?;
-    let long = repeated(alloc, "w", 64)?;
-    let named = format!(in alloc; "void {long}(int me);")?;
-    let rows = [
-        ("", REFUSED),
-        ("void v(int me) { print(40 + 1); }", REFUSED),
-        ("void w(int me) { print(2147483648); }", REFUSED),
-        ("void w(int me) { print(40 - 1); }", REFUSED),
-        ("lock @L;", "m.c:1:6: R1\n"),
-        ("void w(int me) { /* x", "m.c:1:18: R2\n"),
-        ("void w(int me) { print(4294967296); }", "m.c:1:24: R3\n"),
-        (named.as_str(), "m.c:1:6: R4\n"),
-        ("void w(int me) { me = ; }", "m.c:1:23: R5\n"),
-        ("void w(int me) {", "m.c:1:17: R6\n"),
-        ("void w(int me) { int x; x = 010; }", "m.c:1:29: R7\n"),
-        (nested.as_str(), "m.c:1:217: R8\n"),
-        (too_many.as_str(), "m.c:1:1024: R8\n"),
+    let too_many = ones(alloc, 500)?;
+    let texts = [
+        "",
+        "void v(int me) { print(40 + 1); }",
+        "void w(int me) { print(2147483648); }",
+        "void w(int me) { print(01); }",
+        too_many.as_str(),
     ];
-    for (text, refusal) in rows {
-        assert_module(&rt, alloc, text, wanted(1, "", refusal))?;
+    for text in texts {
+        assert_module(&rt, alloc, text, wanted(1, "", REFUSED))?;
     }
     Ok(())
 }
