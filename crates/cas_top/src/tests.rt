@@ -115,9 +115,9 @@ fn repeated(alloc: Global, text: &str, count: usize) -> Result<String, AllocErro
     Ok(whole)
 }
 
-// The text of the first form with so many literals 1, without spaces in the sum.
-fn ones(alloc: Global, count: usize) -> Result<String, AllocError> {
-    let added = repeated(alloc, "+1", count - 1)?;
+// The text of the first form with so many literals 1 behind the first, without spaces in the sum.
+fn ones(alloc: Global, others: usize) -> Result<String, AllocError> {
+    let added = repeated(alloc, "+1", others)?;
     format!(in alloc; "void w(int me) {{ print(1{added}); }}")
 }
 
@@ -154,7 +154,7 @@ fn sums_are_printed(rt: HostRuntime) -> Result<(), Fail> {
     assert_module(&rt, alloc, spaced, wanted(0, "0 0\nthread 0 done\n", ""))?;
     let other = "/* one */ void w(int x) { print((1 + 2) + 0x10); } // two";
     assert_module(&rt, alloc, other, wanted(0, "0 19\nthread 0 done\n", ""))?;
-    let most = ones(alloc, 500)?;
+    let most = ones(alloc, 499)?;
     assert_module(
         &rt,
         alloc,
@@ -167,7 +167,7 @@ fn sums_are_printed(rt: HostRuntime) -> Result<(), Fail> {
 #[test]
 fn other_modules_are_refused(rt: HostRuntime) -> Result<(), Fail> {
     let alloc = rt.alloc();
-    let too_many = ones(alloc, 501)?;
+    let too_many = ones(alloc, 500)?;
     let braces = repeated(alloc, "{", 201)?;
     let nested = format!(in alloc; "void w(int me) {{{braces}")?;
     let long = repeated(alloc, "w", 64)?;
