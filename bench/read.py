@@ -52,7 +52,7 @@ def texts():
         yield f"{most // share} functions", generated(most // share)
     yield "empty statements", in_body(";")
     yield "assignments of one letter", in_body("a=b;")
-    yield "expressions of 1,000 tokens", in_body("a=" + "-" * 998 + "b;")
+    yield "expressions of 1,000 tokens", in_body("a=" + "~" * 998 + "b;")
     yield "blocks 199 deep", in_body("{" * 199 + "}" * 199)
     yield "prototypes", "int f(int,int,int);" * (LIMIT // 19)
     yield "spaces", " " * LIMIT
