@@ -13,6 +13,7 @@ module _ {F G H T S R : Type 0} (lt : Language F T) (ls : Language G S) (lr : La
   units_both t s r h k = record {
     decls = h.decls ∙ k.decls;
     globals = h.globals ∙ k.globals;
+    names = h.names ∙ k.names;
     naming = λ l. h.naming (k.naming l);
     laid_out_too = λ l p. h.laid_out_too (k.naming l) (k.laid_out_too l p);
     refines = λ setting fits laid.

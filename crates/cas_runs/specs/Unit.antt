@@ -39,6 +39,11 @@ pub record Language (F S : Type 0) : Type 0 where
   -- a whole program of these functions, in which no call crosses, from the entry of the thread of this number
   pub thread : Setting → List F → NameBytes → ℕ → Machine S
 
+-- the names of these functions, in their order
+abbrev pub names_of : {F S : Type 0} → Language F S → List F → List NameBytes
+names_of l [] = []
+names_of l (f ∷ fs) = l.name f ∷ names_of l fs
+
 -- each block is laid out within its size, from the k-th on
 abbrev pub AreLaidOut : List ℕ → ℕ → (ℕ → List Part) → Type 0
 AreLaidOut [] k parts = Unit {0}
@@ -171,11 +176,12 @@ pub record FitsFunction (edge : Edge) (words : Words) (decl : Decl) : Type 0 whe
   pub declared : IsDeclared edge words decl.name decl.form
   pub entered : OnlyInside (same_name decl.name) edge.functions
 
--- the unit t refines the unit s: their declarations and data are equal, and its runs refine those of s in each setting of s, where its own objects are
+-- the unit t refines the unit s: their declarations, their data and the names of their functions are equal, and its runs refine those of s in each setting of s, where its own objects are
 -- at the places that the naming gives
 pub record UnitRefines {F G S T : Type 0} (lt : Language F T) (ls : Language G S) (t : UnitOf F) (s : UnitOf G) : Type 0 where
   pub decls : t.decls ≡ s.decls
   pub globals : t.globals ≡ s.globals
+  pub names : names_of lt t.funs ≡ names_of ls s.funs
   pub naming : Layout → Layout
   pub laid_out_too : (layout : Layout) → IsLayout ls s.funs layout → IsLayout lt t.funs (naming layout)
   pub refines : (setting : Setting) → FitsUnit setting.edge setting.words s.decls s.globals → IsLayout ls s.funs setting.layout → Refines setting.edge (lt.unit (laid_out setting (naming setting.layout)) t.funs) (ls.unit setting s.funs)

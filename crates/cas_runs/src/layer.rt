@@ -46,6 +46,10 @@ pub trait FunctionPass {
     fn translate(&self, alloc: Global, from: &Self::Source) -> Result<Self::Target, NoMemory>
         ensures { IfOk result (λ to. made to from.now) };
 
+    /// The law that what is made of a function has its name.
+    fn names_stay()
+        ensures { (f : Self.Target) (g : Self.Source) → made f g → target.name f ≡ source.name g };
+
     /// The law that the target's objects are laid out where the source's are.
     fn laid_out_too()
         ensures { (ts : List Self.Target) (ss : List Self.Source) → AllMade made ts ss → (layout : Layout) → IsLayout (language source) ss layout → IsLayout (language target) ts (naming ss layout) };
@@ -59,6 +63,7 @@ pub trait FunctionPass {
 pub fn functions_refine<P: FunctionPass>()
     ensures { (decl : Decl) (a : P.Source) (b : P.Target) → P.target.name b ≡ decl.name → P.source.name a ≡ decl.name → P.made b a → FunctionRefines (language P.target) (language P.source) decl b a }
 {
+    P::names_stay();
     P::laid_out_too();
     P::passes();
 }
@@ -67,6 +72,7 @@ pub fn functions_refine<P: FunctionPass>()
 pub fn units_refine<P: FunctionPass>()
     ensures { (s : UnitOf P.Source) (t : UnitOf P.Target) → t.decls ≡ s.decls → t.globals ≡ s.globals → AllMade P.made t.funs s.funs → UnitRefines (language P.target) (language P.source) t s }
 {
+    P::names_stay();
     P::laid_out_too();
     P::passes();
 }
@@ -75,6 +81,7 @@ pub fn units_refine<P: FunctionPass>()
 pub fn threads_refine<P: FunctionPass>()
     ensures { (edge : Edge) (words : Words) (ss : List P.Source) (ts : List P.Target) (entry : NameBytes) (thread : ℕ) → AllMade P.made ts ss → ThreadRefines (language P.target) (language P.source) edge words ts ss entry thread }
 {
+    P::names_stay();
     P::laid_out_too();
     P::passes();
 }

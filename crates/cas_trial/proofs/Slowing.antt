@@ -72,4 +72,4 @@ slow_pass setting ts ss h l = record {
 
 -- units of the same programs
 pub units_slow : (s t : UnitOf Relaying) → t.decls ≡ s.decls → t.globals ≡ s.globals → AllMade IsSame t.funs s.funs → UnitRefines (language slow) (language fast) t s
-units_slow s t d g h = units_pass slow fast IsSame (λ us layout. layout) (λ setting ts ss v w. v ≡ w) (λ setting ts ss. Equal) (λ setting ts ss n h k u v. Unit {0}) (λ setting ts ss. Midway (Bare setting ts ss) AtStep SameSize) slow_laid_out slow_pass t s d g h
+units_slow s t d g h = units_pass slow fast IsSame (λ us layout. layout) (λ setting ts ss v w. v ≡ w) (λ setting ts ss. Equal) (λ setting ts ss n h k u v. Unit {0}) (λ setting ts ss. Midway (Bare setting ts ss) AtStep SameSize) (λ f g m. refl) slow_laid_out slow_pass t s d g h

@@ -66,6 +66,8 @@ impl FunctionPass for Joining {
         })
     }
 
+    fn names_stay() {}
+
     #[tactic(auto, using(crate::proofs::Joins::joins_laid_out))]
     fn laid_out_too() {}
 

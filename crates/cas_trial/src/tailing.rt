@@ -57,6 +57,8 @@ impl FunctionPass for TailCalls {
         Ok(Relayed { word: from.word })
     }
 
+    fn names_stay() {}
+
     #[tactic(auto, using(crate::proofs::Tailcalls::tails_laid_out))]
     fn laid_out_too() {}
 
