@@ -1,5 +1,6 @@
 -- A pass of activations refines functions, units and threads.
 use Rattle.std.proofs.Common.{◌≡◌, ℕ, List, [], ◌∷◌, Some, true, false, inl, inr, refl, ap, ◌∙◌}
+use Rattle.std.specs.List.{IsDistinct}
 use Rattle.cas_base.specs.declared.decl.Decl.{Decl}
 use Rattle.cas_base.specs.declared.decl.Unit.{Unit as UnitOf}
 use Rattle.cas_runs.specs.Label.{NameBytes}
@@ -9,7 +10,7 @@ use Rattle.cas_runs.specs.Machine.{Block}
 use Rattle.cas_runs.specs.Refines.{Refines}
 use Rattle.cas_runs.specs.Simulation.{related}
 use Rattle.cas_runs.specs.Access.{Holding, Words}
-use Rattle.cas_runs.specs.Unit.{Setting, laid_out, names_of, IsLayout, UnitRefines, FunctionRefines, ThreadRefines}
+use Rattle.cas_runs.specs.Unit.{Setting, laid_out, names_of, AreDistinct, IsLayout, UnitRefines, FunctionRefines, ThreadRefines}
 use Rattle.cas_runs.specs.Calls.{Activations, Past, machine, outside_first, starts, find, no_past, no_holding, language}
 use Rattle.cas_runs.specs.Passing.{Relation, IsPass, AllMade, IsMember, MadeAmong, relation}
 use Rattle.cas_runs.proofs.Lifting.{away, bottom, waits_within, lifted_refines, find_alike, enters_too}
@@ -42,22 +43,27 @@ among_all made ts ss h = all_among made ts ss ts ss (λ f m. m) (λ g m. m) h
 
 module _ {F A G B : Type 0} (target : Activations F A) (source : Activations G B) (made : F → G → Type 0) (naming : List G → Layout → Layout) (same : Setting → List F → List G → Value → Value → Type 0) (alike : Setting → List F → List G → Past → Holding → Past → Holding → Type 0) (later : Setting → List F → List G → ℕ → Holding → Holding → Holding → Holding → Type 0) (match : Setting → List F → List G → ℕ → A → Holding → Block → B → Holding → Block → Type 0)
     (names : (f : F) (g : G) → made f g → target.name f ≡ source.name g)
-    (laid_out_too : (ts : List F) (ss : List G) → AllMade made ts ss → (layout : Layout) → IsLayout (language source) ss layout → IsLayout (language target) ts (naming ss layout))
-    (passes : (setting : Setting) (ts : List F) (ss : List G) → AllMade made ts ss → IsLayout (language source) ss setting.layout → IsPass (relation target source made naming same alike later match ts ss setting)) where
+    (laid_out_too : (ts : List F) (ss : List G) → AllMade made ts ss → AreDistinct (language source) ss → (layout : Layout) → IsLayout (language source) ss layout → IsLayout (language target) ts (naming ss layout))
+    (passes : (setting : Setting) (ts : List F) (ss : List G) → AllMade made ts ss → AreDistinct (language source) ss → IsLayout (language source) ss setting.layout → IsPass (relation target source made naming same alike later match ts ss setting)) where
   names_made : (ts : List F) (ss : List G) → AllMade made ts ss → names_of (language target) ts ≡ names_of (language source) ss
   names_made [] [] h = refl
   names_made [] (g ∷ gs) h = absurd h
   names_made (f ∷ fs) [] h = absurd h
   names_made (f ∷ fs) (g ∷ gs) h = ap (λ n. n ∷ names_of (language target) fs) (names f g h.0) ∙ ap (λ ns. source.name g ∷ ns) (names_made fs gs h.1)
 
-  pub units_pass : (t : UnitOf F) (s : UnitOf G) → t.decls ≡ s.decls → t.globals ≡ s.globals → AllMade made t.funs s.funs → UnitRefines (language target) (language source) t s
-  units_pass t s d g all = record {
+  -- a function alone
+  one_distinct : (g : G) → AreDistinct (language source) (g ∷ [])
+  unfolding IsDistinct
+  one_distinct g = (tt, tt)
+
+  pub units_pass : (t : UnitOf F) (s : UnitOf G) → t.decls ≡ s.decls → t.globals ≡ s.globals → AllMade made t.funs s.funs → AreDistinct (language source) s.funs → UnitRefines (language target) (language source) t s
+  units_pass t s d g all distinct = record {
     decls = d;
     globals = g;
     names = names_made t.funs s.funs all;
     naming = naming s.funs;
-    laid_out_too = laid_out_too t.funs s.funs all;
-    refines = λ setting fits laid. outward_refines (relation target source made naming same alike later match t.funs s.funs setting) (passes setting t.funs s.funs all laid) (among_all made t.funs s.funs all) t.funs s.funs (among_all made t.funs s.funs all);
+    laid_out_too = laid_out_too t.funs s.funs all distinct;
+    refines = λ setting fits laid. outward_refines (relation target source made naming same alike later match t.funs s.funs setting) (passes setting t.funs s.funs all distinct laid) (among_all made t.funs s.funs all) t.funs s.funs (among_all made t.funs s.funs all);
   }
 
   pub functions_pass : (decl : Decl) (f : F) (g : G) → target.name f ≡ decl.name → source.name g ≡ decl.name → made f g → FunctionRefines (language target) (language source) decl f g
@@ -65,15 +71,15 @@ module _ {F A G B : Type 0} (target : Activations F A) (source : Activations G B
     target_name = n;
     source_name = m;
     naming = naming (g ∷ []);
-    laid_out_too = laid_out_too (f ∷ []) (g ∷ []) (h, tt);
-    refines = λ setting fits laid. outward_refines (relation target source made naming same alike later match (f ∷ []) (g ∷ []) setting) (passes setting (f ∷ []) (g ∷ []) (h, tt) laid) (among_all made (f ∷ []) (g ∷ []) (h, tt)) [] [] tt;
+    laid_out_too = laid_out_too (f ∷ []) (g ∷ []) (h, tt) (one_distinct g);
+    refines = λ setting fits laid. outward_refines (relation target source made naming same alike later match (f ∷ []) (g ∷ []) setting) (passes setting (f ∷ []) (g ∷ []) (h, tt) (one_distinct g) laid) (among_all made (f ∷ []) (g ∷ []) (h, tt)) [] [] tt;
   }
 
-  pub threads_pass : (edge : Edge) (words : Words) (ts : List F) (ss : List G) (entry : NameBytes) (thread : ℕ) → AllMade made ts ss → ThreadRefines (language target) (language source) edge words ts ss entry thread
-  threads_pass edge words ts ss entry thread all = record {
+  pub threads_pass : (edge : Edge) (words : Words) (ts : List F) (ss : List G) (entry : NameBytes) (thread : ℕ) → AllMade made ts ss → AreDistinct (language source) ss → ThreadRefines (language target) (language source) edge words ts ss entry thread
+  threads_pass edge words ts ss entry thread all distinct = record {
     naming = naming ss;
-    laid_out_too = laid_out_too ts ss all;
+    laid_out_too = laid_out_too ts ss all distinct;
     refines = λ layout unknown laid.
         let setting : Setting = record { edge = edge; words = words; layout = layout; unknown = unknown } in
-        thread_refines (relation target source made naming same alike later match ts ss setting) (passes setting ts ss all laid) (among_all made ts ss all) entry thread;
+        thread_refines (relation target source made naming same alike later match ts ss setting) (passes setting ts ss all distinct laid) (among_all made ts ss all) entry thread;
   }

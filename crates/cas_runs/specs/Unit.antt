@@ -1,5 +1,6 @@
 -- Refinement of units, of functions and of threads, in any two languages of the compiler.
 use Rattle.std.specs.Prelude.{◌≡◌, ℕ, ◌+◌, ◌<◌, ◌≤◌, Bool, true, false, ◌&&◌, if◌then◌else◌, List, [], ◌∷◌, length, Option, Some, None, slice_get, ◌⊎◌}
+use Rattle.std.specs.List.{IsDistinct}
 use Rattle.cas_base.specs.declared.kind.Ty.{Ty}
 use Rattle.cas_base.specs.declared.kind.Ty.TheVariants.{Void, Int, Ptr, Array}
 use Rattle.cas_base.specs.declared.decl.Decl.{Decl}
@@ -43,6 +44,10 @@ pub record Language (F S : Type 0) : Type 0 where
 abbrev pub names_of : {F S : Type 0} → Language F S → List F → List NameBytes
 names_of l [] = []
 names_of l (f ∷ fs) = l.name f ∷ names_of l fs
+
+-- no two of the functions have one name
+abbrev pub AreDistinct : {F S : Type 0} → Language F S → List F → Type 0
+AreDistinct l fs = IsDistinct same_name (names_of l fs)
 
 -- each block is laid out within its size, from the k-th on
 abbrev pub AreLaidOut : List ℕ → ℕ → (ℕ → List Part) → Type 0

@@ -8,7 +8,7 @@ ghost use Rattle.cas_runs.specs.Label.{NameBytes};
 ghost use Rattle.cas_runs.specs.Machine.{Block};
 ghost use Rattle.cas_runs.specs.Naming.{Layout, Value};
 ghost use Rattle.cas_runs.specs.Passing.{AllMade, IsPass, relation};
-ghost use Rattle.cas_runs.specs.Unit.{FunctionRefines, IsLayout, Setting, ThreadRefines, UnitRefines};
+ghost use Rattle.cas_runs.specs.Unit.{AreDistinct, FunctionRefines, IsLayout, Setting, ThreadRefines, UnitRefines};
 
 use cas_base::NoMemory;
 use std::alloc::Global;
@@ -52,11 +52,11 @@ pub trait FunctionPass {
 
     /// The law that the target's objects are laid out where the source's are.
     fn laid_out_too()
-        ensures { (ts : List Self.Target) (ss : List Self.Source) → AllMade made ts ss → (layout : Layout) → IsLayout (language source) ss layout → IsLayout (language target) ts (naming ss layout) };
+        ensures { (ts : List Self.Target) (ss : List Self.Source) → AllMade made ts ss → AreDistinct (language source) ss → (layout : Layout) → IsLayout (language source) ss layout → IsLayout (language target) ts (naming ss layout) };
 
     /// The law that what is related so is a pass.
     fn passes()
-        ensures { (setting : Setting) (ts : List Self.Target) (ss : List Self.Source) → AllMade made ts ss → IsLayout (language source) ss setting.layout → IsPass (relation target source made naming same alike later matches ts ss setting) };
+        ensures { (setting : Setting) (ts : List Self.Target) (ss : List Self.Source) → AllMade made ts ss → AreDistinct (language source) ss → IsLayout (language source) ss setting.layout → IsPass (relation target source made naming same alike later matches ts ss setting) };
 }
 
 /// What a pass makes of a function refines it, where each runs alone.
@@ -68,18 +68,20 @@ pub fn functions_refine<P: FunctionPass>()
     P::passes();
 }
 
-/// A unit of such functions, with the same declarations and data, refines the unit of the others.
+/// A unit of such functions, with the same declarations and data, refines the unit of the others, whose names
+/// are distinct.
 pub fn units_refine<P: FunctionPass>()
-    ensures { (s : UnitOf P.Source) (t : UnitOf P.Target) → t.decls ≡ s.decls → t.globals ≡ s.globals → AllMade P.made t.funs s.funs → UnitRefines (language P.target) (language P.source) t s }
+    ensures { (s : UnitOf P.Source) (t : UnitOf P.Target) → t.decls ≡ s.decls → t.globals ≡ s.globals → AllMade P.made t.funs s.funs → AreDistinct (language P.source) s.funs → UnitRefines (language P.target) (language P.source) t s }
 {
     P::names_stay();
     P::laid_out_too();
     P::passes();
 }
 
-/// Each thread of a whole program of such functions refines the thread of the other program.
+/// Each thread of a whole program of such functions refines the thread of the other program, whose names are
+/// distinct.
 pub fn threads_refine<P: FunctionPass>()
-    ensures { (edge : Edge) (words : Words) (ss : List P.Source) (ts : List P.Target) (entry : NameBytes) (thread : ℕ) → AllMade P.made ts ss → ThreadRefines (language P.target) (language P.source) edge words ts ss entry thread }
+    ensures { (edge : Edge) (words : Words) (ss : List P.Source) (ts : List P.Target) (entry : NameBytes) (thread : ℕ) → AllMade P.made ts ss → AreDistinct (language P.source) ss → ThreadRefines (language P.target) (language P.source) edge words ts ss entry thread }
 {
     P::names_stay();
     P::laid_out_too();

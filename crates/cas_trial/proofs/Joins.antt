@@ -5,7 +5,7 @@ use Rattle.cas_runs.specs.Label.{NameBytes, same_name}
 use Rattle.cas_runs.specs.Naming.{Home, Own, Theirs, Value, Number, Pointer, Part, Layout, ArePlaced, is_place, part_by}
 use Rattle.cas_runs.specs.Bounds.{IsPrice, IsTariff}
 use Rattle.cas_runs.specs.Access.{Accesses}
-use Rattle.cas_runs.specs.Unit.{Setting, IsLayout}
+use Rattle.cas_runs.specs.Unit.{Setting, AreDistinct, IsLayout}
 use Rattle.cas_runs.specs.Calls.{Last, language}
 use Rattle.cas_runs.specs.Forms.{FormAlike, writes, loads, stores, last, never}
 use Rattle.cas_runs.specs.Passing.{Relation, AllSame, IsPass, AllMade, MadeAmong, relation, Keeps, Pays}
@@ -39,12 +39,15 @@ both_placed a k m (p ∷ ps) qs le h e =
       subst (λ n. ArePlaced n (m + k) (moved_parts 0 ps ++ moved_parts m qs)) (let same : p.from + p.size ≡ 0 + p.from + p.size = omega arith in same) (both_placed (p.from + p.size) k m ps qs end h.3 e),
     )
 
-pub joins_laid_out : (ts : List Joined) (ss : List Apart) → AllMade IsJoined ts ss → (layout : Layout) → IsLayout (language apart) ss layout → IsLayout (language joined) ts (joins layout)
-joins_laid_out [] ss h layout l = tt
-joins_laid_out (t ∷ ts) [] h layout l = absurd h
-joins_laid_out (t ∷ ts) (s ∷ ss) h layout l =
+each_laid_out : (ts : List Joined) (ss : List Apart) → AllMade IsJoined ts ss → (layout : Layout) → IsLayout (language apart) ss layout → IsLayout (language joined) ts (joins layout)
+each_laid_out [] ss h layout l = tt
+each_laid_out (t ∷ ts) [] h layout l = absurd h
+each_laid_out (t ∷ ts) (s ∷ ss) h layout l =
     let parts = l.0 in
-    ((both_placed 0 1 1 (layout main_name 0) (layout main_name 1) (omega arith) parts.0 parts.1.0, tt), joins_laid_out ts ss h.1 layout l.1)
+    ((both_placed 0 1 1 (layout main_name 0) (layout main_name 1) (omega arith) parts.0 parts.1.0, tt), each_laid_out ts ss h.1 layout l.1)
+
+pub joins_laid_out : (ts : List Joined) (ss : List Apart) → AllMade IsJoined ts ss → AreDistinct (language apart) ss → (layout : Layout) → IsLayout (language apart) ss layout → IsLayout (language joined) ts (joins layout)
+joins_laid_out ts ss h d layout l = each_laid_out ts ss h layout l
 
 -- The objects of a block go with it.
 
@@ -264,8 +267,8 @@ joins_pay setting ts ss = record {
 }
 
 -- the law of the pass
-pub joins_passes : (setting : Setting) (ts : List Joined) (ss : List Apart) → AllMade IsJoined ts ss → IsLayout (language apart) ss setting.layout → IsPass (Rel setting ts ss)
-joins_passes setting ts ss h l =
+pub joins_passes : (setting : Setting) (ts : List Joined) (ss : List Apart) → AllMade IsJoined ts ss → AreDistinct (language apart) ss → IsLayout (language apart) ss setting.layout → IsPass (Rel setting ts ss)
+joins_passes setting ts ss h d l =
     let keeps = joins_keep setting ts ss l in
     record {
       keeps = keeps;

@@ -3,7 +3,7 @@ use Rattle.std.proofs.Common.{◌≡◌, ℕ, ◌+◌, ◌≤◌, List, [], ◌�
 use Rattle.cas_base.specs.declared.decl.Unit.{Unit as UnitOf}
 use Rattle.cas_runs.specs.Naming.{Value, Layout, Memory}
 use Rattle.cas_runs.specs.Bounds.{IsPrice}
-use Rattle.cas_runs.specs.Unit.{Setting, IsLayout, UnitRefines}
+use Rattle.cas_runs.specs.Unit.{Setting, AreDistinct, IsLayout, UnitRefines}
 use Rattle.cas_runs.specs.Calls.{language}
 use Rattle.cas_runs.specs.Access.{Holding}
 use Rattle.cas_runs.specs.Forms.{last}
@@ -58,18 +58,21 @@ module _ (setting : Setting) (ts : List Relaying) (ss : List Relaying) where
   keeps : Keeps (Rel setting ts ss)
   keeps = equal_keeps slow fast setting ts ss (MadeAmong IsSame ts ss) (Midway R0 AtStep SameSize) (λ f g m. refl) (λ f g m. refl)
 
-slow_laid_out : (ts ss : List Relaying) → AllMade IsSame ts ss → (layout : Layout) → IsLayout (language fast) ss layout → IsLayout (language slow) ts layout
-slow_laid_out [] ss h layout l = tt
-slow_laid_out (t ∷ ts) [] h layout l = absurd h
-slow_laid_out (t ∷ ts) (s ∷ ss) h layout l = (tt, slow_laid_out ts ss h.1 layout l.1)
+each_laid_out : (ts ss : List Relaying) → AllMade IsSame ts ss → (layout : Layout) → IsLayout (language fast) ss layout → IsLayout (language slow) ts layout
+each_laid_out [] ss h layout l = tt
+each_laid_out (t ∷ ts) [] h layout l = absurd h
+each_laid_out (t ∷ ts) (s ∷ ss) h layout l = (tt, each_laid_out ts ss h.1 layout l.1)
 
-slow_pass : (setting : Setting) (ts ss : List Relaying) → AllMade IsSame ts ss → IsLayout (language fast) ss setting.layout → IsPass (Rel setting ts ss)
-slow_pass setting ts ss h l = record {
+slow_laid_out : (ts ss : List Relaying) → AllMade IsSame ts ss → AreDistinct (language fast) ss → (layout : Layout) → IsLayout (language fast) ss layout → IsLayout (language slow) ts layout
+slow_laid_out ts ss h d layout l = each_laid_out ts ss h layout l
+
+slow_pass : (setting : Setting) (ts ss : List Relaying) → AllMade IsSame ts ss → AreDistinct (language fast) ss → IsLayout (language fast) ss setting.layout → IsPass (Rel setting ts ss)
+slow_pass setting ts ss h d l = record {
   keeps = keeps setting ts ss;
   pays = record { prices = (λ a. (record { least = omega arith; most = omega arith }, tt), omega arith, λ f. let one : IsPrice 1 = record { least = omega arith; most = omega arith } in (one, (one, (one, tt)))); waits = omega arith };
   passes = forward_passes (Bare setting ts ss) AtStep SameSize (λ t s. t ≡ s) memory_equal (plainly setting ts ss) (steps setting ts ss) (keeps setting ts ss);
 }
 
 -- units of the same programs
-pub units_slow : (s t : UnitOf Relaying) → t.decls ≡ s.decls → t.globals ≡ s.globals → AllMade IsSame t.funs s.funs → UnitRefines (language slow) (language fast) t s
-units_slow s t d g h = units_pass slow fast IsSame (λ us layout. layout) (λ setting ts ss v w. v ≡ w) (λ setting ts ss. Equal) (λ setting ts ss n h k u v. Unit {0}) (λ setting ts ss. Midway (Bare setting ts ss) AtStep SameSize) (λ f g m. refl) slow_laid_out slow_pass t s d g h
+pub units_slow : (s t : UnitOf Relaying) → t.decls ≡ s.decls → t.globals ≡ s.globals → AllMade IsSame t.funs s.funs → AreDistinct (language fast) s.funs → UnitRefines (language slow) (language fast) t s
+units_slow s t d g h distinct = units_pass slow fast IsSame (λ us layout. layout) (λ setting ts ss v w. v ≡ w) (λ setting ts ss. Equal) (λ setting ts ss n h k u v. Unit {0}) (λ setting ts ss. Midway (Bare setting ts ss) AtStep SameSize) (λ f g m. refl) slow_laid_out slow_pass t s d g h distinct

@@ -3,7 +3,7 @@ use Rattle.std.proofs.Common.{◌≡◌, ℕ, List, [], ◌∷◌, ◌⊎◌, So
 use Rattle.cas_runs.specs.Naming.{Value, Layout}
 use Rattle.cas_runs.specs.Machine.{Block}
 use Rattle.cas_runs.specs.Access.{Holding}
-use Rattle.cas_runs.specs.Unit.{Setting, IsLayout}
+use Rattle.cas_runs.specs.Unit.{Setting, AreDistinct, IsLayout}
 use Rattle.cas_runs.specs.Calls.{Past, with_own, one_begun, nothing_touched, language}
 use Rattle.cas_runs.specs.Passing.{Relation, AllSame, t_step, matched, ReadyIf, passing, meets, FailsSoon, Does, FineAt, Passes, IsPass, AllMade, MadeAmong, relation, Keeps}
 use Rattle.cas_runs.specs.Unmoved.{Equal}
@@ -19,10 +19,13 @@ use Rattle.cas_trial.specs.Relays.{Relay, Begins, enters, hands, calling, tailin
 abbrev Rel : Setting → List Relayed → List Relaying → Relation Relayed Relay Relaying Relay
 Rel setting ts ss = relation tailing calling IsTailing (λ us layout. layout) (λ setting ts ss v w. v ≡ w) (λ setting ts ss. Equal) (λ setting ts ss n h k u v. Unit {0}) (λ setting ts ss. AtCall) ts ss setting
 
-pub tails_laid_out : (ts : List Relayed) (ss : List Relaying) → AllMade IsTailing ts ss → (layout : Layout) → IsLayout (language calling) ss layout → IsLayout (language tailing) ts layout
-tails_laid_out [] ss h layout l = tt
-tails_laid_out (t ∷ ts) [] h layout l = absurd h
-tails_laid_out (t ∷ ts) (s ∷ ss) h layout l = (tt, tails_laid_out ts ss h.1 layout l.1)
+each_laid_out : (ts : List Relayed) (ss : List Relaying) → AllMade IsTailing ts ss → (layout : Layout) → IsLayout (language calling) ss layout → IsLayout (language tailing) ts layout
+each_laid_out [] ss h layout l = tt
+each_laid_out (t ∷ ts) [] h layout l = absurd h
+each_laid_out (t ∷ ts) (s ∷ ss) h layout l = (tt, each_laid_out ts ss h.1 layout l.1)
+
+pub tails_laid_out : (ts : List Relayed) (ss : List Relaying) → AllMade IsTailing ts ss → AreDistinct (language calling) ss → (layout : Layout) → IsLayout (language calling) ss layout → IsLayout (language tailing) ts layout
+tails_laid_out ts ss h d layout l = each_laid_out ts ss h layout l
 
 module _ (setting : Setting) (ts : List Relayed) (ss : List Relaying) where
   abbrev R : Relation Relayed Relay Relaying Relay
@@ -54,8 +57,8 @@ module _ (setting : Setting) (ts : List Relayed) (ss : List Relaying) where
   }
 
 -- the law of the pass
-pub tails_pass : (setting : Setting) (ts : List Relayed) (ss : List Relaying) → AllMade IsTailing ts ss → IsLayout (language calling) ss setting.layout → IsPass (Rel setting ts ss)
-tails_pass setting ts ss h l = record {
+pub tails_pass : (setting : Setting) (ts : List Relayed) (ss : List Relaying) → AllMade IsTailing ts ss → AreDistinct (language calling) ss → IsLayout (language calling) ss setting.layout → IsPass (Rel setting ts ss)
+tails_pass setting ts ss h d l = record {
   keeps = keeps setting ts ss;
   pays = record { prices = (λ a. (record { least = omega arith; most = omega arith }, tt), omega arith, λ f. (record { least = omega arith; most = omega arith }, tt)); waits = omega arith };
   passes = passes setting ts ss;

@@ -4,7 +4,7 @@ ghost use Rattle.cas_runs.specs.Calls.{language};
 ghost use Rattle.cas_runs.specs.Passing.{AllMade};
 ghost use Rattle.cas_runs.specs.Refines.{HasRun};
 ghost use Rattle.cas_runs.specs.Rules.{KeepsRules};
-ghost use Rattle.cas_runs.specs.Unit.{FitsUnit, IsLayout, Setting, UnitRefines};
+ghost use Rattle.cas_runs.specs.Unit.{AreDistinct, FitsUnit, IsLayout, Setting, UnitRefines};
 ghost use Rattle.cas_trial.specs.Fitting.{decls, edge, globals, labels, program, setting, words};
 ghost use Rattle.cas_trial.specs.Paces.{IsSame, fast, slow};
 ghost use Rattle.cas_trial.specs.Stages.{apart};
@@ -34,5 +34,5 @@ pub fn apart_keeps_rules()
 /// stands for.
 #[tactic(auto, using(crate::proofs::Slowing::units_slow))]
 pub fn units_slow()
-    ensures { (s : UnitOf Relaying) (t : UnitOf Relaying) → t.decls ≡ s.decls → t.globals ≡ s.globals → AllMade IsSame t.funs s.funs → UnitRefines (language slow) (language fast) t s }
+    ensures { (s : UnitOf Relaying) (t : UnitOf Relaying) → t.decls ≡ s.decls → t.globals ≡ s.globals → AllMade IsSame t.funs s.funs → AreDistinct (language fast) s.funs → UnitRefines (language slow) (language fast) t s }
 {}

@@ -3,7 +3,7 @@ ghost use Rattle.cas_base.specs.declared.decl.Decl.{Decl};
 ghost use Rattle.cas_base.specs.declared.decl.Unit.{Unit as UnitOf};
 ghost use Rattle.cas_runs.specs.Calls.{language};
 ghost use Rattle.cas_runs.specs.Passing.{AllMade};
-ghost use Rattle.cas_runs.specs.Unit.{FunctionRefines, UnitRefines};
+ghost use Rattle.cas_runs.specs.Unit.{AreDistinct, FunctionRefines, UnitRefines};
 ghost use Rattle.cas_runs.specs.Unmoved.{Equal};
 ghost use Rattle.cas_trial.specs.Relays.{AtCall, IsTailing, Relay, calling, tailing};
 ghost use Rattle.cas_trial.specs.Stages.{main_name};
@@ -80,7 +80,7 @@ pub fn relay(alloc: Global, program: &Relaying) -> Result<Relayed, NoMemory>
 
 /// Units of such programs refine, where their declarations and data are equal.
 pub fn units_relay()
-    ensures { (s : UnitOf Relaying) (t : UnitOf Relayed) → t.decls ≡ s.decls → t.globals ≡ s.globals → AllMade IsTailing t.funs s.funs → UnitRefines (language tailing) (language calling) t s }
+    ensures { (s : UnitOf Relaying) (t : UnitOf Relayed) → t.decls ≡ s.decls → t.globals ≡ s.globals → AllMade IsTailing t.funs s.funs → AreDistinct (language calling) s.funs → UnitRefines (language tailing) (language calling) t s }
 {
     units_refine::<TailCalls>();
 }
