@@ -187,7 +187,7 @@ module _ {F A G B : Type 0} (target : Activations F A) (source : Activations G B
       by false i j = absurd (cc j)
       by true i j = names (subst (λ v. same_share v crossing.share ≡ true) (sym a.share) i) (all_named_by (parts_at layout q.begun) q.naming ws crossing.values) refl j
 
-module _ {F A G B : Type 0} (target : Activations F A) (source : Activations G B) (setting : Setting) (placed : Layout) (ts : List F) (ss : List G) (made : F → G → Type 0) (place : Placing) (sizes : NameBytes → ℕ → ℕ) (match : ℕ → A → Holding → Block → B → Holding → Block → Type 0) (is : IsPlacing target source made place sizes placed setting.layout) where
+module _ {F A G B : Type 0} (target : Activations F A) (source : Activations G B) (setting : Setting) (placed : Layout) (ts : List F) (ss : List G) (made : F → G → Type 0) (place : Placing) (sizes : NameBytes → ℕ → ℕ) (match : F → G → ℕ → A → Holding → Block → B → Holding → Block → Type 0) (is : IsPlacing target source made place sizes placed setting.layout) where
   abbrev R : Relation F A G B
   R = moves_blocks target source setting placed ts ss made place sizes match
 

@@ -41,7 +41,7 @@ all_among made ts ss (f ∷ fs) (g ∷ gs) t s h = ((h.0, t f (inl refl), s g (i
 among_all : {F G : Type 0} (made : F → G → Type 0) (ts : List F) (ss : List G) → AllMade made ts ss → AllMade (MadeAmong made ts ss) ts ss
 among_all made ts ss h = all_among made ts ss ts ss (λ f m. m) (λ g m. m) h
 
-module _ {F A G B : Type 0} (target : Activations F A) (source : Activations G B) (made : F → G → Type 0) (naming : List G → Layout → Layout) (same : Setting → List F → List G → Value → Value → Type 0) (alike : Setting → List F → List G → Past → Holding → Past → Holding → Type 0) (later : Setting → List F → List G → ℕ → Holding → Holding → Holding → Holding → Type 0) (match : Setting → List F → List G → ℕ → A → Holding → Block → B → Holding → Block → Type 0)
+module _ {F A G B : Type 0} (target : Activations F A) (source : Activations G B) (made : F → G → Type 0) (naming : List G → Layout → Layout) (same : Setting → List F → List G → Value → Value → Type 0) (alike : Setting → List F → List G → Past → Holding → Past → Holding → Type 0) (later : Setting → List F → List G → ℕ → Holding → Holding → Holding → Holding → Type 0) (match : Setting → List F → List G → F → G → ℕ → A → Holding → Block → B → Holding → Block → Type 0)
     (names : (f : F) (g : G) → made f g → target.name f ≡ source.name g)
     (laid_out_too : (ts : List F) (ss : List G) → AllMade made ts ss → AreDistinct (language source) ss → (layout : Layout) → IsLayout (language source) ss layout → IsLayout (language target) ts (naming ss layout))
     (passes : (setting : Setting) (ts : List F) (ss : List G) → AllMade made ts ss → AreDistinct (language source) ss → IsLayout (language source) ss setting.layout → IsPass (relation target source made naming same alike later match ts ss setting)) where

@@ -54,7 +54,7 @@ module _ {F A G B : Type 0} (r : Relation F A G B) (is : Keeps r) (pays : Pays r
   pub data Frames (h : Holding) (k : Holding) : ℕ → List (Frame F A) → List (Frame G B) → Type 0 where
     bottom : {m : ℕ} → Frames h k m [] []
     outer : {m : ℕ} {xs : List (Frame F A)} {ys : List (Frame G B)} → outward ≡ true → Frames h k m xs ys → Frames h k m (Outer ∷ xs) (Outer ∷ ys)
-    under : {m n n' : ℕ} {f : F} {g : G} {next : List Value → Option A} {next' : List Value → Option B} {xs : List (Frame F A)} {ys : List (Frame G B)} → n + 1 ≤ m → n ≡ n' → r.made f g → WaitAlike r n h k next next' → Based outward xs → Frames h k n xs ys → Frames h k m (Waits f n next ∷ xs) (Waits g n' next' ∷ ys)
+    under : {m n n' : ℕ} {f : F} {g : G} {next : List Value → Option A} {next' : List Value → Option B} {xs : List (Frame F A)} {ys : List (Frame G B)} → n + 1 ≤ m → n ≡ n' → r.made f g → WaitAlike r f g n h k next next' → Based outward xs → Frames h k n xs ys → Frames h k m (Waits f n next ∷ xs) (Waits g n' next' ∷ ys)
     passed : {m n : ℕ} {g : G} {next' : List Value → Option B} {xs : List (Frame F A)} {ys : List (Frame G B)} → OnlyPasses r g next' → Based outward xs → Frames h k m xs ys → Frames h k m xs (Waits g n next' ∷ ys)
 
   frames_later : (h k h' k' : Holding) {m : ℕ} {xs : List (Frame F A)} {ys : List (Frame G B)} → Frames h k m xs ys → r.later m h k h' k' → Frames h' k' m xs ys
@@ -80,7 +80,7 @@ module _ {F A G B : Type 0} (r : Relation F A G B) (is : Keeps r) (pays : Pays r
 
   pub data Lifted : Thread F A → Block → Thread G B → Block → Type 0 where
     away : {xs : List (Frame F A)} {ys : List (Frame G B)} {p q : Past} {h k : Holding} {b c : Block} → outward ≡ true → Within b c → r.alike p h q k → Frames h k p.begun xs ys → Lifted (Away xs p h) b (Away ys q k) c
-    runs : {f : F} {g : G} {n n' e e' : ℕ} {x : A} {y : B} {xs : List (Frame F A)} {ys : List (Frame G B)} {p q : Past} {h k : Holding} {b c : Block} → r.made f g → n + 1 ≤ p.begun → n ≡ n' → r.match n x h b y k c → r.alike p h q k → Based outward xs → Frames h k n xs ys → Lifted (Runs f n x e xs p h) b (Runs g n' y e' ys q k) c
+    runs : {f : F} {g : G} {n n' e e' : ℕ} {x : A} {y : B} {xs : List (Frame F A)} {ys : List (Frame G B)} {p q : Past} {h k : Holding} {b c : Block} → r.made f g → n + 1 ≤ p.begun → n ≡ n' → r.match f g n x h b y k c → r.alike p h q k → Based outward xs → Frames h k n xs ys → Lifted (Runs f n x e xs p h) b (Runs g n' y e' ys q k) c
     leaving : {z : Thread G B} {vs : List Value} {xs : List (Frame F A)} {p : Past} {h : Holding} {b c : Block} (ws : List Value) (ys : List (Frame G B)) (q : Past) (k : Holding) → outward ≡ true → S.act z ≡ leaves r.setting.layout ws ys q k → Subsequence (below r.target xs []) (S.open_functions z) → Within b c → AllSame r vs ws → r.alike p h q k → Frames h k p.begun xs ys → Lifted (Leaves vs xs p h) b z c
     over : {b c : Block} → Within b c → Lifted Over b Over c
     broken : {x : Thread F A} {z : Thread G B} {b c : Block} → IsBad (S.act z) → Lifted x b z c
@@ -137,7 +137,7 @@ module _ {F A G B : Type 0} (r : Relation F A G B) (is : Keeps r) (pays : Pays r
   fails_soon g n ys q {e = e} {y = y} {k = k} (goes_on y' h m) = soon (Runs g n y' 0 ys q (s_step r y k).holding) (ap (λ (v : Option (Last B)). s_acts v g n ys q (s_step r y k).holding) h) (fails_soon g n ys q {e = 0} m)
 
   -- the source goes on to where the activations match
-  going : (ls : List RunLabel) (f : F) (g : G) (n n' e : ℕ) (p q : Past) (h0 k0 : Holding) (x : A) (h : Holding) (b : Block) (xs : List (Frame F A)) (ys : List (Frame G B)) → r.made f g → n + 1 ≤ p.begun → n ≡ n' → Based outward xs → Frames h0 k0 n xs ys → {e' : ℕ} {y : B} {k : Holding} {c : Block} → Going r n p q h0 k0 x h b y k c → Fol ls (Runs f n x e xs p h) b (Runs g n' y e' ys q k) c
+  going : (ls : List RunLabel) (f : F) (g : G) (n n' e : ℕ) (p q : Past) (h0 k0 : Holding) (x : A) (h : Holding) (b : Block) (xs : List (Frame F A)) (ys : List (Frame G B)) → r.made f g → n + 1 ≤ p.begun → n ≡ n' → Based outward xs → Frames h0 k0 n xs ys → {e' : ℕ} {y : B} {k : Holding} {c : Block} → Going r f g n p q h0 k0 x h b y k c → Fol ls (Runs f n x e xs p h) b (Runs g n' y e' ys q k) c
   going ls f g n n' e p q h0 k0 x h b xs ys made less same based fr {k = k} (matched m s) = related (runs made less same m s.alike based (frames_later h0 k0 h k fr s.later))
   going ls f g n n' e p q h0 k0 x h b xs ys made less same based fr {y = y} {k = k} (fails m) = fails_follows (failing_bad (s_step r y k).last g n' ys q (s_step r y k).holding m)
   going ls f g n n' e p q h0 k0 x h b xs ys made less same based fr {e' = e'} {y = y} {k = k} (goes y' m go) =
@@ -156,10 +156,10 @@ module _ {F A G B : Type 0} (r : Relation F A G B) (is : Keeps r) (pays : Pays r
 
   module _ (ls : List RunLabel) (b d : Block) (f : F) (g : G) (n n' : ℕ) (p q : Past) (xs : List (Frame F A)) (ys : List (Frame G B)) (made : r.made f g) (less : n + 1 ≤ p.begun) (same : n ≡ n') (based : Based outward xs) (h k : Holding) (alike : r.alike p h q k) (fr : Frames h k n xs ys) (x : A) (y : B) (z : Thread G B) where
     -- after a label
-    at_label : (l : RunLabel) (h' k' : Holding) → r.later n h k h' k' → Ready r n p q x 0 h' y 0 k' → Fol (l ∷ ls) (Runs f n x 0 xs p h') (begun T (Runs f n x 0 xs p h')) (Runs g n' y 0 ys q k') (begun S (Runs g n' y 0 ys q k'))
+    at_label : (l : RunLabel) (h' k' : Holding) → r.later n h k h' k' → Ready r f g n p q x 0 h' y 0 k' → Fol (l ∷ ls) (Runs f n x 0 xs p h') (begun T (Runs f n x 0 xs p h')) (Runs g n' y 0 ys q k') (begun S (Runs g n' y 0 ys q k'))
     at_label l h' k' later ready = going (l ∷ ls) f g n n' 0 p q h' k' x h' (begun T (Runs f n x 0 xs p h')) xs ys made less same based (frames_later h k h' k' fr later) (ready nothing nothing (nothing_under nothing))
 
-    module _ (ready : (share : Share) → Ready r n p q x 0 (with_share h share) y 0 (with_share k share)) where
+    module _ (ready : (share : Share) → Ready r f g n p q x 0 (with_share h share) y 0 (with_share k share)) where
       shared : (l : RunLabel) (share : Share) → Fol (l ∷ ls) (Runs f n x 0 xs p (with_share h share)) (begun T (Runs f n x 0 xs p (with_share h share))) (Runs g n' y 0 ys q (with_share k share)) (begun S (Runs g n' y 0 ys q (with_share k share)))
       shared l share = at_label l (with_share h share) (with_share k share) (is.shared n p q h k share alike).later (ready share)
 
@@ -185,7 +185,7 @@ module _ {F A G B : Type 0} (r : Relation F A G B) (is : Keeps r) (pays : Pays r
       gives_too (Some num) e =
           subst (λ (s : Share). Ans ls (gives_lock num (words_in s num) (Runs f n x 0 xs p (with_share h (without_lock s num)))) b z d) (sym (is.shares p q h k alike)) (gives_held num (words_in k.share num) e)
 
-    puts_too : (word : ℕ) → Ready r n p q x 0 h y 0 k → S.act z ≡ Says (Prints word) (Runs g n' y 0 ys q k) → Ans ls (Says (Prints word) (Runs f n x 0 xs p h)) b z d
+    puts_too : (word : ℕ) → Ready r f g n p q x 0 h y 0 k → S.act z ≡ Says (Prints word) (Runs g n' y 0 ys q k) → Ans ls (Says (Prints word) (Runs f n x 0 xs p h)) b z d
     puts_too word ready e = by (Runs g n' y 0 ys q k) (subst (λ (v : Act (Thread G B)). Leads r.setting.edge ls v (Out word) (Runs g n' y 0 ys q k)) (sym e) (refl, refl)) (at_label (Out word) h k (is.at_once n h k) ready)
 
   -- What crosses.
@@ -271,14 +271,14 @@ module _ {F A G B : Type 0} (r : Relation F A G B) (is : Keeps r) (pays : Pays r
       either false made rest = rest
 
   -- an activation begins in both
-  begins_going : (ls : List RunLabel) (f : F) (g : G) → r.made f g → (p q : Past) (h k : Holding) → r.alike p h q k → (xs : List (Frame F A)) (ys : List (Frame G B)) → Based outward xs → Frames h k p.begun xs ys → (x : A) (y : B) (b d : Block) → Within b d → Ready r p.begun (one_begun r.target p) (one_begun r.source q) x (first_price r.target.tariff r.target.blocks f) (with_own r.target f p.begun h) y (first_price r.source.tariff r.source.blocks g) (with_own r.source g q.begun k) → Fol ls (begins r.target f x xs p h) (onward T b (begins r.target f x xs p h)) (begins r.source g y ys q k) (onward S d (begins r.source g y ys q k))
+  begins_going : (ls : List RunLabel) (f : F) (g : G) → r.made f g → (p q : Past) (h k : Holding) → r.alike p h q k → (xs : List (Frame F A)) (ys : List (Frame G B)) → Based outward xs → Frames h k p.begun xs ys → (x : A) (y : B) (b d : Block) → Within b d → Ready r f g p.begun (one_begun r.target p) (one_begun r.source q) x (first_price r.target.tariff r.target.blocks f) (with_own r.target f p.begun h) y (first_price r.source.tariff r.source.blocks g) (with_own r.source g q.begun k) → Fol ls (begins r.target f x xs p h) (onward T b (begins r.target f x xs p h)) (begins r.source g y ys q k) (onward S d (begins r.source g y ys q k))
   begins_going ls f g made p q h k alike xs ys based fr x y b d w ready =
       let h' = with_own r.target f p.begun h in
       let k' = with_own r.source g q.begun k in
       going ls f g p.begun q.begun (first_price r.target.tariff r.target.blocks f) (one_begun r.target p) (one_begun r.source q) h' k' x h' (onward T b (begins r.target f x xs p h)) xs ys made (omega arith) (is.begun p q h k alike) based
       (frames_later h k h' k' fr (is.begins f g made p q h k alike).later) (ready b d w)
 
-  begins_too : (ls : List RunLabel) (f : F) (g : G) → r.made f g → (p q : Past) (h k : Holding) → r.alike p h q k → (xs : List (Frame F A)) (ys : List (Frame G B)) → Based outward xs → Frames h k p.begun xs ys → (b d : Block) (z : Thread G B) → Within b d → (o : Option A) (o' : Option B) → ReadyIf r p.begun (one_begun r.target p) (one_begun r.source q) o (first_price r.target.tariff r.target.blocks f) (with_own r.target f p.begun h) o' (first_price r.source.tariff r.source.blocks g) (with_own r.source g q.begun k) → S.act z ≡ calls_in r.source g o' ys q k → Ans ls (calls_in r.target f o xs p h) b z d
+  begins_too : (ls : List RunLabel) (f : F) (g : G) → r.made f g → (p q : Past) (h k : Holding) → r.alike p h q k → (xs : List (Frame F A)) (ys : List (Frame G B)) → Based outward xs → Frames h k p.begun xs ys → (b d : Block) (z : Thread G B) → Within b d → (o : Option A) (o' : Option B) → ReadyIf r f g p.begun (one_begun r.target p) (one_begun r.source q) o (first_price r.target.tariff r.target.blocks f) (with_own r.target f p.begun h) o' (first_price r.source.tariff r.source.blocks g) (with_own r.source g q.begun k) → S.act z ≡ calls_in r.source g o' ys q k → Ans ls (calls_in r.target f o xs p h) b z d
   begins_too ls f g made p q h k alike xs ys based fr b d z w None None ready e = now (subst (λ (v : Act (Thread G B)). IsBad v) (sym e) tt)
   begins_too ls f g made p q h k alike xs ys based fr b d z w (Some x) None ready e = fails_follows (subst (λ (v : Act (Thread G B)). IsBad v) (sym e) tt)
   begins_too ls f g made p q h k alike xs ys based fr b d z w None (Some y) ready e = absurd ready
@@ -299,7 +299,7 @@ module _ {F A G B : Type 0} (r : Relation F A G B) (is : Keeps r) (pays : Pays r
       ap (λ (v : _). s_acts (performed r.setting.edge.cells r.setting.words v (record { holding = k; footprint = nothing_touched })).last g n ys q (performed r.setting.edge.cells r.setting.words v (record { holding = k; footprint = nothing_touched })).holding) form
       ∙ ap (λ (v : List ℕ). returns r.setting.layout ws ys q (record { share = k.share; memory = set_blocks gone k.memory (r.source.name g) n 0 v })) none
 
-  goes_back_too : (ls : List RunLabel) (f : F) (g : G) (n n' : ℕ) (p q : Past) (h k : Holding) → r.made f g → n + 1 ≤ p.begun → n ≡ n' → (xs : List (Frame F A)) (ys : List (Frame G B)) → Based outward xs → Frames h k n xs ys → (b d : Block) (z : Thread G B) → Within b d → (o : Option A) (o' : Option B) → ReadyIf r n p q o 0 h o' 0 k → S.act z ≡ goes_back g n' o' ys q k → Ans ls (goes_back f n o xs p h) b z d
+  goes_back_too : (ls : List RunLabel) (f : F) (g : G) (n n' : ℕ) (p q : Past) (h k : Holding) → r.made f g → n + 1 ≤ p.begun → n ≡ n' → (xs : List (Frame F A)) (ys : List (Frame G B)) → Based outward xs → Frames h k n xs ys → (b d : Block) (z : Thread G B) → Within b d → (o : Option A) (o' : Option B) → ReadyIf r f g n p q o 0 h o' 0 k → S.act z ≡ goes_back g n' o' ys q k → Ans ls (goes_back f n o xs p h) b z d
   goes_back_too ls f g n n' p q h k made less same xs ys based fr b d z w None None ready e = now (subst (λ (v : Act (Thread G B)). IsBad v) (sym e) tt)
   goes_back_too ls f g n n' p q h k made less same xs ys based fr b d z w (Some x) None ready e = fails_follows (subst (λ (v : Act (Thread G B)). IsBad v) (sym e) tt)
   goes_back_too ls f g n n' p q h k made less same xs ys based fr b d z w None (Some y) ready e = absurd ready
@@ -400,7 +400,7 @@ module _ {F A G B : Type 0} (r : Relation F A G B) (is : Keeps r) (pays : Pays r
   enters_too ls p q h k alike xs ys based fr (Some f) (Some g) None (Some ws) found same = absurd same
   enters_too ls p q h k alike xs ys based fr (Some f) (Some g) (Some vs) (Some ws) found same = at (r.target.enter f p.begun vs) (r.source.enter g q.begun ws) (ok.enters f g found p q h k alike vs ws same)
     where
-      at : (o : Option A) (o' : Option B) → ReadyIf r p.begun (one_begun r.target p) (one_begun r.source q) o (first_price r.target.tariff r.target.blocks f) (with_own r.target f p.begun h) o' (first_price r.source.tariff r.source.blocks g) (with_own r.source g q.begun k) → Fol ls (enters_at r.target f o xs p h) (begun T (enters_at r.target f o xs p h)) (enters_at r.source g o' ys q k) (begun S (enters_at r.source g o' ys q k))
+      at : (o : Option A) (o' : Option B) → ReadyIf r f g p.begun (one_begun r.target p) (one_begun r.source q) o (first_price r.target.tariff r.target.blocks f) (with_own r.target f p.begun h) o' (first_price r.source.tariff r.source.blocks g) (with_own r.source g q.begun k) → Fol ls (enters_at r.target f o xs p h) (begun T (enters_at r.target f o xs p h)) (enters_at r.source g o' ys q k) (begun S (enters_at r.source g o' ys q k))
       at None None ready = related (broken tt)
       at (Some x) None ready = related (broken tt)
       at None (Some y) ready = absurd ready
@@ -410,7 +410,7 @@ module _ {F A G B : Type 0} (r : Relation F A G B) (is : Keeps r) (pays : Pays r
     not_based : {X : Type 0} → Based outward [] → X
     not_based b = let no : ⊥ = subst (λ v. Based v []) out b in absurd no
 
-    resumes_later : (f : F) (g : G) (n n' : ℕ) → r.made f g → n + 1 ≤ p.begun → n ≡ n' → (xs : List (Frame F A)) (ys : List (Frame G B)) → Based outward xs → Frames h k n xs ys → (c : Block) (z : Thread G B) (o : Option A) (o' : Option B) → ReadyIf r n p q o 0 h o' 0 k → S.act z ≡ goes_back g n' o' ys q k → Fol ls (resumes f n o xs p h) (begun T (resumes f n o xs p h)) z c
+    resumes_later : (f : F) (g : G) (n n' : ℕ) → r.made f g → n + 1 ≤ p.begun → n ≡ n' → (xs : List (Frame F A)) (ys : List (Frame G B)) → Based outward xs → Frames h k n xs ys → (c : Block) (z : Thread G B) (o : Option A) (o' : Option B) → ReadyIf r f g n p q o 0 h o' 0 k → S.act z ≡ goes_back g n' o' ys q k → Fol ls (resumes f n o xs p h) (begun T (resumes f n o xs p h)) z c
     resumes_later f g n n' made less equal xs ys based fr c z o None ready e = fails_follows (subst (λ (v : Act (Thread G B)). IsBad v) (sym e) tt)
     resumes_later f g n n' made less equal xs ys based fr c z None (Some y) ready e = absurd ready
     resumes_later f g n n' made less equal xs ys based fr c z (Some x) (Some y) ready e =
@@ -438,7 +438,7 @@ module _ {F A G B : Type 0} (r : Relation F A G B) (is : Keeps r) (pays : Pays r
     back_too (under {n = n} {n' = n'} {f = f} {g = g} {next = next} {next' = next'} {xs = xs} {ys = ys} below' equal made wait under' fr) less =
         at (next vs) (next' ws) (wait p q h k (is.at_once (n + 1) h k) alike vs ws same)
       where
-        at : (o : Option A) (o' : Option B) → ReadyIf r n p q o 0 h o' 0 k → Fol ls (resumes f n o xs p h) (begun T (resumes f n o xs p h)) (resumes g n' o' ys q k) (begun S (resumes g n' o' ys q k))
+        at : (o : Option A) (o' : Option B) → ReadyIf r f g n p q o 0 h o' 0 k → Fol ls (resumes f n o xs p h) (begun T (resumes f n o xs p h)) (resumes g n' o' ys q k) (begun S (resumes g n' o' ys q k))
         at None None ready = related (broken tt)
         at (Some x) None ready = related (broken tt)
         at None (Some y) ready = absurd ready
@@ -503,7 +503,7 @@ module _ {F A G B : Type 0} (r : Relation F A G B) (is : Keeps r) (pays : Pays r
     fine_of ls x b z c (runs {f = f} {g = g} {n = n} {n' = n'} {e = e} {x = a} {y = y} {ys = ys} {p = p} {q = q} {h = h} {k = k} made less same m alike based fr) =
         ⊎_elim (λ bad. inl (fails_soon g n' ys q bad))
         (λ fine. let least = step_costs r.target.tariff r.targets a pays.prices in inr (record { costs = omega (arith, least); within = fine.within; opened = frames_open fr _ _ (open_runs f g a h y k made fine.opened) }))
-        (ok.fine n p q a h b y k c m alike)
+        (ok.fine n f g made p q a h b y k c m alike)
     fine_of ls x b z c (leaving ws ys q k out e opened w same alike fr) = inr (record { costs = waiting_costs r.target.tariff r.targets; within = w; opened = opened })
     fine_of ls x b z c (over w) = inr (record { costs = waiting_costs r.target.tariff r.targets; within = w; opened = done })
     fine_of ls x b z c (broken e) = inl (now e)
@@ -513,7 +513,7 @@ module _ {F A G B : Type 0} (r : Relation F A G B) (is : Keeps r) (pays : Pays r
     answers_of ls x b z c (runs {f = f} {g = g} {n = n} {n' = n'} {e' = e'} {x = a} {y = y} {xs = xs} {ys = ys} {p = p} {q = q} {h = h} {k = k} made less same m alike based fr) =
         ⊎_elim (λ bad. bad_answers (T.act (Runs f n a e' xs p h)) (fails_soon g n' ys q bad))
         (λ fine. at_last all_t ls b c f g n n' e' p q xs ys made less same based h k alike fr fine.within y (t_step r a h).last (t_step r a h).holding (ok.does n f g made p q a h b y k c m alike))
-        (ok.fine n p q a h b y k c m alike)
+        (ok.fine n f g made p q a h b y k c m alike)
       where
         bad_answers : (act : Act (Thread F A)) → BadSoon S (Runs g n' y e' ys q k) → Ans ls act b (Runs g n' y e' ys q k) c
         bad_answers act bad = soon_bad ls act b (Runs g n' y e' ys q k) c bad

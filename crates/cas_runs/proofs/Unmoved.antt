@@ -10,7 +10,7 @@ use Rattle.cas_runs.specs.Passing.{Relation, AllSame, SameIf, brought_in, heard,
 use Rattle.cas_runs.specs.Unmoved.{keeps_values}
 use Rattle.cas_runs.specs.Forms.{LengthsAlike, Stored, MemoryKeeps}
 
-module _ {F A G B : Type 0} (target : Activations F A) (source : Activations G B) (setting : Setting) (ts : List F) (ss : List G) (made : F → G → Type 0) (match : ℕ → A → Holding → Block → B → Holding → Block → Type 0) (names : (f : F) (g : G) → made f g → target.name f ≡ source.name g) (blocks : (f : F) (g : G) → made f g → target.blocks f ≡ source.blocks g) where
+module _ {F A G B : Type 0} (target : Activations F A) (source : Activations G B) (setting : Setting) (ts : List F) (ss : List G) (made : F → G → Type 0) (match : F → G → ℕ → A → Holding → Block → B → Holding → Block → Type 0) (names : (f : F) (g : G) → made f g → target.name f ≡ source.name g) (blocks : (f : F) (g : G) → made f g → target.blocks f ≡ source.blocks g) where
   abbrev R : Relation F A G B
   R = keeps_values target source setting ts ss made match
 

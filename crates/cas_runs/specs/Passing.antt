@@ -25,8 +25,8 @@ pub record Relation (F A G B : Type 0) : Type 1 where
   pub alike : Past → Holding → Past → Holding → Type 0
   -- between two moments nothing has touched what the activations with smaller serial numbers have for themselves
   pub later : ℕ → Holding → Holding → Holding → Holding → Type 0
-  -- where the activations of this serial number stand, with the blocks so far
-  pub match : ℕ → A → Holding → Block → B → Holding → Block → Type 0
+  -- where the activations of these functions and of this serial number stand, with the blocks so far
+  pub match : F → G → ℕ → A → Holding → Block → B → Holding → Block → Type 0
 
 module _ {F A G B : Type 0} (r : Relation F A G B) where
   -- as many, each the same
@@ -55,25 +55,25 @@ module _ {F A G B : Type 0} (r : Relation F A G B) where
     pub later : r.later n h k h' k'
 
   -- from y the source goes on quietly to where it matches x, or it fails
-  pub data Going (n : ℕ) (p q : Past) (h k : Holding) (x : A) (h' : Holding) (b : Block) : B → Holding → Block → Type 0 where
-    matched : {y : B} {k' : Holding} {c : Block} → r.match n x h' b y k' c → Stands n p q h k h' k' → Going n p q h k x h' b y k' c
-    fails : {y : B} {k' : Holding} {c : Block} → (s_step y k').last ≡ None → Going n p q h k x h' b y k' c
-    goes : {y : B} {k' : Holding} {c : Block} (y' : B) → (s_step y k').last ≡ Some (Goes y') → Going n p q h k x h' b y' (s_step y k').holding (s_on c y' 0 (s_step y k').holding) → Going n p q h k x h' b y k' c
+  pub data Going (f : F) (g : G) (n : ℕ) (p q : Past) (h k : Holding) (x : A) (h' : Holding) (b : Block) : B → Holding → Block → Type 0 where
+    matched : {y : B} {k' : Holding} {c : Block} → r.match f g n x h' b y k' c → Stands n p q h k h' k' → Going f g n p q h k x h' b y k' c
+    fails : {y : B} {k' : Holding} {c : Block} → (s_step y k').last ≡ None → Going f g n p q h k x h' b y k' c
+    goes : {y : B} {k' : Holding} {c : Block} (y' : B) → (s_step y k').last ≡ Some (Goes y') → Going f g n p q h k x h' b y' (s_step y k').holding (s_on c y' 0 (s_step y k').holding) → Going f g n p q h k x h' b y k' c
 
   -- once both stand there, with what their steps cost in addition, the source goes on to where the activations match
-  abbrev pub Ready : ℕ → Past → Past → A → ℕ → Holding → B → ℕ → Holding → Type 0
-  Ready n p q x extra h y more k = (b c : Block) → Within b c → Going n p q h k x h (t_on b x extra h) y k (s_on c y more k)
+  abbrev pub Ready : F → G → ℕ → Past → Past → A → ℕ → Holding → B → ℕ → Holding → Type 0
+  Ready f g n p q x extra h y more k = (b c : Block) → Within b c → Going f g n p q h k x h (t_on b x extra h) y k (s_on c y more k)
 
   -- an activation begins or goes on where the source's does
-  abbrev pub ReadyIf : ℕ → Past → Past → Option A → ℕ → Holding → Option B → ℕ → Holding → Type 0
-  ReadyIf n p q (Some x) extra h (Some y) more k = Ready n p q x extra h y more k
-  ReadyIf n p q None extra h (Some y) more k = ⊥
-  ReadyIf n p q x extra h None more k = Unit {0}
+  abbrev pub ReadyIf : F → G → ℕ → Past → Past → Option A → ℕ → Holding → Option B → ℕ → Holding → Type 0
+  ReadyIf f g n p q (Some x) extra h (Some y) more k = Ready f g n p q x extra h y more k
+  ReadyIf f g n p q None extra h (Some y) more k = ⊥
+  ReadyIf f g n p q x extra h None more k = Unit {0}
 
   -- two activations that wait for the same result, and go on with it at any later moment
-  abbrev pub WaitAlike : ℕ → Holding → Holding → (List Value → Option A) → (List Value → Option B) → Type 0
-  WaitAlike n h k next next' =
-      (p q : Past) (h' k' : Holding) → r.later (n + 1) h k h' k' → r.alike p h' q k' → (vs ws : List Value) → AllSame vs ws → ReadyIf n p q (next vs) 0 h' (next' ws) 0 k'
+  abbrev pub WaitAlike : F → G → ℕ → Holding → Holding → (List Value → Option A) → (List Value → Option B) → Type 0
+  WaitAlike f g n h k next next' =
+      (p q : Past) (h' k' : Holding) → r.later (n + 1) h k h' k' → r.alike p h' q k' → (vs ws : List Value) → AllSame vs ws → ReadyIf f g n p q (next vs) 0 h' (next' ws) 0 k'
 
   -- the source's activation does nothing with the result but return it, and has no blocks: the target has none in its place
   abbrev pub PassesOn : G → Option B → List Value → Type 0
@@ -93,12 +93,12 @@ module _ {F A G B : Type 0} (r : Relation F A G B) where
   abbrev pub LastAlike : ℕ → Past → Past → Holding → Holding → F → G → Last A → Holding → Option (Last B) → Holding → Type 0
   LastAlike n p q h k f g (Goes x) h' o k' = ⊥
   LastAlike n p q h k f g (Takes lock x) h' o k' =
-      (y : B) × (o ≡ Some (Takes lock y)) × Stands n p q h k h' k' × ((share : Share) → Ready n p q x 0 (with_share h' share) y 0 (with_share k' share))
+      (y : B) × (o ≡ Some (Takes lock y)) × Stands n p q h k h' k' × ((share : Share) → Ready f g n p q x 0 (with_share h' share) y 0 (with_share k' share))
   LastAlike n p q h k f g (Gives lock x) h' o k' =
-      (y : B) × (o ≡ Some (Gives lock y)) × Stands n p q h k h' k' × ((share : Share) → Ready n p q x 0 (with_share h' share) y 0 (with_share k' share))
-  LastAlike n p q h k f g (Puts word x) h' o k' = (y : B) × (o ≡ Some (Puts word y)) × Stands n p q h k h' k' × Ready n p q x 0 h' y 0 k'
+      (y : B) × (o ≡ Some (Gives lock y)) × Stands n p q h k h' k' × ((share : Share) → Ready f g n p q x 0 (with_share h' share) y 0 (with_share k' share))
+  LastAlike n p q h k f g (Puts word x) h' o k' = (y : B) × (o ≡ Some (Puts word y)) × Stands n p q h k h' k' × Ready f g n p q x 0 h' y 0 k'
   LastAlike n p q h k f g (Calls function vs next) h' o k' =
-      (ws : List Value) × (next' : List Value → Option B) × (o ≡ Some (Calls function ws next')) × AllSame vs ws × Stands n p q h k h' k' × WaitAlike n h' k' next next'
+      (ws : List Value) × (next' : List Value → Option B) × (o ≡ Some (Calls function ws next')) × AllSame vs ws × Stands n p q h k h' k' × WaitAlike f g n h' k' next next'
   LastAlike n p q h k f g (Tails function vs) h' o k' = TailAlike n p q h k f g function vs h' k' o
   LastAlike n p q h k f g (Returns vs) h' o k' = (ws : List Value) × (o ≡ Some (Returns ws)) × AllSame vs ws × Stands n p q h k h' k'
 
@@ -116,7 +116,7 @@ module _ {F A G B : Type 0} (r : Relation F A G B) where
   -- what the source does where the target's step does this at last
   abbrev pub Does : ℕ → Past → Past → Holding → Holding → F → G → Option (Last A) → Holding → Block → B → Block → Type 0
   Does n p q h k f g None h' b y c = FailsSoon y k
-  Does n p q h k f g (Some (Goes x)) h' b y c = Going n p q h k x h' (t_on b x 0 h') y k c
+  Does n p q h k f g (Some (Goes x)) h' b y c = Going f g n p q h k x h' (t_on b x 0 h') y k c
   Does n p q h k f g (Some (Takes lock x)) h' b y c = Meets n p q h k f g (Takes lock x) h' y k
   Does n p q h k f g (Some (Gives lock x)) h' b y c = Meets n p q h k f g (Gives lock x) h' y k
   Does n p q h k f g (Some (Puts word x)) h' b y c = Meets n p q h k f g (Puts word x) h' y k
@@ -131,9 +131,9 @@ module _ {F A G B : Type 0} (r : Relation F A G B) where
 
   -- of the activations: one case for each step of the target
   pub record Passes : Type 0 where
-    pub enters : (f : F) (g : G) → r.made f g → (p q : Past) (h k : Holding) → r.alike p h q k → (vs ws : List Value) → AllSame vs ws → ReadyIf p.begun (one_begun r.target p) (one_begun r.source q) (r.target.enter f p.begun vs) (first_price r.target.tariff r.target.blocks f) (with_own r.target f p.begun h) (r.source.enter g q.begun ws) (first_price r.source.tariff r.source.blocks g) (with_own r.source g q.begun k)
-    pub fine : (n : ℕ) (p q : Past) (x : A) (h : Holding) (b : Block) (y : B) (k : Holding) (c : Block) → r.match n x h b y k c → r.alike p h q k → FailsSoon y k ⊎ FineAt x h b y k c
-    pub does : (n : ℕ) (f : F) (g : G) → r.made f g → (p q : Past) (x : A) (h : Holding) (b : Block) (y : B) (k : Holding) (c : Block) → r.match n x h b y k c → r.alike p h q k → Does n p q h k f g (t_step x h).last (t_step x h).holding b y c
+    pub enters : (f : F) (g : G) → r.made f g → (p q : Past) (h k : Holding) → r.alike p h q k → (vs ws : List Value) → AllSame vs ws → ReadyIf f g p.begun (one_begun r.target p) (one_begun r.source q) (r.target.enter f p.begun vs) (first_price r.target.tariff r.target.blocks f) (with_own r.target f p.begun h) (r.source.enter g q.begun ws) (first_price r.source.tariff r.source.blocks g) (with_own r.source g q.begun k)
+    pub fine : (n : ℕ) (f : F) (g : G) → r.made f g → (p q : Past) (x : A) (h : Holding) (b : Block) (y : B) (k : Holding) (c : Block) → r.match f g n x h b y k c → r.alike p h q k → FailsSoon y k ⊎ FineAt x h b y k c
+    pub does : (n : ℕ) (f : F) (g : G) → r.made f g → (p q : Past) (x : A) (h : Holding) (b : Block) (y : B) (k : Holding) (c : Block) → r.match f g n x h b y k c → r.alike p h q k → Does n p q h k f g (t_step x h).last (t_step x h).holding b y c
 
   -- what the outside left is the same value, or none where the source has none
   abbrev pub SameIf : Option (List Value) → Option (List Value) → Type 0
@@ -194,7 +194,7 @@ abbrev pub MadeAmong : {F G : Type 0} → (F → G → Type 0) → List F → Li
 MadeAmong made ts ss f g = made f g × IsMember f ts × IsMember g ss
 
 -- the relation that a pass names for each setting and all functions that run together
-abbrev pub relation : {F A G B : Type 0} → Activations F A → Activations G B → (F → G → Type 0) → (List G → Layout → Layout) → (Setting → List F → List G → Value → Value → Type 0) → (Setting → List F → List G → Past → Holding → Past → Holding → Type 0) → (Setting → List F → List G → ℕ → Holding → Holding → Holding → Holding → Type 0) → (Setting → List F → List G → ℕ → A → Holding → Block → B → Holding → Block → Type 0) → List F → List G → Setting → Relation F A G B
+abbrev pub relation : {F A G B : Type 0} → Activations F A → Activations G B → (F → G → Type 0) → (List G → Layout → Layout) → (Setting → List F → List G → Value → Value → Type 0) → (Setting → List F → List G → Past → Holding → Past → Holding → Type 0) → (Setting → List F → List G → ℕ → Holding → Holding → Holding → Holding → Type 0) → (Setting → List F → List G → F → G → ℕ → A → Holding → Block → B → Holding → Block → Type 0) → List F → List G → Setting → Relation F A G B
 relation target source made naming same alike later match ts ss setting = record {
   target = target;
   source = source;

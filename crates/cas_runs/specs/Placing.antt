@@ -88,7 +88,7 @@ pub record IsPlacing {F A G B : Type 0} (target : Activations F A) (source : Act
   pub parts : (function : NameBytes) (block : ℕ) (s : Spot) → place function block ≡ Some s → (at in_part : ℕ) (p : Part) → part_by (layout function block) at in_part ≡ Some p → (part_by (placed function s.block) (s.offset + at) in_part ≡ Some (moved_part s.offset p)) × (1 ≤ p.size) × (p.from + p.size ≤ sizes function block)
 
 -- the relation of such a pass, by where activations match
-abbrev pub moves_blocks : {F A G B : Type 0} → Activations F A → Activations G B → Setting → Layout → List F → List G → (F → G → Type 0) → Placing → (NameBytes → ℕ → ℕ) → (ℕ → A → Holding → Block → B → Holding → Block → Type 0) → Relation F A G B
+abbrev pub moves_blocks : {F A G B : Type 0} → Activations F A → Activations G B → Setting → Layout → List F → List G → (F → G → Type 0) → Placing → (NameBytes → ℕ → ℕ) → (F → G → ℕ → A → Holding → Block → B → Holding → Block → Type 0) → Relation F A G B
 moves_blocks target source setting placed ts ss made place sizes match = record {
   target = target;
   source = source;

@@ -11,29 +11,29 @@ use Rattle.cas_runs.specs.Calls.{Last, Goes, Takes, Gives, Puts, Calls, Tails, R
 use Rattle.cas_runs.specs.Passing.{Relation, AllSame}
 
 -- activations match where they stand at the same place, and the blocks so far are within
-abbrev pub match_at : {A B : Type 0} → (A → B → Type 0) → ℕ → A → Holding → Block → B → Holding → Block → Type 0
-match_at At n x h b y k c = At x y × Within b c
+abbrev pub match_at : {F A G B : Type 0} → (F → G → A → B → Type 0) → F → G → ℕ → A → Holding → Block → B → Holding → Block → Type 0
+match_at At f g n x h b y k c = At f g x y × Within b c
 
-module _ {F A G B : Type 0} (r : Relation F A G B) (At : A → B → Type 0) where
-  abbrev pub AtIf : Option A → Option B → Type 0
-  AtIf (Some x) (Some y) = At x y
-  AtIf None (Some y) = ⊥
-  AtIf x None = Unit {0}
+module _ {F A G B : Type 0} (r : Relation F A G B) (At : F → G → A → B → Type 0) where
+  abbrev pub AtIf : F → G → Option A → Option B → Type 0
+  AtIf f g (Some x) (Some y) = At f g x y
+  AtIf f g None (Some y) = ⊥
+  AtIf f g x None = Unit {0}
 
   -- both do the same at last, and go on at the same place
-  pub data LastAt : Last A → Last B → Type 0 where
-    goes_at : {x : A} {y : B} → At x y → LastAt (Goes x) (Goes y)
-    takes_at : {lock : NameBytes} {x : A} {y : B} → At x y → LastAt (Takes lock x) (Takes lock y)
-    gives_at : {lock : NameBytes} {x : A} {y : B} → At x y → LastAt (Gives lock x) (Gives lock y)
-    puts_at : {word : ℕ} {x : A} {y : B} → At x y → LastAt (Puts word x) (Puts word y)
-    calls_at : {function : NameBytes} {vs ws : List Value} {next : List Value → Option A} {next' : List Value → Option B} → AllSame r vs ws → ((us xs : List Value) → AllSame r us xs → AtIf (next us) (next' xs)) → LastAt (Calls function vs next) (Calls function ws next')
-    tails_at : {function : NameBytes} {vs ws : List Value} → AllSame r vs ws → LastAt (Tails function vs) (Tails function ws)
-    returns_at : {vs ws : List Value} → AllSame r vs ws → LastAt (Returns vs) (Returns ws)
+  pub data LastAt (f : F) (g : G) : Last A → Last B → Type 0 where
+    goes_at : {x : A} {y : B} → At f g x y → LastAt f g (Goes x) (Goes y)
+    takes_at : {lock : NameBytes} {x : A} {y : B} → At f g x y → LastAt f g (Takes lock x) (Takes lock y)
+    gives_at : {lock : NameBytes} {x : A} {y : B} → At f g x y → LastAt f g (Gives lock x) (Gives lock y)
+    puts_at : {word : ℕ} {x : A} {y : B} → At f g x y → LastAt f g (Puts word x) (Puts word y)
+    calls_at : {function : NameBytes} {vs ws : List Value} {next : List Value → Option A} {next' : List Value → Option B} → AllSame r vs ws → ((us xs : List Value) → AllSame r us xs → AtIf f g (next us) (next' xs)) → LastAt f g (Calls function vs next) (Calls function ws next')
+    tails_at : {function : NameBytes} {vs ws : List Value} → AllSame r vs ws → LastAt f g (Tails function vs) (Tails function ws)
+    returns_at : {vs ws : List Value} → AllSame r vs ws → LastAt f g (Returns vs) (Returns ws)
 
   pub record Stepwise (same_size : ℕ → ℕ → Type 0) : Type 0 where
-    pub forms : (x : A) (y : B) → At x y → FormAlike r.same same_size LastAt (r.target.form x) (r.source.form y)
-    pub costs : (x : A) (y : B) → At x y → step_price r.target.tariff r.targets x ≤ step_price r.source.tariff r.sources y
-    pub enters : (f : F) (g : G) → r.made f g → (n : ℕ) (vs ws : List Value) → AllSame r vs ws → AtIf (r.target.enter f n vs) (r.source.enter g n ws)
+    pub forms : (f : F) (g : G) → r.made f g → (x : A) (y : B) → At f g x y → FormAlike r.same same_size (LastAt f g) (r.target.form x) (r.source.form y)
+    pub costs : (f : F) (g : G) → r.made f g → (x : A) (y : B) → At f g x y → step_price r.target.tariff r.targets x ≤ step_price r.source.tariff r.sources y
+    pub enters : (f : F) (g : G) → r.made f g → (n : ℕ) (vs ws : List Value) → AllSame r vs ws → AtIf f g (r.target.enter f n vs) (r.source.enter g n ws)
     pub entries : (f : F) (g : G) → r.made f g → first_price r.target.tariff r.target.blocks f ≤ first_price r.source.tariff r.source.blocks g
 
 -- what threads hold is alike where shares are equal and memories are alike, and nothing is asked of what activations have for themselves

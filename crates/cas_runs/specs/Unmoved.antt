@@ -12,7 +12,7 @@ pub record Equal (p : Past) (h : Holding) (q : Past) (k : Holding) : Type 0 wher
   pub holding : h ≡ k
 
 -- the relation of such a pass, by where activations match
-abbrev pub keeps_values : {F A G B : Type 0} → Activations F A → Activations G B → Setting → List F → List G → (F → G → Type 0) → (ℕ → A → Holding → Block → B → Holding → Block → Type 0) → Relation F A G B
+abbrev pub keeps_values : {F A G B : Type 0} → Activations F A → Activations G B → Setting → List F → List G → (F → G → Type 0) → (F → G → ℕ → A → Holding → Block → B → Holding → Block → Type 0) → Relation F A G B
 keeps_values target source setting ts ss made match = record {
   target = target;
   source = source;

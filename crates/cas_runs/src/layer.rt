@@ -40,7 +40,7 @@ pub trait FunctionPass {
 
     ghost later: { Setting → List Self.Target → List Self.Source → ℕ → Holding → Holding → Holding → Holding → Type 0 };
 
-    ghost matches: { Setting → List Self.Target → List Self.Source → ℕ → target_activation → Holding → Block → source_activation → Holding → Block → Type 0 };
+    ghost matches: { Setting → List Self.Target → List Self.Source → Self.Target → Self.Source → ℕ → target_activation → Holding → Block → source_activation → Holding → Block → Type 0 };
 
     /// What the pass makes of the function.
     fn translate(&self, alloc: Global, from: &Self::Source) -> Result<Self::Target, NoMemory>

@@ -188,14 +188,14 @@ joins_place setting ts ss l = record {
 -- The steps.
 
 abbrev Rel : Setting → List Joined → List Apart → Relation Joined Stage Apart Stage
-Rel setting ts ss = relation joined apart IsJoined (λ us layout. joins layout) (λ setting ts ss. SameMoved (places ss)) (λ setting ts ss. AlikeMoved (places ss) one_word) (λ setting ts ss n h k u v. Unit {0}) (λ setting ts ss. match_at (SameStage ss)) ts ss setting
+Rel setting ts ss = relation joined apart IsJoined (λ us layout. joins layout) (λ setting ts ss. SameMoved (places ss)) (λ setting ts ss. AlikeMoved (places ss) one_word) (λ setting ts ss n h k u v. Unit {0}) (λ setting ts ss. match_at (λ f g. SameStage ss)) ts ss setting
 
-module _ (setting : Setting) (ts : List Joined) (ss : List Apart) where
+module _ (setting : Setting) (ts : List Joined) (ss : List Apart) (f : Joined) (g : Apart) where
   abbrev R : Relation Joined Stage Apart Stage
   R = Rel setting ts ss
 
   abbrev Forms : Accesses (Last Stage) → Accesses (Last Stage) → Type 0
-  Forms x y = FormAlike (SameMoved (places ss)) (λ n m. Unit {0}) (LastAt R (SameStage ss)) x y
+  Forms x y = FormAlike (SameMoved (places ss)) (λ n m. Unit {0}) (LastAt R (λ f g. SameStage ss) f g) x y
 
   puts_alike : SameStage ss Ends Ends → (v w : Value) → SameMoved (places ss) v w → Forms (puts v) (puts w)
   puts_alike at v (Pointer home place) s = never
@@ -214,7 +214,7 @@ module _ (setting : Setting) (ts : List Joined) (ss : List Apart) where
           by (Some to) g = cc g
   loading_alike at (Pointer home' place') (Pointer home place) s = loads s (puts_alike at)
 
-  came_back_at : (us xs : List Value) → AllSame R us xs → ((v w : Value) → SameMoved (places ss) v w → SameStage ss (Loading v) (Loading w)) → AtIf R (SameStage ss) (came_back us) (came_back xs)
+  came_back_at : (us xs : List Value) → AllSame R us xs → ((v w : Value) → SameMoved (places ss) v w → SameStage ss (Loading v) (Loading w)) → AtIf R (λ f g. SameStage ss) f g (came_back us) (came_back xs)
   came_back_at [] [] s at = tt
   came_back_at [] (x ∷ xs) s at = absurd s
   came_back_at (u ∷ us) [] s at = absurd s
@@ -223,16 +223,16 @@ module _ (setting : Setting) (ts : List Joined) (ss : List Apart) where
   came_back_at (u ∷ v ∷ us) (x ∷ []) s at = absurd s.1
   came_back_at (u ∷ v ∷ us) (x ∷ y ∷ xs) s at = tt
 
-forms_alike : (setting : Setting) (ts : List Joined) (ss : List Apart) (x y : Stage) → SameStage ss x y → Forms setting ts ss (form 0 1 x) (form 1 0 y)
-forms_alike setting ts ss x y begins = stores refl refl (stores refl refl (last (goes_at locks)))
-forms_alike setting ts ss x y locks = last (takes_at holds)
-forms_alike setting ts ss x y holds = writes (last (goes_at unlocks))
-forms_alike setting ts ss x y unlocks = last (gives_at shows)
-forms_alike setting ts ss x y (shows {f = f} {fs = fs}) = last (calls_at (refl, tt) (λ us xs s. came_back_at setting ts (f ∷ fs) us xs s (λ v w e. loading e)))
-forms_alike setting ts ss x y (loading {f = f} {fs = fs} {v = v} {w = w} s) = loading_alike setting ts (f ∷ fs) ends v w s
-forms_alike setting ts ss x y ends = last (returns_at tt)
+forms_alike : (setting : Setting) (ts : List Joined) (ss : List Apart) (to : Joined) (from : Apart) (x y : Stage) → SameStage ss x y → Forms setting ts ss to from (form 0 1 x) (form 1 0 y)
+forms_alike setting ts ss to from x y begins = stores refl refl (stores refl refl (last (goes_at locks)))
+forms_alike setting ts ss to from x y locks = last (takes_at holds)
+forms_alike setting ts ss to from x y holds = writes (last (goes_at unlocks))
+forms_alike setting ts ss to from x y unlocks = last (gives_at shows)
+forms_alike setting ts ss to from x y (shows {f = f} {fs = fs}) = last (calls_at (refl, tt) (λ us xs s. came_back_at setting ts (f ∷ fs) to from us xs s (λ v w e. loading e)))
+forms_alike setting ts ss to from x y (loading {f = f} {fs = fs} {v = v} {w = w} s) = loading_alike setting ts (f ∷ fs) to from ends v w s
+forms_alike setting ts ss to from x y ends = last (returns_at tt)
 
-enters_alike : (setting : Setting) (ts : List Joined) (ss : List Apart) (f : Joined) (g : Apart) → Made ts ss f g → (n : ℕ) (vs ws : List Value) → AllSame (Rel setting ts ss) vs ws → AtIf (Rel setting ts ss) (SameStage ss) (enters f.cells.0 f.cells.1 n vs) (enters g.first g.second n ws)
+enters_alike : (setting : Setting) (ts : List Joined) (ss : List Apart) (f : Joined) (g : Apart) → Made ts ss f g → (n : ℕ) (vs ws : List Value) → AllSame (Rel setting ts ss) vs ws → AtIf (Rel setting ts ss) (λ f g. SameStage ss) f g (enters f.cells.0 f.cells.1 n vs) (enters g.first g.second n ws)
 enters_alike setting ts [] f g m n vs ws s = absurd m.2
 enters_alike setting ts (x ∷ ss) f g m n [] [] s =
     let is = m.0 in
@@ -241,10 +241,10 @@ enters_alike setting ts (x ∷ ss) f g m n [] (w ∷ ws) s = absurd s
 enters_alike setting ts (x ∷ ss) f g m n (v ∷ vs) [] s = absurd s
 enters_alike setting ts (x ∷ ss) f g m n (v ∷ vs) (w ∷ ws) s = tt
 
-steps_alike : (setting : Setting) (ts : List Joined) (ss : List Apart) → Stepwise (Rel setting ts ss) (SameStage ss) (λ n m. Unit {0})
+steps_alike : (setting : Setting) (ts : List Joined) (ss : List Apart) → Stepwise (Rel setting ts ss) (λ f g. SameStage ss) (λ n m. Unit {0})
 steps_alike setting ts ss = record {
-  forms = forms_alike setting ts ss;
-  costs = λ x y at. omega arith;
+  forms = λ f g made x y at. forms_alike setting ts ss f g x y at;
+  costs = λ f g made x y at. omega arith;
   enters = enters_alike setting ts ss;
   entries = λ f g m. omega arith;
 }
@@ -258,7 +258,7 @@ held_plainly setting ts ss = record {
 }
 
 joins_keep : (setting : Setting) (ts : List Joined) (ss : List Apart) → IsLayout (language apart) ss setting.layout → Keeps (Rel setting ts ss)
-joins_keep setting ts ss l = moved_keeps joined apart setting (joins setting.layout) ts ss (Made ts ss) (places ss) one_word (match_at (SameStage ss)) (joins_place setting ts ss l)
+joins_keep setting ts ss l = moved_keeps joined apart setting (joins setting.layout) ts ss (Made ts ss) (places ss) one_word (match_at (λ f g. SameStage ss)) (joins_place setting ts ss l)
 
 joins_pay : (setting : Setting) (ts : List Joined) (ss : List Apart) → Pays (Rel setting ts ss)
 joins_pay setting ts ss = record {
@@ -273,7 +273,7 @@ joins_passes setting ts ss h d l =
     record {
       keeps = keeps;
       pays = joins_pay setting ts ss;
-      passes = stepwise_passes (Rel setting ts ss) (SameStage ss) (λ n m. Unit {0}) (MemoryMoved (places ss) one_word) (memory_keeps joined apart setting (joins setting.layout) ts ss (Made ts ss) (places ss) one_word (match_at (SameStage ss)) (joins_place setting ts ss l)) (held_plainly setting ts ss) (steps_alike setting ts ss) keeps (λ n x h' b y k c m. m) (λ n x h' b y k c m. m);
+      passes = stepwise_passes (Rel setting ts ss) (λ f g. SameStage ss) (λ n m. Unit {0}) (MemoryMoved (places ss) one_word) (memory_keeps joined apart setting (joins setting.layout) ts ss (Made ts ss) (places ss) one_word (match_at (λ f g. SameStage ss)) (joins_place setting ts ss l)) (held_plainly setting ts ss) (steps_alike setting ts ss) keeps (λ f g n x h' b y k c m. m) (λ f g n x h' b y k c m. m);
     }
 
 pub apart_prices : IsTariff apart.tariff

@@ -22,30 +22,30 @@ SameSize n m = n ≡ m
 
 -- where activations match doesn't enter the places at which they do
 abbrev Bare : Setting → List Relaying → List Relaying → Relation Relaying Pace Relaying Pace
-Bare setting ts ss = relation slow fast IsSame (λ us layout. layout) (λ setting ts ss v w. v ≡ w) (λ setting ts ss. Equal) (λ setting ts ss n h k u v. Unit {0}) (λ setting ts ss n x h b y k c. Unit {0}) ts ss setting
+Bare setting ts ss = relation slow fast IsSame (λ us layout. layout) (λ setting ts ss v w. v ≡ w) (λ setting ts ss. Equal) (λ setting ts ss n h k u v. Unit {0}) (λ setting ts ss f g n x h b y k c. Unit {0}) ts ss setting
 
 abbrev Rel : Setting → List Relaying → List Relaying → Relation Relaying Pace Relaying Pace
-Rel setting ts ss = relation slow fast IsSame (λ us layout. layout) (λ setting ts ss v w. v ≡ w) (λ setting ts ss. Equal) (λ setting ts ss n h k u v. Unit {0}) (λ setting ts ss. Midway (Bare setting ts ss) AtStep SameSize) ts ss setting
+Rel setting ts ss = relation slow fast IsSame (λ us layout. layout) (λ setting ts ss v w. v ≡ w) (λ setting ts ss. Equal) (λ setting ts ss n h k u v. Unit {0}) (λ setting ts ss. Midway (Bare setting ts ss) (λ f g. AtStep) SameSize) ts ss setting
 
 module _ (setting : Setting) (ts : List Relaying) (ss : List Relaying) where
   abbrev R0 : Relation Relaying Pace Relaying Pace
   R0 = Bare setting ts ss
 
-  result_at : (us xs : List Value) → AllSame R0 us xs → AtIf R0 AtStep (with_result us) (with_result xs)
-  result_at us xs s = subst (λ v. AtStep (Hands us) (Hands v)) (to_equal slow fast setting ts ss (MadeAmong IsSame ts ss) (λ n x h b y k c. Unit {0}) (λ f g m. refl) (λ f g m. refl) us xs s) returns
+  result_at : (f g : Relaying) (us xs : List Value) → AllSame R0 us xs → AtIf R0 (λ f g. AtStep) f g (with_result us) (with_result xs)
+  result_at f g us xs s = subst (λ v. AtStep (Hands us) (Hands v)) (to_equal slow fast setting ts ss (MadeAmong IsSame ts ss) (λ f g n x h b y k c. Unit {0}) (λ f g m. refl) (λ f g m. refl) us xs s) returns
 
-  forms : (x y : Pace) → AtStep x y → (credit : ℕ) × (1 + credit ≤ 2) × Leads R0 AtStep SameSize credit (slow_form x) (fast_form y)
-  forms x y (begins {word = word}) = (1, omega arith, onward (Calling word) 0 (omega arith) (at_last (last (calls_at (refl, tt) result_at))))
-  forms x y (returns {values = values}) = (1, omega arith, at_last (last (returns_at (all_equal slow fast setting ts ss (MadeAmong IsSame ts ss) (λ n x h b y k c. Unit {0}) (λ f g m. refl) (λ f g m. refl) values))))
+  forms : (f g : Relaying) (x y : Pace) → AtStep x y → (credit : ℕ) × (1 + credit ≤ 2) × Leads R0 (λ f g. AtStep) SameSize f g credit (slow_form x) (fast_form y)
+  forms f g x y (begins {word = word}) = (1, omega arith, onward (Calling word) 0 (omega arith) (at_last (last (calls_at (refl, tt) (result_at f g)))))
+  forms f g x y (returns {values = values}) = (1, omega arith, at_last (last (returns_at (all_equal slow fast setting ts ss (MadeAmong IsSame ts ss) (λ f g n x h b y k c. Unit {0}) (λ f g m. refl) (λ f g m. refl) values))))
 
-  enters : (v w : ℕ) → v ≡ w → (vs ws : List Value) → AllSame R0 vs ws → AtIf R0 AtStep (enters_at v vs) (enters_at w ws)
-  enters v w e [] [] s = subst (λ u. AtStep (Begins v) (Begins u)) e begins
-  enters v w e [] (y ∷ ws) s = absurd s
-  enters v w e (x ∷ vs) [] s = absurd s
-  enters v w e (x ∷ vs) (y ∷ ws) s = tt
+  enters : (f g : Relaying) (v w : ℕ) → v ≡ w → (vs ws : List Value) → AllSame R0 vs ws → AtIf R0 (λ f g. AtStep) f g (enters_at v vs) (enters_at w ws)
+  enters f g v w e [] [] s = subst (λ u. AtStep (Begins v) (Begins u)) e begins
+  enters f g v w e [] (y ∷ ws) s = absurd s
+  enters f g v w e (x ∷ vs) [] s = absurd s
+  enters f g v w e (x ∷ vs) (y ∷ ws) s = tt
 
-  steps : Forward R0 AtStep SameSize
-  steps = record { forms = λ x y at. forms x y at; enters = λ f g m n vs ws s. enters f.word g.word m.0 vs ws s; entries = λ f g m. omega arith }
+  steps : Forward R0 (λ f g. AtStep) SameSize
+  steps = record { forms = λ f g made x y at. forms f g x y at; enters = λ f g m n vs ws s. enters f g f.word g.word m.0 vs ws s; entries = λ f g m. omega arith }
 
   plainly : HoldsPlainly R0 (λ t s. t ≡ s)
   plainly = record {
@@ -56,7 +56,7 @@ module _ (setting : Setting) (ts : List Relaying) (ss : List Relaying) where
   }
 
   keeps : Keeps (Rel setting ts ss)
-  keeps = equal_keeps slow fast setting ts ss (MadeAmong IsSame ts ss) (Midway R0 AtStep SameSize) (λ f g m. refl) (λ f g m. refl)
+  keeps = equal_keeps slow fast setting ts ss (MadeAmong IsSame ts ss) (Midway R0 (λ f g. AtStep) SameSize) (λ f g m. refl) (λ f g m. refl)
 
 each_laid_out : (ts ss : List Relaying) → AllMade IsSame ts ss → (layout : Layout) → IsLayout (language fast) ss layout → IsLayout (language slow) ts layout
 each_laid_out [] ss h layout l = tt
@@ -70,9 +70,9 @@ slow_pass : (setting : Setting) (ts ss : List Relaying) → AllMade IsSame ts ss
 slow_pass setting ts ss h d l = record {
   keeps = keeps setting ts ss;
   pays = record { prices = (λ a. (record { least = omega arith; most = omega arith }, tt), omega arith, λ f. let one : IsPrice 1 = record { least = omega arith; most = omega arith } in (one, (one, (one, tt)))); waits = omega arith };
-  passes = forward_passes (Bare setting ts ss) AtStep SameSize (λ t s. t ≡ s) memory_equal (plainly setting ts ss) (steps setting ts ss) (keeps setting ts ss);
+  passes = forward_passes (Bare setting ts ss) (λ f g. AtStep) SameSize (λ t s. t ≡ s) memory_equal (plainly setting ts ss) (steps setting ts ss) (keeps setting ts ss);
 }
 
 -- units of the same programs
 pub units_slow : (s t : UnitOf Relaying) → t.decls ≡ s.decls → t.globals ≡ s.globals → AllMade IsSame t.funs s.funs → AreDistinct (language fast) s.funs → UnitRefines (language slow) (language fast) t s
-units_slow s t d g h distinct = units_pass slow fast IsSame (λ us layout. layout) (λ setting ts ss v w. v ≡ w) (λ setting ts ss. Equal) (λ setting ts ss n h k u v. Unit {0}) (λ setting ts ss. Midway (Bare setting ts ss) AtStep SameSize) (λ f g m. refl) slow_laid_out slow_pass t s d g h distinct
+units_slow s t d g h distinct = units_pass slow fast IsSame (λ us layout. layout) (λ setting ts ss v w. v ≡ w) (λ setting ts ss. Equal) (λ setting ts ss n h k u v. Unit {0}) (λ setting ts ss. Midway (Bare setting ts ss) (λ f g. AtStep) SameSize) (λ f g m. refl) slow_laid_out slow_pass t s d g h distinct

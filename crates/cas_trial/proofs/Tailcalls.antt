@@ -17,7 +17,7 @@ use Rattle.cas_trial.specs.Stages.{show_name}
 use Rattle.cas_trial.specs.Relays.{Relay, Begins, enters, hands, calling, tailing, IsTailing, AtCall, at_call}
 
 abbrev Rel : Setting → List Relayed → List Relaying → Relation Relayed Relay Relaying Relay
-Rel setting ts ss = relation tailing calling IsTailing (λ us layout. layout) (λ setting ts ss v w. v ≡ w) (λ setting ts ss. Equal) (λ setting ts ss n h k u v. Unit {0}) (λ setting ts ss. AtCall) ts ss setting
+Rel setting ts ss = relation tailing calling IsTailing (λ us layout. layout) (λ setting ts ss v w. v ≡ w) (λ setting ts ss. Equal) (λ setting ts ss n h k u v. Unit {0}) (λ setting ts ss f g. AtCall) ts ss setting
 
 each_laid_out : (ts : List Relayed) (ss : List Relaying) → AllMade IsTailing ts ss → (layout : Layout) → IsLayout (language calling) ss layout → IsLayout (language tailing) ts layout
 each_laid_out [] ss h layout l = tt
@@ -32,17 +32,17 @@ module _ (setting : Setting) (ts : List Relayed) (ss : List Relaying) where
   R = Rel setting ts ss
 
   keeps : Keeps R
-  keeps = equal_keeps tailing calling setting ts ss (MadeAmong IsTailing ts ss) AtCall (λ f g m. refl) (λ f g m. refl)
+  keeps = equal_keeps tailing calling setting ts ss (MadeAmong IsTailing ts ss) (λ f g. AtCall) (λ f g m. refl) (λ f g m. refl)
 
-  enters_ready : (n : ℕ) (p q : Past) (h k : Holding) → R.alike p h q k → (v w : ℕ) → v ≡ w → (vs ws : List Value) → AllSame R vs ws → ReadyIf R n p q (enters v vs) 8 h (enters w ws) 8 k
-  enters_ready n p q h k a v w e [] [] s =
-      subst (λ u. ReadyIf R n p q (Some (Begins v)) 8 h (Some (Begins u)) 8 k) e (λ b c within. matched (at_call (within_step b c 10 10 _ _ within (omega arith) (foot_same nothing_touched))) (record { alike = a; later = tt }))
-  enters_ready n p q h k a v w e [] (x ∷ ws) s = absurd s
-  enters_ready n p q h k a v w e (x ∷ vs) [] s = absurd s
-  enters_ready n p q h k a v w e (x ∷ vs) (y ∷ ws) s = tt
+  enters_ready : (f : Relayed) (g : Relaying) (n : ℕ) (p q : Past) (h k : Holding) → R.alike p h q k → (v w : ℕ) → v ≡ w → (vs ws : List Value) → AllSame R vs ws → ReadyIf R f g n p q (enters v vs) 8 h (enters w ws) 8 k
+  enters_ready f g n p q h k a v w e [] [] s =
+      subst (λ u. ReadyIf R f g n p q (Some (Begins v)) 8 h (Some (Begins u)) 8 k) e (λ b c within. matched (at_call (within_step b c 10 10 _ _ within (omega arith) (foot_same nothing_touched))) (record { alike = a; later = tt }))
+  enters_ready f g n p q h k a v w e [] (x ∷ ws) s = absurd s
+  enters_ready f g n p q h k a v w e (x ∷ vs) [] s = absurd s
+  enters_ready f g n p q h k a v w e (x ∷ vs) (y ∷ ws) s = tt
 
-  fine_at : (n : ℕ) (p q : Past) (x : Relay) (h : Holding) (b : Block) (y : Relay) (k : Holding) (c : Block) → AtCall n x h b y k c → R.alike p h q k → FailsSoon R y k ⊎ FineAt R x h b y k c
-  fine_at n p q x h b y k c (at_call w) a = inr (record { within = w; opened = sub_same (show_name ∷ []) })
+  fine_at : (n : ℕ) (f : Relayed) (g : Relaying) → R.made f g → (p q : Past) (x : Relay) (h : Holding) (b : Block) (y : Relay) (k : Holding) (c : Block) → AtCall n x h b y k c → R.alike p h q k → FailsSoon R y k ⊎ FineAt R x h b y k c
+  fine_at n f g made p q x h b y k c (at_call w) a = inr (record { within = w; opened = sub_same (show_name ∷ []) })
 
   does_at : (n : ℕ) (f : Relayed) (g : Relaying) → R.made f g → (p q : Past) (x : Relay) (h : Holding) (b : Block) (y : Relay) (k : Holding) (c : Block) → AtCall n x h b y k c → R.alike p h q k → Does R n p q h k f g (t_step R x h).last (t_step R x h).holding b y c
   does_at n f g m p q x h b y k c (at_call {word = word} w) a = meets (passing _ hands (refl, tt) (record { alike = a; later = tt }) (refl, λ ws. (refl, omega arith)))
@@ -51,7 +51,7 @@ module _ (setting : Setting) (ts : List Relayed) (ss : List Relaying) where
   passes = record {
     enters = λ f g m p q h k a vs ws s.
         let begun = keeps.begins f g m p q h k a in
-        enters_ready p.begun (one_begun tailing p) (one_begun calling q) (with_own tailing f p.begun h) (with_own calling g q.begun k) begun.alike f.word g.word m.0 vs ws s;
+        enters_ready f g p.begun (one_begun tailing p) (one_begun calling q) (with_own tailing f p.begun h) (with_own calling g q.begun k) begun.alike f.word g.word m.0 vs ws s;
     fine = fine_at;
     does = does_at;
   }

@@ -58,7 +58,7 @@ impl FunctionPass for Joining {
 
     ghost later = { λ setting ts ss n h k u v. Unit {0} };
 
-    ghost matches = { λ setting ts ss. match_at (SameStage ss) };
+    ghost matches = { λ setting ts ss. match_at (λ f g. SameStage ss) };
 
     fn translate(&self, _alloc: Global, from: &Apart) -> Result<Joined, NoMemory> {
         Ok(Joined {

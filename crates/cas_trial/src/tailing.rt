@@ -51,7 +51,7 @@ impl FunctionPass for TailCalls {
 
     ghost later = { λ setting ts ss n h k u v. Unit {0} };
 
-    ghost matches = { λ setting ts ss. AtCall };
+    ghost matches = { λ setting ts ss f g. AtCall };
 
     fn translate(&self, _alloc: Global, from: &Relaying) -> Result<Relayed, NoMemory> {
         Ok(Relayed { word: from.word })
