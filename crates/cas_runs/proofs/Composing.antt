@@ -1,10 +1,10 @@
 -- Refinements compose; a machine refines itself; and where the target names alone, each of its runs is kept, or the source is Bad before.
-use Rattle.std.proofs.Common.{◌≡◌, List, [], ◌∷◌, ◌++◌, ◌⊎◌, Option, Some, inl, inr, refl, sym, ap, ◌∙◌, subst, ⊎_elim, arith, append_assoc}
+use Rattle.std.proofs.Common.{◌≡◌, ℕ, List, [], ◌∷◌, ◌++◌, ◌⊎◌, Option, Some, inl, inr, refl, sym, ap, ◌∙◌, subst, ⊎_elim, arith, append_assoc}
 use Rattle.cas_runs.specs.Label.{NameBytes, RunLabel, Lock, Unlock, Out, Done, Enter, Back, Call, Leave}
 use Rattle.cas_runs.specs.Edge.{Edge}
 use Rattle.cas_runs.specs.Outside.{MayBring}
 use Rattle.cas_runs.specs.Machine.{Act, Quiet, Says, Crosses, Locks, Hears, Bad, Stops, Halt, Ended, Taken, Full, Saying, Unlocks, Prints, Ends, Machine, label_of, CanCross, Leads, Block, begun, Run, starts, quiet, labelled}
-use Rattle.cas_runs.specs.Refines.{HaltsToo, Subsequence, done, keep, skip, Within, EachWithin, none, more, HasRun, BadBefore, Kept, CrossesAs, IsCrossing, Refines, NamesAlone, EachKept}
+use Rattle.cas_runs.specs.Refines.{AtLock, AtHearing, HaltsToo, Subsequence, done, keep, skip, Within, EachWithin, none, more, HasRun, BadBefore, Kept, CrossesAs, IsCrossing, Refines, NamesAlone, EachKept}
 use Rattle.cas_runs.proofs.Refining.{IsQuiet, leads_not_quiet, one_state, bad_longer, Before, before_label, has_before, has_shorter, crossing_or_not, bad_or_fine}
 use Rattle.cas_runs.specs.Rules.{Proceeds}
 
@@ -43,12 +43,12 @@ crosses_by edge ls (Hears n) l y h c = absurd c
 crosses_by edge ls Bad l y h c = absurd c
 crosses_by edge ls (Stops w) l y h c = absurd c
 
-said_stays : (k : Saying) → CanCross (label_of k) → ⊥
+pub said_stays : (k : Saying) → CanCross (label_of k) → ⊥
 said_stays (Unlocks l ws) c = c
 said_stays (Prints w) c = c
 said_stays Ends c = c
 
-brought_stays : (edge : Edge) (ls : List RunLabel) (l : RunLabel) → MayBring edge ls l → CanCross l → ⊥
+pub brought_stays : (edge : Edge) (ls : List RunLabel) (l : RunLabel) → MayBring edge ls l → CanCross l → ⊥
 brought_stays edge ls (Enter f x) h c = c
 brought_stays edge ls (Back x) h c = c
 brought_stays edge ls (Lock k ws) h c = c
@@ -126,11 +126,19 @@ module _ {T S R : Type 0} (edge : Edge) (t : Machine T) (s : Machine S) (r : Mac
   halts_both ls has (Taken lock) m = k.halts ls m.blocks m.block m.at m.run has (Taken lock) m.stops
   halts_both ls has Full m = inr tt
 
+  locks_both : (ls : List RunLabel) → HasRun edge r ls → (lock : ℕ) → AtLock edge s ls lock → BadBefore edge r ls ⊎ AtLock edge r ls lock
+  locks_both ls has lock m = k.locks ls m.blocks m.block m.at m.run has lock m.next m.waits
+
+  hears_both : (ls : List RunLabel) → HasRun edge r ls → AtHearing edge s ls → BadBefore edge r ls ⊎ AtHearing edge r ls
+  hears_both ls has m = k.hears ls m.blocks m.block m.at m.run has m.next m.waits
+
   pub refines_both : Refines edge t r
   refines_both = record {
     kept = λ ls bs b x run has. ⊎_elim inl (λ m. ⊎_elim inl (kept_both ls bs b x has) (either ls has (h.kept ls bs b x run m))) (middle run has);
     follows = λ ls bs b x run has n l x' e. ⊎_elim inl (λ m. ⊎_elim inl (λ o. follows_both ls has l (not_crossing edge ls (t.act x) l x' e n) o) (either ls has (h.follows ls bs b x run m n l x' e))) (middle run has);
     crosses = λ ls bs b x run has next e. ⊎_elim inl (λ m. ⊎_elim inl (named_both ls next has) (either ls has (h.crosses ls bs b x run m next e))) (middle run has);
+    locks = λ ls bs b x run has lock next e. ⊎_elim inl (λ m. ⊎_elim inl (locks_both ls has lock) (either ls has (h.locks ls bs b x run m lock next e))) (middle run has);
+    hears = λ ls bs b x run has next e. ⊎_elim inl (λ m. ⊎_elim inl (hears_both ls has) (either ls has (h.hears ls bs b x run m next e))) (middle run has);
     halts = λ ls bs b x run has why e. ⊎_elim inl (λ m. ⊎_elim inl (halts_both ls has why) (either ls has (h.halts ls bs b x run m why e))) (middle run has);
   }
 
@@ -192,5 +200,7 @@ module _ {S : Type 0} (edge : Edge) (m : Machine S) (rules : Proceeds m) where
     crosses = λ ls bs b x run has next e.
         let some = rules.named x next e in
         inr (record { blocks = bs; block = b; at = x; run = run; s_next = next; crosses = e; some_label = some.0; some_next = some.1; can_cross = some.2; has_label = some.3; each = λ l y v h. (y, h) });
+    locks = λ ls bs b x run has lock next e. inr (record { blocks = bs; block = b; at = x; run = run; next = next; waits = e });
+    hears = λ ls bs b x run has next e. inr (record { blocks = bs; block = b; at = x; run = run; next = next; waits = e });
     halts = λ ls bs b x run has why e. inr (halts_itself ls bs b x run why e);
   }

@@ -5,8 +5,9 @@ use Rattle.cas_base.specs.declared.kind.Kind.TheVariants.{U32}
 use Rattle.cas_runs.specs.Label.{RunLabel, Lock, Unlock, Out, Done}
 use Rattle.cas_runs.specs.Edge.{LockWord, AreGuarded, AreUnder, IsOfKind}
 use Rattle.cas_runs.specs.Outside.{IsAmong, first, later}
-use Rattle.cas_runs.specs.Machine.{Quiet, Says, Crosses, Locks, Stops, Halt, Ended, Taken, Saying, Unlocks, Prints, Ends, label_of, Leads, Block, Run, starts, quiet, labelled}
-use Rattle.cas_runs.specs.Rules.{and_lock, without_lock, locks_after, IsShared, MaySay, HasEnded, MayHalt, KeepsRules, AreInKind, KeepsKinds}
+use Rattle.cas_runs.specs.Machine.{Act, Quiet, Says, Crosses, Locks, Hears, Bad, Stops, CanCross, Halt, Ended, Taken, Saying, Unlocks, Prints, Ends, label_of, Leads, Block, Run, starts, quiet, labelled}
+use Rattle.cas_runs.specs.Rules.{and_lock, without_lock, locks_after, IsShared, MaySay, HasEnded, MayHalt, HasCrossed, IsHearing, KeepsRules, AreInKind, KeepsKinds}
+use Rattle.cas_runs.proofs.Composing.{said_stays}
 use Rattle.cas_runs.specs.Sections.{Instruction, Take, Give, Load, Store, Print, Spin, Standing, At, Over, one_lock, first_of_words, act_of, act_at, footprint_at, sections, StoresWords}
 
 -- what holds where the program stands, after these labels
@@ -216,6 +217,35 @@ module _ (price : ℕ) (program : List Instruction) (words : StoresWords program
   not_crossing (At rest register held) next e = crossing_none rest register held next e
   not_crossing Over next e = cc e
 
+  not_hearing : (x : Standing) → IsHearing (act_at x) → ⊥
+  not_hearing (At [] register held) h = h
+  not_hearing (At (Take ∷ rest) register None) h = h
+  not_hearing (At (Take ∷ rest) register (Some w)) h = h
+  not_hearing (At (Give ∷ rest) register None) h = h
+  not_hearing (At (Give ∷ rest) register (Some w)) h = h
+  not_hearing (At (Load ∷ rest) register None) h = h
+  not_hearing (At (Load ∷ rest) register (Some w)) h = h
+  not_hearing (At (Store u ∷ rest) register None) h = h
+  not_hearing (At (Store u ∷ rest) register (Some w)) h = h
+  not_hearing (At (Print ∷ rest) register held) h = h
+  not_hearing (At (Spin ∷ rest) register held) h = h
+  not_hearing Over h = h
+
+  -- the label of an act that is no Call and no Leave
+  stays_inside : (ls : List RunLabel) (a : Act Standing) (l : RunLabel) (y : Standing) → ((next : RunLabel → Option Standing) → a ≡ Crosses next → ⊥) → (IsHearing a → ⊥) → Leads one_lock ls a l y → CanCross l → ⊥
+  stays_inside ls (Says saying z) l y n m e c = said_stays saying (subst CanCross (sym e.0) c)
+  stays_inside ls (Locks lock next) l y n m e c = let no : ⊥ = subst CanCross e.1 c in no
+  stays_inside ls (Crosses next) l y n m e c = n next refl
+  stays_inside ls (Hears next) l y n m e c = m tt
+  stays_inside ls (Quiet z) l y n m e c = e
+  stays_inside ls Bad l y n m e c = e
+  stays_inside ls (Stops why) l y n m e c = e
+
+  never_crossed : {ls : List RunLabel} {bs : List Block} {b : Block} {x : Standing} → Run one_lock (sections price program) ls bs b x → HasCrossed ls → ⊥
+  never_crossed starts c = c
+  never_crossed (quiet y r e) c = never_crossed r c
+  never_crossed (labelled {ls = ls} {x = x} l y r e) c = stays_inside ls (act_at x) l y (not_crossing x) (not_hearing x) e c
+
 pub sections_keep : (price : ℕ) (program : List Instruction) → 1 ≤ price → StoresWords program → KeepsRules one_lock (sections price program)
 sections_keep price program p words = record {
   proceeds = record { costs = λ x. p; named = λ x next e. absurd (not_crossing price program words x next e) };
@@ -224,6 +254,8 @@ sections_keep price program p words = record {
   says = λ ls bs b x r. says_allowed ls x (holds_at price program words r);
   locks = λ ls bs b x r lock next e. (takes_lock x lock next e, locks_free ls x (holds_at price program words r) lock next e);
   crosses = λ ls bs b x r next e. absurd (not_crossing price program words x next e);
+  hears = λ ls bs b x r h. absurd (not_hearing price program words x h);
+  listens = λ ls bs b x r c. absurd (never_crossed price program words r c);
   halts = λ ls bs b x r. halts_allowed ls x (holds_at price program words r);
 }
 

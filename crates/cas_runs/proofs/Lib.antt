@@ -17,5 +17,6 @@ pub mod Shares
 pub mod Showing
 pub mod Stepping
 pub mod Tests
+pub mod Turns
 pub mod Units
 pub mod Unmoved

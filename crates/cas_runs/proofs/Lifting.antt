@@ -5,7 +5,7 @@ use Rattle.cas_runs.specs.Outside.{MayBring}
 use Rattle.cas_runs.specs.Naming.{Value, Naming, all_taken}
 use Rattle.cas_runs.specs.Machine.{Act, Quiet, Says, Crosses, Locks, Hears, Bad, Stops, Ended, Taken, Full, Prints, Machine, CanCross, Leads, IsBad, Block, nothing, begun, onward, and_step}
 use Rattle.cas_runs.specs.Refines.{Within, Subsequence, done, keep, skip, Refines}
-use Rattle.cas_runs.specs.Simulation.{halts, fails_halting, step_halting, BadSoon, now, soon, Follows, related, fails as fails_follows, step, FollowsBy, by, fails_before, step_before, crosses, fails_crossing, step_crossing, Answers, Fine, Simulates}
+use Rattle.cas_runs.specs.Simulation.{halts, fails_halting, step_halting, BadSoon, now, soon, Follows, related, fails as fails_follows, step, FollowsBy, by, fails_before, step_before, waits_too, fails_waiting, step_waiting, FollowsHearing, hears_too, fails_hearing, step_hearing, crosses, fails_crossing, step_crossing, Answers, Fine, Simulates}
 use Rattle.cas_runs.specs.Bounds.{IsTariff, Tariff, BySize, ByForms, step_price, first_price, waiting_price}
 use Rattle.cas_runs.specs.Access.{Holding, Then, words_in, with_lock, without_lock, performed}
 use Rattle.cas_runs.specs.Unit.{Setting, laid_out, guard_of}
@@ -100,8 +100,8 @@ module _ {F A G B : Type 0} (r : Relation F A G B) (is : Keeps r) (pays : Pays r
   answers_bad ls (Quiet x) b z c e = fails_follows e
   answers_bad ls (Says s x) b z c e = fails_before e
   answers_bad ls (Crosses next) b z c e = fails_crossing e
-  answers_bad ls (Locks lock next) b z c e = λ ws g. fails_before e
-  answers_bad ls (Hears next) b z c e = λ l m. fails_before e
+  answers_bad ls (Locks lock next) b z c e = fails_waiting e
+  answers_bad ls (Hears next) b z c e = fails_hearing e
   answers_bad ls Bad b z c e = now e
   answers_bad ls (Stops Ended) b z c e = fails_halting e
   answers_bad ls (Stops (Taken lock)) b z c e = fails_halting e
@@ -111,8 +111,8 @@ module _ {F A G B : Type 0} (r : Relation F A G B) (is : Keeps r) (pays : Pays r
   answers_quiet ls (Quiet x) b z z' c e h = step z' e h
   answers_quiet ls (Says s x) b z z' c e h = step_before z' e h
   answers_quiet ls (Crosses next) b z z' c e h = step_crossing z' e h
-  answers_quiet ls (Locks lock next) b z z' c e h = λ ws g. step_before z' e (h ws g)
-  answers_quiet ls (Hears next) b z z' c e h = λ l m. step_before z' e (h l m)
+  answers_quiet ls (Locks lock next) b z z' c e h = step_waiting z' e h
+  answers_quiet ls (Hears next) b z z' c e h = step_hearing z' e h
   answers_quiet ls Bad b z z' c e h = soon z' e h
   answers_quiet ls (Stops Ended) b z z' c e h = step_halting z' e h
   answers_quiet ls (Stops (Taken lock)) b z z' c e h = step_halting z' e h
@@ -164,9 +164,7 @@ module _ {F A G B : Type 0} (r : Relation F A G B) (is : Keeps r) (pays : Pays r
       shared l share = at_label l (with_share h share) (with_share k share) (is.shared n p q h k share alike).later (ready share)
 
       takes_free : (num : ℕ) (o : Option (List ℕ)) → S.act z ≡ takes_lock num o (λ ws. Runs g n' y 0 ys q (with_share k (with_lock k.share num ws))) → Ans ls (takes_lock num o (λ ws. Runs f n x 0 xs p (with_share h (with_lock k.share num ws)))) b z d
-      takes_free num None e = λ ws guarded. by (Runs g n' y 0 ys q (with_share k (with_lock k.share num ws)))
-          (subst (λ (v : Act (Thread G B)). Leads r.setting.edge ls v (Lock num ws) (Runs g n' y 0 ys q (with_share k (with_lock k.share num ws)))) (sym e) (ws, refl, guarded, refl))
-          (shared (Lock num ws) (with_lock k.share num ws))
+      takes_free num None e = waits_too (λ ws. Runs g n' y 0 ys q (with_share k (with_lock k.share num ws))) e (λ ws guarded. shared (Lock num ws) (with_lock k.share num ws))
       takes_free num (Some held) e = halts e
 
       takes_too : (o : Option ℕ) → S.act z ≡ takes o y g n' ys q k → Ans ls (takes o x f n xs p h) b z d
@@ -460,14 +458,13 @@ module _ {F A G B : Type 0} (r : Relation F A G B) (is : Keeps r) (pays : Pays r
   backs_too ls p q h k alike out xs ys fr (Some vs) (Some ws) same = back_too ls p q h k alike vs ws same out fr (omega arith)
 
   module _ (all : AllMade r.made r.targets r.sources) (all_t : AllMade r.made ins_t ins_s) where
-    hears_too : (ls : List RunLabel) (p q : Past) (h k : Holding) → r.alike p h q k → outward ≡ true → (xs : List (Frame F A)) (ys : List (Frame G B)) → Frames h k p.begun xs ys → (l : RunLabel) → MayBring r.setting.edge ls l → FollowsBy r.setting.edge T S Rel ls l (hears r.target there scene_t xs p h l) (Away ys q k)
-    hears_too ls p q h k alike out xs ys fr (Enter name crossing) m =
+    heard_too : (ls : List RunLabel) (p q : Past) (h k : Holding) → r.alike p h q k → outward ≡ true → (xs : List (Frame F A)) (ys : List (Frame G B)) → Frames h k p.begun xs ys → (l : RunLabel) → MayBring r.setting.edge ls l → Fol (l ∷ ls) (hears r.target there scene_t xs p h l) (begun T (hears r.target there scene_t xs p h l)) (hears r.source r.setting scene_s ys q k l) (begun S (hears r.source r.setting scene_s ys q k l))
+    heard_too ls p q h k alike out xs ys fr (Enter name crossing) m =
         let s = is.hears p.begun p q h k alike crossing in
         let p' = with_naming p (brought_in r p h crossing).naming in
         let q' = with_naming q (brought_in r q k crossing).naming in
         let h' = heard r p h crossing in
         let k' = heard r q k crossing in
-        by (hears r.source r.setting scene_s ys q k (Enter name crossing)) (m, refl)
         (enters_too (Enter name crossing ∷ ls) p' q' h' k' s.0.alike (Outer ∷ xs) (Outer ∷ ys) outer_based (outer out (frames_later h k h' k' fr s.0.later)) (find r.target r.targets name) (find r.source r.sources name)
         (all_taken (brought_in r p h crossing).naming crossing.values) (all_taken (brought_in r q k crossing).naming crossing.values) (find_alike name r.targets r.sources all) s.1)
       where
@@ -477,21 +474,20 @@ module _ {F A G B : Type 0} (r : Relation F A G B) (is : Keeps r) (pays : Pays r
             on : (o : Bool) → Based o (Outer ∷ xs)
             on true = tt
             on false = tt
-    hears_too ls p q h k alike out xs ys fr (Back crossing) m =
+    heard_too ls p q h k alike out xs ys fr (Back crossing) m =
         let s = is.hears p.begun p q h k alike crossing in
         let p' = with_naming p (brought_in r p h crossing).naming in
         let q' = with_naming q (brought_in r q k crossing).naming in
         let h' = heard r p h crossing in
         let k' = heard r q k crossing in
-        by (hears r.source r.setting scene_s ys q k (Back crossing)) (m, refl)
         (backs_too (Back crossing ∷ ls) p' q' h' k' s.0.alike out xs ys (frames_later h k h' k' fr s.0.later)
         (all_taken (brought_in r p h crossing).naming crossing.values) (all_taken (brought_in r q k crossing).naming crossing.values) s.1)
-    hears_too ls p q h k alike out xs ys fr (Lock lock words) m = absurd m
-    hears_too ls p q h k alike out xs ys fr (Unlock lock words) m = absurd m
-    hears_too ls p q h k alike out xs ys fr (Out word) m = absurd m
-    hears_too ls p q h k alike out xs ys fr Done m = absurd m
-    hears_too ls p q h k alike out xs ys fr (Call name crossing) m = absurd m
-    hears_too ls p q h k alike out xs ys fr (Leave crossing) m = absurd m
+    heard_too ls p q h k alike out xs ys fr (Lock lock words) m = absurd m
+    heard_too ls p q h k alike out xs ys fr (Unlock lock words) m = absurd m
+    heard_too ls p q h k alike out xs ys fr (Out word) m = absurd m
+    heard_too ls p q h k alike out xs ys fr Done m = absurd m
+    heard_too ls p q h k alike out xs ys fr (Call name crossing) m = absurd m
+    heard_too ls p q h k alike out xs ys fr (Leave crossing) m = absurd m
 
     -- The simulation.
 
@@ -509,7 +505,7 @@ module _ {F A G B : Type 0} (r : Relation F A G B) (is : Keeps r) (pays : Pays r
     fine_of ls x b z c (broken e) = inl (now e)
 
     answers_of : (ls : List RunLabel) (x : Thread F A) (b : Block) (z : Thread G B) (c : Block) → Lifted x b z c → Ans ls (T.act x) b z c
-    answers_of ls x b z c (away {xs = xs} {ys = ys} {p = p} {q = q} {h = h} {k = k} out w alike fr) = hears_too ls p q h k alike out xs ys fr
+    answers_of ls x b z c (away {xs = xs} {ys = ys} {p = p} {q = q} {h = h} {k = k} out w alike fr) = hears_too (hears r.source r.setting scene_s ys q k) refl (heard_too ls p q h k alike out xs ys fr)
     answers_of ls x b z c (runs {f = f} {g = g} {n = n} {n' = n'} {e' = e'} {x = a} {y = y} {xs = xs} {ys = ys} {p = p} {q = q} {h = h} {k = k} made less same m alike based fr) =
         ⊎_elim (λ bad. bad_answers (T.act (Runs f n a e' xs p h)) (fails_soon g n' ys q bad))
         (λ fine. at_last all_t ls b c f g n n' e' p q xs ys made less same based h k alike fr fine.within y (t_step r a h).last (t_step r a h).holding (ok.does n f g made p q a h b y k c m alike))

@@ -1,11 +1,11 @@
 -- A simulation gives refinement, and refinements compose.
 use Rattle.std.proofs.Common.{◌≡◌, ℕ, List, [], ◌∷◌, ◌++◌, ◌⊎◌, Option, Some, inl, inr, refl, sym, ap, ◌∙◌, subst, ⊎_elim, arith}
 use Rattle.cas_runs.specs.Label.{RunLabel, Lock}
-use Rattle.cas_runs.specs.Edge.{Edge}
-use Rattle.cas_runs.specs.Outside.{IsAmong, first, later}
+use Rattle.cas_runs.specs.Edge.{Edge, AreGuarded}
+use Rattle.cas_runs.specs.Outside.{IsAmong, first, later, MayBring}
 use Rattle.cas_runs.specs.Machine.{Act, Quiet, Says, Crosses, Locks, Hears, Bad, Stops, Halt, Ended, Taken, Full, Machine, label_of, CanCross, Leads, IsBad, Block, begun, onward, Run, starts, quiet, labelled}
-use Rattle.cas_runs.specs.Refines.{Halted, HaltsToo, Within, EachWithin, none, more, HasRun, BadBefore, Kept, CrossesAs, IsCrossing, Refines}
-use Rattle.cas_runs.specs.Simulation.{HaltsSoon, halts, fails_halting, step_halting, StopsToo, BadSoon, now, soon, Follows, related, fails, step, FollowsBy, by, fails_before, step_before, CrossesEach, FollowsCrossing, crosses, fails_crossing, step_crossing, Answers, Fine, Simulates}
+use Rattle.cas_runs.specs.Refines.{AtLock, AtHearing, Halted, HaltsToo, Within, EachWithin, none, more, HasRun, BadBefore, Kept, CrossesAs, IsCrossing, Refines}
+use Rattle.cas_runs.specs.Simulation.{HaltsSoon, halts, fails_halting, step_halting, StopsToo, BadSoon, now, soon, Follows, related, fails, step, FollowsBy, by, fails_before, step_before, FollowsLock, waits_too, fails_waiting, step_waiting, FollowsHearing, hears_too, fails_hearing, step_hearing, CrossesEach, FollowsCrossing, crosses, fails_crossing, step_crossing, Answers, Fine, Simulates}
 
 pub among_front : (w : ℕ) (xs ys : List ℕ) → IsAmong w xs → IsAmong w (xs ++ ys)
 among_front w xs ys first = first
@@ -193,6 +193,28 @@ module _ {T S : Type 0} (edge : Edge) (t : Machine T) (s : Machine S) (Related :
   follows_by l ls bs cs b x c y r w h (fails_before e) = inl (bad_longer edge s l ls (bad_before edge s ls cs c y r (now e)))
   follows_by l ls bs cs b x c y r w h (step_before y' e f) = follows_by l ls bs cs b x (onward s c y') y' (quiet y' r e) w (within_more s y' b c h) f
 
+  -- with the words or the label that came
+  lock_by : (ls : List RunLabel) (lock : ℕ) (next : List ℕ → T) (words : List ℕ) → AreGuarded edge lock words → {y : S} → FollowsLock edge t s Related ls lock next y → FollowsBy edge t s Related ls (Lock lock words) (next words) y
+  lock_by ls lock next words g (waits_too s_next e f) = by (s_next words) (subst (λ (v : Act S). Leads edge ls v (Lock lock words) (s_next words)) (sym e) (words, refl, g, refl)) (f words g)
+  lock_by ls lock next words g (fails_waiting e) = fails_before e
+  lock_by ls lock next words g (step_waiting y' e h) = step_before y' e (lock_by ls lock next words g h)
+
+  hear_by : (ls : List RunLabel) (next : RunLabel → T) (l : RunLabel) → MayBring edge ls l → {y : S} → FollowsHearing edge t s Related ls next y → FollowsBy edge t s Related ls l (next l) y
+  hear_by ls next l m (hears_too s_next e f) = by (s_next l) (subst (λ (v : Act S). Leads edge ls v l (s_next l)) (sym e) (m, refl)) (f l m)
+  hear_by ls next l m (fails_hearing e) = fails_before e
+  hear_by ls next l m (step_hearing y' e h) = step_before y' e (hear_by ls next l m h)
+
+  -- the source comes to wait
+  at_lock : (ls : List RunLabel) (cs : List Block) (lock : ℕ) (next : List ℕ → T) (c : Block) (y : S) → Run edge s ls cs c y → FollowsLock edge t s Related ls lock next y → BadBefore edge s ls ⊎ AtLock edge s ls lock
+  at_lock ls cs lock next c y r (waits_too s_next e f) = inr (record { blocks = cs; block = c; at = y; run = r; next = s_next; waits = e })
+  at_lock ls cs lock next c y r (fails_waiting b) = inl (bad_before edge s ls cs c y r (now b))
+  at_lock ls cs lock next c y r (step_waiting y' e h) = at_lock ls cs lock next (onward s c y') y' (quiet y' r e) h
+
+  at_hearing : (ls : List RunLabel) (cs : List Block) (next : RunLabel → T) (c : Block) (y : S) → Run edge s ls cs c y → FollowsHearing edge t s Related ls next y → BadBefore edge s ls ⊎ AtHearing edge s ls
+  at_hearing ls cs next c y r (hears_too s_next e f) = inr (record { blocks = cs; block = c; at = y; run = r; next = s_next; waits = e })
+  at_hearing ls cs next c y r (fails_hearing b) = inl (bad_before edge s ls cs c y r (now b))
+  at_hearing ls cs next c y r (step_hearing y' e h) = at_hearing ls cs next (onward s c y') y' (quiet y' r e) h
+
   -- the source has the label too
   has_by : (l : RunLabel) (ls : List RunLabel) (cs : List Block) (x : T) (c : Block) (y : S) → Run edge s ls cs c y → FollowsBy edge t s Related ls l x y → BadBefore edge s ls ⊎ HasRun edge s (l ∷ ls)
   has_by l ls cs x c y r (by y' e f) = inr (record { blocks = c ∷ cs; block = begun s y'; at = y'; run = labelled l y' r e })
@@ -230,8 +252,8 @@ module _ {T S : Type 0} (edge : Edge) (t : Machine T) (s : Machine S) (Related :
   follows_label ls (Quiet n) l x' b y c h n' e = absurd e
   follows_label ls (Says k n) l x' b y c h n' e = subst (λ v. FollowsBy edge t s Related ls v x' y) e.0 (subst (λ v. FollowsBy edge t s Related ls (label_of k) v y) e.1 h)
   follows_label ls (Crosses next) l x' b y c h n' e = absurd (n' tt)
-  follows_label ls (Locks lock next) l x' b y c h n' e = subst (λ v. FollowsBy edge t s Related ls v x' y) (sym e.1) (subst (λ v. FollowsBy edge t s Related ls (Lock lock e.0) v y) e.3 (h e.0 e.2))
-  follows_label ls (Hears next) l x' b y c h n' e = subst (λ v. FollowsBy edge t s Related ls l v y) e.1 (h l e.0)
+  follows_label ls (Locks lock next) l x' b y c h n' e = subst (λ v. FollowsBy edge t s Related ls v x' y) (sym e.1) (subst (λ v. FollowsBy edge t s Related ls (Lock lock e.0) v y) e.3 (lock_by ls lock next e.0 e.2 h))
+  follows_label ls (Hears next) l x' b y c h n' e = subst (λ v. FollowsBy edge t s Related ls l v y) e.1 (hear_by ls next l e.0 h)
   follows_label ls Bad l x' b y c h n' e = absurd e
   follows_label ls (Stops w) l x' b y c h n' e = absurd e
 
@@ -295,6 +317,16 @@ module _ {T S : Type 0} (edge : Edge) (t : Machine T) (s : Machine S) (Related :
         (naming_of ls bs k.blocks b next k.block k.at k.run k.within f.within (follows_crossing ls (t.act x) next b k.at k.block (sim.answers ls x b k.at k.block k.related) e)))
         (sim.fine ls x b k.at k.block k.related)
 
+    locks_of : (ls : List RunLabel) (bs : List Block) (b : Block) (x : T) (lock : ℕ) (next : List ℕ → T) → t.act x ≡ Locks lock next → Linked ls bs b x → BadBefore edge s ls ⊎ AtLock edge s ls lock
+    locks_of ls bs b x lock next e k =
+        let P : Act T → Type 0 = λ v. Answers edge t s Related ls v b k.at k.block in
+        at_lock ls k.blocks lock next k.block k.at k.run (subst P e (sim.answers ls x b k.at k.block k.related))
+
+    hears_of : (ls : List RunLabel) (bs : List Block) (b : Block) (x : T) (next : RunLabel → T) → t.act x ≡ Hears next → Linked ls bs b x → BadBefore edge s ls ⊎ AtHearing edge s ls
+    hears_of ls bs b x next e k =
+        let P : Act T → Type 0 = λ v. Answers edge t s Related ls v b k.at k.block in
+        at_hearing ls k.blocks next k.block k.at k.run (subst P e (sim.answers ls x b k.at k.block k.related))
+
     halts_of : (ls : List RunLabel) (bs : List Block) (b : Block) (x : T) (why : Halt) → t.act x ≡ Stops why → Linked ls bs b x → BadBefore edge s ls ⊎ HaltsToo edge s ls why
     halts_of ls bs b x why e k =
         let P : Act T → Type 0 = λ v. Answers edge t s Related ls v b k.at k.block in
@@ -305,5 +337,7 @@ module _ {T S : Type 0} (edge : Edge) (t : Machine T) (s : Machine S) (Related :
       kept = λ ls bs b x r has. ⊎_elim inl (kept_of ls bs b x) (linked r has);
       follows = λ ls bs b x r has n l x' e. ⊎_elim inl (λ k. has_by l ls k.blocks x' k.block k.at k.run (follows_label ls (t.act x) l x' b k.at k.block (sim.answers ls x b k.at k.block k.related) n e)) (linked r has);
       crosses = λ ls bs b x r has next e. ⊎_elim inl (crosses_of ls bs b x next e) (linked r has);
+      locks = λ ls bs b x r has lock next e. ⊎_elim inl (locks_of ls bs b x lock next e) (linked r has);
+      hears = λ ls bs b x r has next e. ⊎_elim inl (hears_of ls bs b x next e) (linked r has);
       halts = λ ls bs b x r has why e. ⊎_elim inl (halts_of ls bs b x why e) (linked r has);
     }

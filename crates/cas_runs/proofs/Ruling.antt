@@ -16,6 +16,7 @@ use Rattle.cas_runs.proofs.Composing.{refines_itself}
 use Rattle.cas_runs.proofs.Tests.{objects_from, share_from, same_name_self}
 use Rattle.cas_runs.proofs.Showing.{some_crossing}
 use Rattle.cas_runs.proofs.Lifting.{step_costs, waiting_costs}
+use Rattle.cas_runs.proofs.Turns.{hears_outside, listens_after}
 use Rattle.cas_runs.proofs.Shares.{guarded_under, share_ordered, found, not_found, with_lock_ordered, without_lock_ordered, SameLength, Kept, performed_kept}
 use Rattle.cas_runs.proofs.Objects.{SoundMemory, SoundNaming, MemoryStep, lengths_step, lengths_sound, naming_step, ShowsAll, shows_step, shows_now, gone_step, gone_sound, fresh_step, fresh_sound, all_grown, leaves_all, ExactAll, exact_now, brought_so}
 
@@ -448,6 +449,8 @@ module _ {F A : Type 0} (l : Activations F A) (setting : Setting) (scene : Scene
     says = λ ls bs b x r saying y e. let s : Sound ls (Says saying y) = subst (λ (v : Act (Thread F A)). Sound ls v) e (sound ls x (holds first r)) in s.0;
     locks = λ ls bs b x r lock next e. let s : Sound ls (Locks lock next) = subst (λ (v : Act (Thread F A)). Sound ls v) e (sound ls x (holds first r)) in (s.0, s.1);
     crosses = λ ls bs b x r next e k y can g. let s : Sound ls (Crosses next) = subst (λ (v : Act (Thread F A)). Sound ls v) e (sound ls x (holds first r)) in let both = s k y can g in both.0;
+    hears = hears_outside l setting scene start;
+    listens = listens_after l setting scene start;
     halts = λ ls bs b x r why e. let s : Sound ls (Stops why) = subst (λ (v : Act (Thread F A)). Sound ls v) e (sound ls x (holds first r)) in s;
   }
 

@@ -80,6 +80,24 @@ HaltsToo edge s labels Ended = Halted edge s labels Ended
 HaltsToo edge s labels (Taken lock) = Halted edge s labels (Taken lock)
 HaltsToo edge s labels Full = Unit {0}
 
+-- the source has a run with these labels that waits for this lock
+pub record AtLock {S : Type 0} (edge : Edge) (s : Machine S) (labels : List RunLabel) (lock : ℕ) : Type 0 where
+  pub blocks : List Block
+  pub block : Block
+  pub at : S
+  pub run : Run edge s labels blocks block at
+  pub next : List ℕ → S
+  pub waits : s.act at ≡ Locks lock next
+
+-- the source has a run with these labels that waits for the outside
+pub record AtHearing {S : Type 0} (edge : Edge) (s : Machine S) (labels : List RunLabel) : Type 0 where
+  pub blocks : List Block
+  pub block : Block
+  pub at : S
+  pub run : Run edge s labels blocks block at
+  pub next : RunLabel → S
+  pub waits : s.act at ≡ Hears next
+
 -- the act is a Call or a Leave
 abbrev pub IsCrossing : {S : Type 0} → Act S → Type 0
 IsCrossing (Crosses next) = Unit {0}
@@ -99,6 +117,10 @@ pub record Refines {T S : Type 0} (edge : Edge) (t : Machine T) (s : Machine S) 
   pub follows : (ls : List RunLabel) (bs : List Block) (b : Block) (x : T) → Run edge t ls bs b x → HasRun edge s ls → (IsCrossing (t.act x) → ⊥) → (l : RunLabel) (y : T) → Leads edge ls (t.act x) l y → BadBefore edge s ls ⊎ HasRun edge s (l ∷ ls)
   -- where the target is at a Call or a Leave, the source comes to one, and names what crosses in a way that the target can
   pub crosses : (ls : List RunLabel) (bs : List Block) (b : Block) (x : T) → Run edge t ls bs b x → HasRun edge s ls → (next : RunLabel → Option T) → t.act x ≡ Crosses next → BadBefore edge s ls ⊎ CrossesAs edge s ls next
+  -- where the target waits for a lock, the source comes to wait for it, also where no words may come
+  pub locks : (ls : List RunLabel) (bs : List Block) (b : Block) (x : T) → Run edge t ls bs b x → HasRun edge s ls → (lock : ℕ) (next : List ℕ → T) → t.act x ≡ Locks lock next → BadBefore edge s ls ⊎ AtLock edge s ls lock
+  -- where the target waits for the outside, the source comes to wait for it, also where no label may come
+  pub hears : (ls : List RunLabel) (bs : List Block) (b : Block) (x : T) → Run edge t ls bs b x → HasRun edge s ls → (next : RunLabel → T) → t.act x ≡ Hears next → BadBefore edge s ls ⊎ AtHearing edge s ls
   -- where the target has no next step, the source has none, unless the target's stack is full
   pub halts : (ls : List RunLabel) (bs : List Block) (b : Block) (x : T) → Run edge t ls bs b x → HasRun edge s ls → (why : Halt) → t.act x ≡ Stops why → BadBefore edge s ls ⊎ HaltsToo edge s ls why
 

@@ -6,7 +6,7 @@ use Rattle.cas_base.specs.declared.kind.Ty.{Ty}
 use Rattle.cas_runs.specs.Label.{NameBytes, Inside, Object, Crossing, RunLabel, Lock, Unlock, Out, Done, Enter, Back, Call, Leave, locks_of}
 use Rattle.cas_runs.specs.Edge.{LockWord, SharedWord, Signature, Edge, AreOfTypes, returned, signature_of, IsOfKind, AreOfKinds, guarded, AreUnder, IsOrdered, IsShare}
 use Rattle.cas_runs.specs.Outside.{Pending, Entered, AreWordsOf, IsAmong, pending, crossed}
-use Rattle.cas_runs.specs.Machine.{Says, Crosses, Locks, Stops, Halt, Ended, Taken, Full, Machine, Saying, label_of, CanCross, Block, Run}
+use Rattle.cas_runs.specs.Machine.{Act, Quiet, Says, Crosses, Locks, Hears, Bad, Stops, Halt, Ended, Taken, Full, Machine, Saying, label_of, CanCross, Block, Run}
 
 -- the lock and these, in ascending order
 abbrev pub and_lock : ℕ → List ℕ → List ℕ
@@ -115,13 +115,33 @@ MayHalt before Ended = HasEnded before
 MayHalt before (Taken lock) = IsAmong lock (locks_after before)
 MayHalt before Full = Unit {0}
 
+-- the newest label is a Call or a Leave
+abbrev pub HasCrossed : List RunLabel → Type 0
+HasCrossed [] = ⊥
+HasCrossed (l ∷ before) = CanCross l
+
+-- the outside may run: no label has come yet, or the newest is a Call or a Leave
+abbrev pub MayHear : List RunLabel → Type 0
+MayHear [] = Unit {0}
+MayHear (l ∷ before) = CanCross l
+
+-- an Enter or a Back is next
+abbrev pub IsHearing : {S : Type 0} → Act S → Type 0
+IsHearing (Hears next) = Unit {0}
+IsHearing (Quiet next) = ⊥
+IsHearing (Says saying next) = ⊥
+IsHearing (Crosses next) = ⊥
+IsHearing (Locks lock next) = ⊥
+IsHearing Bad = ⊥
+IsHearing (Stops why) = ⊥
+
 -- no step is free, and what crosses has a label
 pub record Proceeds {S : Type 0} (m : Machine S) : Type 0 where
   pub costs : (x : S) → 1 ≤ m.price x
   pub named : (x : S) (next : RunLabel → Option S) → m.act x ≡ Crosses next → (l : RunLabel) × (y : S) × CanCross l × (next l ≡ Some y)
 
 -- the machine keeps the rules: it touches shared words of its share alone, unlocks what is in the share, and locks what is a lock and isn't in it; it shows the outside its share
--- and the objects that have crossed; and it stops only where it has ended, where the lock is in the share, or where its stack is full
+-- and the objects that have crossed; after a Call or a Leave it waits for the outside, and else only before the first label; and it stops only where it has ended, where the lock is in the share, or where its stack is full
 pub record KeepsRules {S : Type 0} (edge : Edge) (m : Machine S) : Type 0 where
   pub proceeds : Proceeds m
   pub reads : (ls : List RunLabel) (bs : List Block) (b : Block) (x : S) → Run edge m ls bs b x → (w : ℕ) → IsAmong w (m.footprint x).reads → IsShared edge (locks_after ls) w
@@ -129,6 +149,8 @@ pub record KeepsRules {S : Type 0} (edge : Edge) (m : Machine S) : Type 0 where
   pub says : (ls : List RunLabel) (bs : List Block) (b : Block) (x : S) → Run edge m ls bs b x → (saying : Saying) (y : S) → m.act x ≡ Says saying y → MaySay edge ls (label_of saying)
   pub locks : (ls : List RunLabel) (bs : List Block) (b : Block) (x : S) → Run edge m ls bs b x → (lock : ℕ) (next : List ℕ → S) → m.act x ≡ Locks lock next → (slice_get edge.cells lock ≡ Some LockWord) × (IsAmong lock (locks_after ls) → ⊥)
   pub crosses : (ls : List RunLabel) (bs : List Block) (b : Block) (x : S) → Run edge m ls bs b x → (next : RunLabel → Option S) → m.act x ≡ Crosses next → (l : RunLabel) (y : S) → CanCross l → next l ≡ Some y → MayCross edge ls l
+  pub hears : (ls : List RunLabel) (bs : List Block) (b : Block) (x : S) → Run edge m ls bs b x → IsHearing (m.act x) → MayHear ls
+  pub listens : (ls : List RunLabel) (bs : List Block) (b : Block) (x : S) → Run edge m ls bs b x → HasCrossed ls → IsHearing (m.act x)
   pub halts : (ls : List RunLabel) (bs : List Block) (b : Block) (x : S) → Run edge m ls bs b x → (why : Halt) → m.act x ≡ Stops why → MayHalt ls why
 
 -- what is shown of the objects are words of their kinds

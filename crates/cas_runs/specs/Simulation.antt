@@ -46,13 +46,25 @@ module _ {T S : Type 0} (edge : Edge) (t : Machine T) (s : Machine S) (Related :
     fails_crossing : {y : S} → IsBad (s.act y) → FollowsCrossing ls next y
     step_crossing : {y : S} (y' : S) → s.act y ≡ Quiet y' → FollowsCrossing ls next y' → FollowsCrossing ls next y
 
+  -- the source comes to wait for the same lock, and both go on with the words that come, unless the Bad step comes before
+  pub data FollowsLock (ls : List RunLabel) (lock : ℕ) (next : List ℕ → T) : S → Type 0 where
+    waits_too : {y : S} (s_next : List ℕ → S) → s.act y ≡ Locks lock s_next → ((words : List ℕ) → AreGuarded edge lock words → Follows (Lock lock words ∷ ls) (next words) (begun t (next words)) (s_next words) (begun s (s_next words))) → FollowsLock ls lock next y
+    fails_waiting : {y : S} → IsBad (s.act y) → FollowsLock ls lock next y
+    step_waiting : {y : S} (y' : S) → s.act y ≡ Quiet y' → FollowsLock ls lock next y' → FollowsLock ls lock next y
+
+  -- the source comes to wait for the outside, and both go on with the label that comes, unless the Bad step comes before
+  pub data FollowsHearing (ls : List RunLabel) (next : RunLabel → T) : S → Type 0 where
+    hears_too : {y : S} (s_next : RunLabel → S) → s.act y ≡ Hears s_next → ((l : RunLabel) → MayBring edge ls l → Follows (l ∷ ls) (next l) (begun t (next l)) (s_next l) (begun s (s_next l))) → FollowsHearing ls next y
+    fails_hearing : {y : S} → IsBad (s.act y) → FollowsHearing ls next y
+    step_hearing : {y : S} (y' : S) → s.act y ≡ Quiet y' → FollowsHearing ls next y' → FollowsHearing ls next y
+
   -- what the source does where the target stands at this act
   abbrev pub Answers : List RunLabel → Act T → Block → S → Block → Type 0
   Answers ls (Quiet x) b y c = Follows ls x (onward t b x) y c
   Answers ls (Says saying x) b y c = FollowsBy ls (label_of saying) x y
   Answers ls (Crosses next) b y c = FollowsCrossing ls next y
-  Answers ls (Locks lock next) b y c = (words : List ℕ) → AreGuarded edge lock words → FollowsBy ls (Lock lock words) (next words) y
-  Answers ls (Hears next) b y c = (l : RunLabel) → MayBring edge ls l → FollowsBy ls l (next l) y
+  Answers ls (Locks lock next) b y c = FollowsLock ls lock next y
+  Answers ls (Hears next) b y c = FollowsHearing ls next y
   Answers ls Bad b y c = BadSoon s y
   Answers ls (Stops why) b y c = StopsToo s why y
 
