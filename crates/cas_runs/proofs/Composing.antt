@@ -144,12 +144,12 @@ module _ {T S R : Type 0} (edge : Edge) (t : Machine T) (s : Machine S) (r : Mac
 
 -- Where each Call and Leave of the target has one label, each of its runs is kept.
 
-module _ {T S : Type 0} (edge : Edge) (t : Machine T) (s : Machine S) (h : Refines edge t s) (alone : NamesAlone t) where
-  has_label : (ls : List RunLabel) (x : T) (next : RunLabel → Option T) → t.act x ≡ Crosses next → CrossesAs edge s ls next → (l : RunLabel) (x' : T) → Leads edge ls (t.act x) l x' → HasRun edge s (l ∷ ls)
-  has_label ls x next e n l x' leads =
+module _ {T S : Type 0} (edge : Edge) (t : Machine T) (s : Machine S) (h : Refines edge t s) (alone : NamesAlone edge t) where
+  has_label : (ls : List RunLabel) (bs : List Block) (b : Block) (x : T) → Run edge t ls bs b x → (next : RunLabel → Option T) → t.act x ≡ Crosses next → CrossesAs edge s ls next → (l : RunLabel) (x' : T) → Leads edge ls (t.act x) l x' → HasRun edge s (l ∷ ls)
+  has_label ls bs b x r next e n l x' leads =
       let there : CanCross l × (next l ≡ Some x') = subst (λ (v : Act T). Leads edge ls v l x') e leads in
       let to = n.each n.some_label n.some_next n.can_cross n.has_label in
-      let same : n.some_label ≡ l = alone.alone x next e n.some_label l to.0 x' n.can_cross to.1 there.0 there.1 in
+      let same : n.some_label ≡ l = alone.alone ls bs b x r next e n.some_label l to.0 x' n.can_cross to.1 there.0 there.1 in
       let run : HasRun edge s (n.some_label ∷ ls) = record { blocks = n.block ∷ n.blocks; block = begun s n.some_next; at = n.some_next; run = labelled n.some_label n.some_next n.run (subst (λ (v : Act S). Leads edge ls v n.some_label n.some_next) (sym n.crosses) (n.can_cross, n.has_label)) } in
       subst (λ v. HasRun edge s (v ∷ ls)) same run
 
@@ -159,7 +159,7 @@ module _ {T S : Type 0} (edge : Edge) (t : Machine T) (s : Machine S) (h : Refin
   has_each (labelled {ls = ls} {bs = bs} {b = b} {x = x} l x' run e) =
       ⊎_elim (λ d. inl (bad_longer edge s l ls d))
       (λ m. ⊎_elim
-      (λ n. ⊎_elim (λ d. inl (bad_longer edge s l ls d)) (λ o. inr (has_label ls x n.0 n.1 o l x' e)) (h.crosses ls bs b x run m n.0 n.1))
+      (λ n. ⊎_elim (λ d. inl (bad_longer edge s l ls d)) (λ o. inr (has_label ls bs b x run n.0 n.1 o l x' e)) (h.crosses ls bs b x run m n.0 n.1))
       (λ n. ⊎_elim (λ d. inl (bad_longer edge s l ls d)) inr (h.follows ls bs b x run m n l x' e))
       (crossing_or_not (t.act x)))
       (has_each run)

@@ -132,9 +132,9 @@ pub record PaysMore {S : Type 0} (edge : Edge) (s : Machine S) (labels : List Ru
   pub run : Run edge s labels blocks block at
   pub more_than : count < block.price
 
--- each Call and each Leave of the machine has at most one label
-pub record NamesAlone {T : Type 0} (t : Machine T) : Type 0 where
-  pub alone : (x : T) (next : RunLabel → Option T) → t.act x ≡ Crosses next → (k l : RunLabel) (y z : T) → CanCross k → next k ≡ Some y → CanCross l → next l ≡ Some z → k ≡ l
+-- each Call and each Leave that the machine comes to has at most one label
+pub record NamesAlone {T : Type 0} (edge : Edge) (t : Machine T) : Type 0 where
+  pub alone : (ls : List RunLabel) (bs : List Block) (b : Block) (x : T) → Run edge t ls bs b x → (next : RunLabel → Option T) → t.act x ≡ Crosses next → (k l : RunLabel) (y z : T) → CanCross k → next k ≡ Some y → CanCross l → next l ≡ Some z → k ≡ l
 
 -- each run of the target meets one of the two cases
 pub record EachKept {T S : Type 0} (edge : Edge) (t : Machine T) (s : Machine S) : Type 0 where

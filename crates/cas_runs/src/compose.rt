@@ -40,7 +40,7 @@ pub fn threads_compose<F, G, H, T, S, R>()
 /// source is Bad before.
 #[tactic(auto, using(crate::proofs::Composing::each_kept))]
 pub fn runs_kept<T, S>()
-    ensures { (edge : Edge) (t : Machine T) (s : Machine S) → Refines edge t s → NamesAlone t → EachKept edge t s }
+    ensures { (edge : Edge) (t : Machine T) (s : Machine S) → Refines edge t s → NamesAlone edge t → EachKept edge t s }
 {}
 
 /// A machine of which no step is free, and of which what crosses has a label, refines itself.
