@@ -49,9 +49,9 @@ names_of l (f ∷ fs) = l.name f ∷ names_of l fs
 abbrev pub AreDistinct : {F S : Type 0} → Language F S → List F → Type 0
 AreDistinct l fs = IsDistinct same_name (names_of l fs)
 
--- each block is laid out within its size, from the k-th on
+-- each block is laid out within its size, from the k-th on, and past the blocks nothing is
 abbrev pub AreLaidOut : List ℕ → ℕ → (ℕ → List Part) → Type 0
-AreLaidOut [] k parts = Unit {0}
+AreLaidOut [] k parts = (j : ℕ) → k ≤ j → parts j ≡ []
 AreLaidOut (size ∷ sizes) k parts = ArePlaced 0 size (parts k) × AreLaidOut sizes (k + 1) parts
 
 -- each function's blocks are laid out within their sizes

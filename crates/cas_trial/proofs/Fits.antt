@@ -6,6 +6,7 @@ use Rattle.cas_base.specs.declared.kind.Ty.TheVariants.{Int}
 use Rattle.std.specs.Prelude.{slice_get}
 use Rattle.cas_runs.specs.Label.{Place, Crossing, RunLabel, Lock, Unlock, Out, Enter, Back, Call}
 use Rattle.cas_runs.specs.Edge.{LockWord, SharedWord, Cell}
+use Rattle.cas_runs.specs.Naming.{ArePlaced}
 use Rattle.cas_runs.specs.Access.{Stretch}
 use Rattle.cas_runs.specs.Machine.{Quiet, Machine, Leads, begun, onward, starts, quiet, labelled}
 use Rattle.cas_runs.specs.Refines.{HasRun}
@@ -16,7 +17,7 @@ use Rattle.cas_runs.specs.Calls.{Thread, language}
 use Rattle.cas_trial.specs.declared.joining.Apart.{Apart}
 use Rattle.cas_trial.specs.Stages.{main_name, show_name, Stage, apart}
 use Rattle.cas_trial.proofs.Joins.{apart_prices}
-use Rattle.cas_trial.specs.Fitting.{lock_decl, global_decl, main_decl, show_decl, decls, globals, edge, words, setting, first_object, labels, program}
+use Rattle.cas_trial.specs.Fitting.{lock_decl, global_decl, main_decl, show_decl, decls, globals, edge, words, setting, two_words, first_object, labels, program}
 
 -- a name without words is apart from all
 no_words : (d e : Decl) → (words d.name ≡ None) ⊎ (words e.name ≡ None) → AreApart words d e
@@ -43,6 +44,17 @@ unit_fits = record {
   apart = ((lock_and_global, (no_words lock_decl main_decl (inr refl), (no_words lock_decl show_decl (inr refl), tt))), ((no_words global_decl main_decl (inr refl), (no_words global_decl show_decl (inr refl), tt)), ((no_words main_decl show_decl (inr refl), tt), (tt, tt))));
   entered = (refl, (refl, tt));
 }
+
+past_two : (j : ℕ) → 2 ≤ j → two_words j ≡ []
+past_two zero le = absurd (omega (arith, le))
+past_two (suc zero) le = absurd (omega (arith, le))
+past_two (suc (suc j)) le = refl
+
+one_word_placed : ArePlaced 0 1 (record { from = 0; size = 1; kind = I32 } ∷ [])
+one_word_placed = (omega arith, omega arith, omega arith, tt)
+
+pub unit_laid_out : IsLayout (language apart) (program ∷ []) setting.layout
+unit_laid_out = ((one_word_placed, (one_word_placed, past_two)), tt)
 
 -- the program as a unit
 abbrev m : Machine (Thread Apart Stage)

@@ -39,12 +39,16 @@ both_placed a k m (p ∷ ps) qs le h e =
       subst (λ n. ArePlaced n (m + k) (moved_parts 0 ps ++ moved_parts m qs)) (let same : p.from + p.size ≡ 0 + p.from + p.size = omega arith in same) (both_placed (p.from + p.size) k m ps qs end h.3 e),
     )
 
+past_joined : (parts : ℕ → List Part) (j : ℕ) → 1 ≤ j → joined_parts parts j ≡ []
+past_joined parts zero le = absurd (omega (arith, le))
+past_joined parts (suc j) le = refl
+
 each_laid_out : (ts : List Joined) (ss : List Apart) → AllMade IsJoined ts ss → (layout : Layout) → IsLayout (language apart) ss layout → IsLayout (language joined) ts (joins layout)
 each_laid_out [] ss h layout l = tt
 each_laid_out (t ∷ ts) [] h layout l = absurd h
 each_laid_out (t ∷ ts) (s ∷ ss) h layout l =
     let parts = l.0 in
-    ((both_placed 0 1 1 (layout main_name 0) (layout main_name 1) (omega arith) parts.0 parts.1.0, tt), each_laid_out ts ss h.1 layout l.1)
+    ((both_placed 0 1 1 (layout main_name 0) (layout main_name 1) (omega arith) parts.0 parts.1.0, past_joined (layout main_name)), each_laid_out ts ss h.1 layout l.1)
 
 pub joins_laid_out : (ts : List Joined) (ss : List Apart) → AllMade IsJoined ts ss → AreDistinct (language apart) ss → (layout : Layout) → IsLayout (language apart) ss layout → IsLayout (language joined) ts (joins layout)
 joins_laid_out ts ss h d layout l = each_laid_out ts ss h layout l

@@ -61,7 +61,7 @@ module _ (setting : Setting) (ts : List Relaying) (ss : List Relaying) where
 each_laid_out : (ts ss : List Relaying) → AllMade IsSame ts ss → (layout : Layout) → IsLayout (language fast) ss layout → IsLayout (language slow) ts layout
 each_laid_out [] ss h layout l = tt
 each_laid_out (t ∷ ts) [] h layout l = absurd h
-each_laid_out (t ∷ ts) (s ∷ ss) h layout l = (tt, each_laid_out ts ss h.1 layout l.1)
+each_laid_out (t ∷ ts) (s ∷ ss) h layout l = (l.0, each_laid_out ts ss h.1 layout l.1)
 
 slow_laid_out : (ts ss : List Relaying) → AllMade IsSame ts ss → AreDistinct (language fast) ss → (layout : Layout) → IsLayout (language fast) ss layout → IsLayout (language slow) ts layout
 slow_laid_out ts ss h d layout l = each_laid_out ts ss h layout l

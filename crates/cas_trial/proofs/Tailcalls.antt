@@ -22,7 +22,7 @@ Rel setting ts ss = relation tailing calling IsTailing (λ us layout. layout) (�
 each_laid_out : (ts : List Relayed) (ss : List Relaying) → AllMade IsTailing ts ss → (layout : Layout) → IsLayout (language calling) ss layout → IsLayout (language tailing) ts layout
 each_laid_out [] ss h layout l = tt
 each_laid_out (t ∷ ts) [] h layout l = absurd h
-each_laid_out (t ∷ ts) (s ∷ ss) h layout l = (tt, each_laid_out ts ss h.1 layout l.1)
+each_laid_out (t ∷ ts) (s ∷ ss) h layout l = (l.0, each_laid_out ts ss h.1 layout l.1)
 
 pub tails_laid_out : (ts : List Relayed) (ss : List Relaying) → AllMade IsTailing ts ss → AreDistinct (language calling) ss → (layout : Layout) → IsLayout (language calling) ss layout → IsLayout (language tailing) ts layout
 tails_laid_out ts ss h d layout l = each_laid_out ts ss h layout l

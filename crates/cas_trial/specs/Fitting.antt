@@ -1,5 +1,5 @@
 -- A unit of the trial's languages, an edge at which it may run, and labels of a run in which a pointer crosses and comes back.
-use Rattle.std.specs.Prelude.{ℕ, true, false, List, [], ◌∷◌, Some, None, if◌then◌else◌}
+use Rattle.std.specs.Prelude.{ℕ, zero, suc, true, false, List, [], ◌∷◌, Some, None, if◌then◌else◌}
 use Rattle.cas_base.specs.declared.kind.Kind.TheVariants.{I32}
 use Rattle.cas_base.specs.declared.kind.Ty.TheVariants.{Void, Int, Ptr}
 use Rattle.cas_base.specs.declared.decl.Decl.{Decl}
@@ -7,7 +7,7 @@ use Rattle.cas_base.specs.declared.decl.Form.TheVariants as forms
 use Rattle.cas_base.specs.declared.decl.Global.{Global}
 use Rattle.cas_runs.specs.Label.{same_name, Place, Inside, Object, RunLabel, Lock, Unlock, Out, Enter, Back, Call}
 use Rattle.cas_runs.specs.Edge.{Edge, LockWord, SharedWord}
-use Rattle.cas_runs.specs.Naming.{Layout}
+use Rattle.cas_runs.specs.Naming.{Part, Layout}
 use Rattle.cas_runs.specs.Access.{Words}
 use Rattle.cas_runs.specs.Unit.{Setting}
 use Rattle.cas_trial.specs.declared.joining.Apart.{Apart}
@@ -42,9 +42,15 @@ edge = record {
 abbrev pub words : Words
 words = λ name. if same_name name lock_name then Some (record { first = 0; size = 1 }) else if same_name name global_name then Some (record { first = 1; size = 1 }) else None
 
+-- the first two blocks are one word each
+abbrev pub two_words : ℕ → List Part
+two_words zero = record { from = 0; size = 1; kind = I32 } ∷ []
+two_words (suc zero) = record { from = 0; size = 1; kind = I32 } ∷ []
+two_words (suc (suc block)) = []
+
 -- each variable is an object
 abbrev pub one_word_each : Layout
-one_word_each = λ function block. record { from = 0; size = 1; kind = I32 } ∷ []
+one_word_each = λ function. two_words
 
 abbrev pub setting : Setting
 setting = record { edge = edge; words = words; layout = one_word_each; unknown = λ n. 0 }

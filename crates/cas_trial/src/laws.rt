@@ -11,10 +11,12 @@ ghost use Rattle.cas_trial.specs.Stages.{apart};
 ghost use Rattle.cas_trial.specs.declared.joining.Apart.{Apart as Program};
 ghost use Rattle.cas_trial.specs.declared.tailing.Relaying.{Relaying};
 
-/// A unit with a lock, a shared word and a function of another unit fits an edge.
-#[tactic(auto, using(crate::proofs::Fits::unit_fits))]
+/// A unit with a lock, a shared word and a function of another unit fits an edge, and its variables are laid
+/// out as objects.
+#[tactic(auto, using(crate::proofs::Fits::unit_fits, crate::proofs::Fits::unit_laid_out))]
 pub fn a_unit_fits()
-    ensures { FitsUnit edge words decls globals }
+    ensures fits { FitsUnit edge words decls globals }
+    ensures objects { IsLayout (language apart) (program ∷ []) setting.layout }
 {}
 
 /// There its machine has a run in which a pointer crosses and comes back: what the outside left at its place
