@@ -3,11 +3,12 @@ use Rattle.std.proofs.Common.{◌≡◌, ℕ, List, [], ◌∷◌, Option, Some,
 use Rattle.cas_base.specs.declared.label.Label.{Label}
 use Rattle.cas_base.specs.declared.label.Label.TheVariants as plain
 use Rattle.cas_runs.specs.Label.{NameBytes, RunLabel, Lock, plain_label, ArePlain}
-use Rattle.cas_runs.specs.Naming.{Value, Number}
+use Rattle.cas_runs.specs.Edge.{results_of}
+use Rattle.cas_runs.specs.Naming.{Value, Number, and_then}
 use Rattle.cas_runs.specs.Machine.{Act, Quiet, Says, Crosses, Locks, Hears, Bad, Stops, Saying, Unlocks, Prints, Ends, label_of, Machine, Leads, Block, Run, starts as begins_run, quiet, labelled}
 use Rattle.cas_runs.specs.Access.{Holding, words_in, with_lock, without_lock}
 use Rattle.cas_runs.specs.Unit.{Setting, guard_of}
-use Rattle.cas_runs.specs.Calls.{Last, Goes, Takes, Gives, Puts, Calls, Tails, Returns, Activations, Scene, Frame, Waits, Outer, Past, Thread, Away, Runs, Leaves, Over, Wrong, goes_back, returns, with_share, takes_lock, takes, gives_lock, gives, find, without_own, calls_in, enters_at, step_at, calls, acts, machine, no_past, no_holding, starts, language}
+use Rattle.cas_runs.specs.Calls.{Last, Goes, Takes, Gives, Puts, Calls, Tails, Returns, Activations, Scene, Frame, Waits, Outer, Past, Thread, Away, Runs, Leaves, Over, Wrong, goes_back, kept_results, returns, with_share, takes_lock, takes, gives_lock, gives, find, without_own, calls_in, enters_at, step_at, calls, acts, machine, no_past, no_holding, starts, language}
 
 module _ {F A : Type 0} (l : Activations F A) (setting : Setting) (fs : List F) (start : Thread F A) where
   abbrev scene : Scene F
@@ -19,8 +20,8 @@ module _ {F A : Type 0} (l : Activations F A) (setting : Setting) (fs : List F) 
   -- the outside is nowhere on the stack
   abbrev AllWait : List (Frame F A) → Type 0
   AllWait [] = Unit {0}
-  AllWait (Outer ∷ stack) = ⊥
-  AllWait (Waits f n next ∷ stack) = AllWait stack
+  AllWait (Outer results ∷ stack) = ⊥
+  AllWait (Waits f n results next ∷ stack) = AllWait stack
 
   abbrev Closed : Thread F A → Type 0
   Closed (Away stack p h) = ⊥
@@ -44,8 +45,8 @@ module _ {F A : Type 0} (l : Activations F A) (setting : Setting) (fs : List F) 
 
   returns_closed : (values : List Value) (stack : List (Frame F A)) (p : Past) (h : Holding) → AllWait stack → ClosedAct (returns setting.layout values stack p h)
   returns_closed values [] p h w = tt
-  returns_closed values (Outer ∷ stack) p h w = absurd w
-  returns_closed values (Waits f n next ∷ stack) p h w = back_closed f n (next values) stack p h w
+  returns_closed values (Outer results ∷ stack) p h w = absurd w
+  returns_closed values (Waits f n results next ∷ stack) p h w = back_closed f n (and_then (kept_results results values) next) stack p h w
 
   calls_closed : (function : NameBytes) (values : List Value) (stack : List (Frame F A)) (p : Past) (h : Holding) → AllWait stack → (o : Option F) → ClosedAct (calls l setting scene o function values stack p h)
   calls_closed function values stack p h w None = tt
@@ -77,7 +78,7 @@ module _ {F A : Type 0} (l : Activations F A) (setting : Setting) (fs : List F) 
   acts_closed (Some (Takes lock next)) f n stack p h w = takes_closed (guard_of setting.edge setting.words lock) next f n stack p h w
   acts_closed (Some (Gives lock next)) f n stack p h w = gives_closed (guard_of setting.edge setting.words lock) next f n stack p h w
   acts_closed (Some (Puts word next)) f n stack p h w = w
-  acts_closed (Some (Calls function values next)) f n stack p h w = calls_closed function values (Waits f n next ∷ stack) p h w (find l fs function)
+  acts_closed (Some (Calls function values next)) f n stack p h w = calls_closed function values (Waits f n (results_of setting.edge function) next ∷ stack) p h w (find l fs function)
   acts_closed (Some (Tails function values)) f n stack p h w = calls_closed function values stack p (without_own l f n h) w (find l fs function)
   acts_closed (Some (Returns values)) f n stack p h w = returns_closed values stack p (without_own l f n h) w
 

@@ -1,16 +1,17 @@
 -- A pass of activations is a simulation of the machines that the layer of calls makes of them.
-use Rattle.std.proofs.Common.{◌≡◌, ℕ, ◌+◌, ◌≤◌, List, [], ◌∷◌, ◌⊎◌, Option, Some, None, Bool, true, false, if◌then◌else◌, inl, inr, refl, sym, ap, ◌∙◌, subst, ⊎_elim, arith}
+use Rattle.std.proofs.Common.{◌≡◌, ℕ, zero, suc, ◌+◌, ◌≤◌, List, [], ◌∷◌, ◌++◌, length, ◌⊎◌, Option, Some, None, Bool, true, false, if◌then◌else◌, inl, inr, refl, sym, ap, ◌∙◌, subst, ⊎_elim, arith}
 use Rattle.cas_runs.specs.Label.{NameBytes, same_name, Share, Crossing, RunLabel, Lock, Unlock, Out, Done, Enter, Back, Call, Leave}
+use Rattle.cas_runs.specs.Edge.{results_of}
 use Rattle.cas_runs.specs.Outside.{MayBring}
-use Rattle.cas_runs.specs.Naming.{Value, Naming, all_taken}
+use Rattle.cas_runs.specs.Naming.{Value, Naming, and_then, all_taken}
 use Rattle.cas_runs.specs.Machine.{Act, Quiet, Says, Crosses, Locks, Hears, Bad, Stops, Ended, Taken, Full, Prints, Machine, CanCross, Leads, IsBad, Block, nothing, begun, onward, and_step}
 use Rattle.cas_runs.specs.Refines.{Within, Subsequence, done, keep, skip, Refines}
 use Rattle.cas_runs.specs.Simulation.{halts, fails_halting, step_halting, BadSoon, now, soon, Follows, related, fails as fails_follows, step, FollowsBy, by, fails_before, step_before, waits_too, fails_waiting, step_waiting, FollowsHearing, hears_too, fails_hearing, step_hearing, crosses, fails_crossing, step_crossing, Answers, Fine, Simulates}
 use Rattle.cas_runs.specs.Bounds.{IsTariff, Tariff, BySize, ByForms, step_price, first_price, waiting_price}
-use Rattle.cas_runs.specs.Access.{Holding, Then, words_in, with_lock, without_lock, performed}
+use Rattle.cas_runs.specs.Access.{Holding, Then, Fails, words_in, with_lock, without_lock, performed}
 use Rattle.cas_runs.specs.Unit.{Setting, laid_out, guard_of}
-use Rattle.cas_runs.specs.Calls.{Last, Goes, Takes, Gives, Puts, Calls, Tails, Returns, Scene, Frame, Waits, Outer, Past, Thread, Away, Runs, Leaves, Over, nothing_touched, can_cross, crosses_as, with_naming, to_outside, calls_by, leaves_by, crosses_if, leaves, goes_back, returns, resumes, comes_back, with_share, takes_lock, takes, gives_lock, gives, find, with_own, without_own, set_blocks, gone, one_begun, begins, calls_in, enters_at, enters, below, called, calls_out, calls, acts, hears, machine}
-use Rattle.cas_runs.specs.Passing.{Relation, AllSame, t_step, s_step, Stands, Going, matched, fails, goes, Ready, ReadyIf, WaitAlike, PassesOn, OnlyPasses, TailAlike, tail, passing, LastAlike, Meets, meets, fails_first, goes_first, FailsSoon, fails_now, goes_on, Does, Passes, SameIf, brought_in, heard, Keeps, Pays, AllMade}
+use Rattle.cas_runs.specs.Calls.{Last, Goes, Takes, Gives, Puts, Calls, Tails, Returns, Scene, Frame, Waits, Outer, Past, Thread, Away, Runs, Leaves, Over, nothing_touched, can_cross, crosses_as, with_naming, to_outside, calls_by, leaves_by, crosses_if, leaves, first_values, kept_results, leaves_with, leaves_later, goes_back, returns, resumes, comes_back, with_share, takes_lock, takes, gives_lock, gives, find, with_own, without_own, set_blocks, gone, one_begun, begins, calls_in, enters_at, enters, below, called, calls_out, calls, acts, hears, machine}
+use Rattle.cas_runs.specs.Passing.{Relation, AllSame, t_step, s_step, Stands, Going, matched, fails, goes, Ready, ReadyIf, WaitAlike, PassesOn, cannot_go_on, fails_then, returns_first, OnlyPasses, TailAlike, tail, passing, LastAlike, Meets, meets, fails_first, goes_first, FailsSoon, fails_now, goes_on, Does, Passes, SameIf, brought_in, heard, Keeps, Pays, AllMade}
 use Rattle.cas_runs.proofs.Refining.{steps_refine, within_more}
 use Rattle.cas_runs.proofs.Showing.{some_crossing}
 use Rattle.cas_runs.proofs.Tests.{same_name_self}
@@ -47,21 +48,21 @@ module _ {F A G B : Type 0} (r : Relation F A G B) (is : Keeps r) (pays : Pays r
   abbrev pub Based : Bool → List (Frame F A) → Type 0
   Based true [] = ⊥
   Based false [] = Unit {0}
-  Based o (Outer ∷ xs) = Unit {0}
-  Based o (Waits f n next ∷ xs) = Based o xs
+  Based o (Outer results ∷ xs) = Unit {0}
+  Based o (Waits f n results next ∷ xs) = Based o xs
 
   -- what waits in both, at a moment; the target's serial numbers are below a bound
   pub data Frames (h : Holding) (k : Holding) : ℕ → List (Frame F A) → List (Frame G B) → Type 0 where
     bottom : {m : ℕ} → Frames h k m [] []
-    outer : {m : ℕ} {xs : List (Frame F A)} {ys : List (Frame G B)} → outward ≡ true → Frames h k m xs ys → Frames h k m (Outer ∷ xs) (Outer ∷ ys)
-    under : {m n n' : ℕ} {f : F} {g : G} {next : List Value → Option A} {next' : List Value → Option B} {xs : List (Frame F A)} {ys : List (Frame G B)} → n + 1 ≤ m → n ≡ n' → r.made f g → WaitAlike r f g n h k next next' → Based outward xs → Frames h k n xs ys → Frames h k m (Waits f n next ∷ xs) (Waits g n' next' ∷ ys)
-    passed : {m n : ℕ} {g : G} {next' : List Value → Option B} {xs : List (Frame F A)} {ys : List (Frame G B)} → OnlyPasses r g next' → Based outward xs → Frames h k m xs ys → Frames h k m xs (Waits g n next' ∷ ys)
+    outer : {m : ℕ} {results : Option ℕ} {xs : List (Frame F A)} {ys : List (Frame G B)} → outward ≡ true → Frames h k m xs ys → Frames h k m (Outer results ∷ xs) (Outer results ∷ ys)
+    under : {m n n' : ℕ} {f : F} {g : G} {results : Option ℕ} {next : List Value → Option A} {next' : List Value → Option B} {xs : List (Frame F A)} {ys : List (Frame G B)} → n + 1 ≤ m → n ≡ n' → r.made f g → WaitAlike r f g n h k results next next' → Based outward xs → Frames h k n xs ys → Frames h k m (Waits f n results next ∷ xs) (Waits g n' results next' ∷ ys)
+    passed : {m n : ℕ} {g : G} {results : Option ℕ} {next' : List Value → Option B} {xs : List (Frame F A)} {ys : List (Frame G B)} → OnlyPasses r g results next' → Based outward xs → Frames h k m xs ys → Frames h k m xs (Waits g n results next' ∷ ys)
 
   frames_later : (h k h' k' : Holding) {m : ℕ} {xs : List (Frame F A)} {ys : List (Frame G B)} → Frames h k m xs ys → r.later m h k h' k' → Frames h' k' m xs ys
   frames_later h k h' k' bottom l = bottom
   frames_later h k h' k' (outer o fr) l = outer o (frames_later h k h' k' fr l)
   frames_later h k h' k' {m = m} (under {n = n} le e made wait based fr) l =
-      under le e made (λ p q h'' k'' l' a vs ws s. wait p q h'' k'' (is.then_later (n + 1) h k h' k' h'' k'' (is.fewer (n + 1) m h k h' k' le l) l') a vs ws s) based
+      under le e made (λ p q h'' k'' l' a vs ws s count. wait p q h'' k'' (is.then_later (n + 1) h k h' k' h'' k'' (is.fewer (n + 1) m h k h' k' le l) l') a vs ws s count) based
       (frames_later h k h' k' fr (is.fewer n m h k h' k' (omega (arith, le)) l))
   frames_later h k h' k' (passed only based fr) l = passed only based (frames_later h k h' k' fr l)
 
@@ -304,23 +305,119 @@ module _ {F A G B : Type 0} (r : Relation F A G B) (is : Keeps r) (pays : Pays r
   goes_back_too ls f g n n' p q h k made less same xs ys based fr b d z w (Some x) (Some y) ready e =
       step (Runs g n' y 0 ys q k) e (going ls f g n n' 0 p q h k x h (onward T b (Runs f n x 0 xs p h)) xs ys made less same based fr (ready b d w))
 
-  module _ (ls : List RunLabel) (p q : Past) (h k : Holding) (alike : r.alike p h q k) (vs ws : List Value) (same : AllSame r vs ws) (b : Block) where
+  -- The results that are taken.
+
+  -- the source's values are the same as the target's first ones
+  abbrev FirstSame : List Value → List Value → Type 0
+  FirstSame vs [] = Unit {0}
+  FirstSame [] (w ∷ ws) = ⊥
+  FirstSame (v ∷ vs) (w ∷ ws) = r.same v w × FirstSame vs ws
+
+  all_first : (vs ws : List Value) → AllSame r vs ws → FirstSame vs ws
+  all_first [] [] s = tt
+  all_first [] (w ∷ ws) s = absurd s
+  all_first (v ∷ vs) [] s = tt
+  all_first (v ∷ vs) (w ∷ ws) s = (s.0, all_first vs ws s.1)
+
+  fewer_first : (vs us more : List Value) → FirstSame vs (us ++ more) → FirstSame vs us
+  fewer_first vs [] more s = tt
+  fewer_first [] (u ∷ us) more s = absurd s
+  fewer_first (v ∷ vs) (u ∷ us) more s = (s.0, fewer_first vs us more s.1)
+
+  none_same : (o : Option (List Value)) → SameIf r o None
+  none_same None = tt
+  none_same (Some vs) = tt
+
+  first_kept : (c : ℕ) (vs ws : List Value) → FirstSame vs ws → SameIf r (first_values c vs) (first_values c ws)
+  first_kept zero vs ws s = tt
+  first_kept (suc c) [] [] s = tt
+  first_kept (suc c) (v ∷ vs) [] s = none_same (first_values (suc c) (v ∷ vs))
+  first_kept (suc c) [] (w ∷ ws) s = absurd s
+  first_kept (suc c) (v ∷ vs) (w ∷ ws) s = add (first_values c vs) (first_values c ws) (first_kept c vs ws s.1)
+    where
+      add : (o o' : Option (List Value)) → SameIf r o o' → SameIf r (and_then o (λ us. Some (v ∷ us))) (and_then o' (λ us. Some (w ∷ us)))
+      add o None i = none_same (and_then o (λ us. Some (v ∷ us)))
+      add None (Some xs) i = absurd i
+      add (Some us) (Some xs) i = (s.0, i)
+
+  kept_same : (results : Option ℕ) (vs ws : List Value) → FirstSame vs ws → SameIf r (kept_results results vs) (kept_results results ws)
+  kept_same None vs ws s = tt
+  kept_same (Some c) vs ws s = first_kept c vs ws s
+
+  -- what is kept are the first values
+  record KeptOf (results : Option ℕ) (ws us : List Value) : Type 0 where
+    count : results ≡ Some (length us)
+    more : List Value
+    are : ws ≡ us ++ more
+
+  first_of : (c : ℕ) (ws us : List Value) → first_values c ws ≡ Some us → KeptOf (Some c) ws us
+  first_of zero ws us e = let none : [] ≡ us = cc e in subst (λ v. KeptOf (Some 0) ws v) none (record { count = refl; more = ws; are = refl })
+  first_of (suc c) [] us e = absurd (cc e)
+  first_of (suc c) (w ∷ ws) us e = by (first_values c ws) refl (λ xs i. first_of c ws xs i) e
+    where
+      by : (o : Option (List Value)) → first_values c ws ≡ o → ((xs : List Value) → first_values c ws ≡ Some xs → KeptOf (Some c) ws xs) → and_then o (λ xs. Some (w ∷ xs)) ≡ Some us → KeptOf (Some (suc c)) (w ∷ ws) us
+      by None i kept j = absurd (cc j)
+      by (Some xs) i kept j =
+          let rest = kept xs i in
+          let same : w ∷ xs ≡ us = cc j in
+          let count : c ≡ length xs = cc rest.count in
+          subst (λ v. KeptOf (Some (suc c)) (w ∷ ws) v) same (record { count = ap (λ n. Some (suc n)) count; more = rest.more; are = ap (λ v. w ∷ v) rest.are })
+
+  kept_of : (results : Option ℕ) (ws us : List Value) → kept_results results ws ≡ Some us → KeptOf results ws us
+  kept_of None ws us e = absurd (cc e)
+  kept_of (Some c) ws us e = first_of c ws us e
+
+  none_ready : (f : F) (g : G) (n : ℕ) (p q : Past) (o : Option A) (h k : Holding) → ReadyIf r f g n p q o 0 h None 0 k
+  none_ready f g n p q None h k = tt
+  none_ready f g n p q (Some x) h k = tt
+
+  -- both go on with what is kept
+  ready_kept : (f : F) (g : G) (n : ℕ) (p q : Past) (h k : Holding) → r.alike p h q k → (results : Option ℕ) (next : List Value → Option A) (next' : List Value → Option B) → WaitAlike r f g n h k results next next' → (o o' : Option (List Value)) → SameIf r o o' → ((us : List Value) → o' ≡ Some us → results ≡ Some (length us)) → ReadyIf r f g n p q (and_then o next) 0 h (and_then o' next') 0 k
+  ready_kept f g n p q h k alike results next next' wait o None same count = none_ready f g n p q (and_then o next) h k
+  ready_kept f g n p q h k alike results next next' wait None (Some ws) same count = absurd same
+  ready_kept f g n p q h k alike results next next' wait (Some vs) (Some ws) same count = wait p q h k (is.at_once (n + 1) h k) alike vs ws same (count ws refl)
+
+  waits_ready : (f : F) (g : G) (n : ℕ) (p q : Past) (h k : Holding) → r.alike p h q k → (results : Option ℕ) (next : List Value → Option A) (next' : List Value → Option B) → WaitAlike r f g n h k results next next' → (vs ws : List Value) → FirstSame vs ws → ReadyIf r f g n p q (and_then (kept_results results vs) next) 0 h (and_then (kept_results results ws) next') 0 k
+  waits_ready f g n p q h k alike results next next' wait vs ws s = ready_kept f g n p q h k alike results next next' wait (kept_results results vs) (kept_results results ws) (kept_same results vs ws s) (λ us e. let kept = kept_of results ws us e in kept.count)
+
+  -- the source's step fails at once
+  failing_form : (g : G) (n e : ℕ) (ys : List (Frame G B)) (q : Past) (k : Holding) (y : B) → r.source.form y ≡ Fails → IsBad (S.act (Runs g n y e ys q k))
+  failing_form g n e ys q k y form =
+      subst (λ (v : _). IsBad (s_acts (performed r.setting.edge.cells r.setting.words v (record { holding = k; footprint = nothing_touched })).last g n ys q (performed r.setting.edge.cells r.setting.words v (record { holding = k; footprint = nothing_touched })).holding)) (sym form) tt
+
+  module _ (ls : List RunLabel) (p q : Past) (h k : Holding) (alike : r.alike p h q k) (vs : List Value) (b : Block) where
     over_within : Within (begun T Over) (begun S Over)
     over_within = waits_within
 
-    passes_on : (m n : ℕ) (g : G) (xs : List (Frame F A)) (ys : List (Frame G B)) (a : Act (Thread F A)) → r.source.blocks g ≡ [] → (next : List Value → Option B) → (d : Block) (z : Thread G B) → Within b d → (o : Option B) → PassesOn r g o ws → ((z' : Thread G B) (d' : Block) → Within b d' → S.act z' ≡ returns r.setting.layout ws ys q k → Ans ls a b z' d') → S.act z ≡ goes_back g n o ys q k → Ans ls a b z d
-    passes_on m n g xs ys a none next d z w None passes more e = answers_bad ls a b z d (subst (λ (v : Act (Thread G B)). IsBad v) (sym e) tt)
-    passes_on m n g xs ys a none next d z w (Some y) passes more e =
-        let z' : Thread G B = Runs g n y 0 ys q k in
-        answers_quiet ls a b z z' d e (more z' (onward S d z') (within_more S z' b d w) (passing_on g next n 0 ys q k ws y none passes.0))
+    leaves_kept : (xs : List (Frame F A)) (ys : List (Frame G B)) → Frames h k p.begun xs ys → outward ≡ true → (o o' : Option (List Value)) → SameIf r o o' → (d : Block) (z : Thread G B) → S.act z ≡ leaves_with r.setting.layout o' ys q k → Ans ls (leaves_with r.placed o xs p h) b z d
+    leaves_kept xs ys fr out o None same d z e = answers_bad ls (leaves_with r.placed o xs p h) b z d (subst (λ (v : Act (Thread G B)). IsBad v) (sym e) tt)
+    leaves_kept xs ys fr out None (Some ws) same d z e = absurd same
+    leaves_kept xs ys fr out (Some us) (Some ws) same d z e = leaves_too ls p q h k alike us ws same xs ys fr out b d z e
 
-    returns_too : {m : ℕ} {xs : List (Frame F A)} {ys : List (Frame G B)} → Frames h k m xs ys → m ≤ p.begun → Based outward xs → (d : Block) (z : Thread G B) → Within b d → S.act z ≡ returns r.setting.layout ws ys q k → Ans ls (returns r.placed vs xs p h) b z d
-    returns_too bottom less based d z w e = by Over (subst (λ (v : Act (Thread G B)). Leads r.setting.edge ls v Done Over) (sym e) (refl, refl)) (related (over over_within))
-    returns_too (outer {xs = xs} {ys = ys} out fr) less based d z w e = leaves_too ls p q h k alike vs ws same xs ys (frames_wider h k p.begun less fr) out b d z e
-    returns_too (under {n = n} {n' = n'} {f = f} {g = g} {next = next} {next' = next'} {xs = xs} {ys = ys} below' equal made wait under' fr) less based d z w e =
-        goes_back_too ls f g n n' p q h k made (omega (arith, below', less)) equal xs ys under' fr b d z w (next vs) (next' ws) (wait p q h k (is.at_once (n + 1) h k) alike vs ws same) e
-    returns_too {m = m} (passed {n = n} {g = g} {next' = next'} {xs = xs} {ys = ys} only under' fr) less based d z w e =
-        passes_on m n g xs ys (returns r.placed vs xs p h) only.0 next' d z w (next' ws) (only.1 ws) (λ z' d' w' e'. returns_too fr less based d' z' w' e') e
+    passes_on : (n : ℕ) (g : G) (results : Option ℕ) (ys : List (Frame G B)) (a : Act (Thread F A)) (next : List Value → Option B) → OnlyPasses r g results next → (ws : List Value) → FirstSame vs ws → (d : Block) (z : Thread G B) → Within b d → ((us : List Value) → FirstSame vs us → (z' : Thread G B) (d' : Block) → Within b d' → S.act z' ≡ returns r.setting.layout us ys q k → Ans ls a b z' d') → S.act z ≡ goes_back g n (and_then (kept_results results ws) next) ys q k → Ans ls a b z d
+    passes_on n g results ys a next only ws s d z w more e = kept (kept_results results ws) refl e
+      where
+        bad : S.act z ≡ goes_back g n None ys q k → Ans ls a b z d
+        bad f = answers_bad ls a b z d (subst (λ (v : Act (Thread G B)). IsBad v) (sym f) tt)
+
+        on : (ws' : List Value) → FirstSame vs ws' → (o : Option B) → PassesOn r ws' o → S.act z ≡ goes_back g n o ys q k → Ans ls a b z d
+        on ws' s' None cannot_go_on f = bad f
+        on ws' s' (Some y) (fails_then form) f = let z' : Thread G B = Runs g n y 0 ys q k in answers_quiet ls a b z z' d f (answers_bad ls a b z' (onward S d z') (failing_form g n 0 ys q k y form))
+        on ws' s' (Some y) (returns_first us rest are form le) f =
+            let z' : Thread G B = Runs g n y 0 ys q k in
+            answers_quiet ls a b z z' d f (more us (fewer_first vs us rest (subst (λ v. FirstSame vs v) are s')) z' (onward S d z') (within_more S z' b d w) (passing_on g next n 0 ys q k us y only.0 form))
+
+        kept : (o : Option (List Value)) → kept_results results ws ≡ o → S.act z ≡ goes_back g n (and_then o next) ys q k → Ans ls a b z d
+        kept None i f = bad f
+        kept (Some ws') i f = let kept = kept_of results ws ws' i in on ws' (fewer_first vs ws' kept.more (subst (λ v. FirstSame vs v) kept.are s)) (next ws') (only.1 ws' kept.count) f
+
+    returns_too : {m : ℕ} {xs : List (Frame F A)} {ys : List (Frame G B)} → Frames h k m xs ys → m ≤ p.begun → Based outward xs → (ws : List Value) → FirstSame vs ws → (d : Block) (z : Thread G B) → Within b d → S.act z ≡ returns r.setting.layout ws ys q k → Ans ls (returns r.placed vs xs p h) b z d
+    returns_too bottom less based ws s d z w e = by Over (subst (λ (v : Act (Thread G B)). Leads r.setting.edge ls v Done Over) (sym e) (refl, refl)) (related (over over_within))
+    returns_too (outer {results = results} {xs = xs} {ys = ys} out fr) less based ws s d z w e = leaves_kept xs ys (frames_wider h k p.begun less fr) out (kept_results results vs) (kept_results results ws) (kept_same results vs ws s) d z e
+    returns_too (under {n = n} {n' = n'} {f = f} {g = g} {results = results} {next = next} {next' = next'} {xs = xs} {ys = ys} below' equal made wait under' fr) less based ws s d z w e =
+        goes_back_too ls f g n n' p q h k made (omega (arith, below', less)) equal xs ys under' fr b d z w (and_then (kept_results results vs) next) (and_then (kept_results results ws) next') (waits_ready f g n p q h k alike results next next' wait vs ws s) e
+    returns_too (passed {n = n} {g = g} {results = results} {next' = next'} {xs = xs} {ys = ys} only under' fr) less based ws s d z w e =
+        passes_on n g results ys (returns r.placed vs xs p h) next' only ws s d z w (λ us s' z' d' w' e'. returns_too fr less based us s' d' z' w' e') e
 
   -- A step of the target's activation.
 
@@ -354,7 +451,7 @@ module _ {F A G B : Type 0} (r : Relation F A G B) (is : Keeps r) (pays : Pays r
       at_calls : (function : NameBytes) (vs : List Value) (next : List Value → Option A) (h : Holding) (y : B) (k : Holding) (e : ℕ) (d : Block) → Within b d → LastAlike r n p q h0 k0 f g (Calls function vs next) h (s_step r y k).last (s_step r y k).holding → Ans ls (t_acts (Some (Calls function vs next)) f n xs p h) b (Runs g n' y e ys q k) d
       at_calls function vs next h y k e d v m =
           let k' = (s_step r y k).holding in
-          calls_too ls p q h k' m.4.alike vs m.0 m.3 (Waits f n next ∷ xs) (Waits g n' m.1 ∷ ys) based (under less same made m.5 based (frames_now h k' m.4)) function b d (Runs g n' y e ys q k) v
+          calls_too ls p q h k' m.4.alike vs m.0 m.3 (Waits f n (results_of r.setting.edge function) next ∷ xs) (Waits g n' (results_of r.setting.edge function) m.1 ∷ ys) based (under less same made m.5 based (frames_now h k' m.4)) function b d (Runs g n' y e ys q k) v
           (find r.target ins_t function) (find r.source ins_s function) (find_alike function ins_t ins_s all_t) (act_is y k e (Calls function m.0 m.1) m.2)
 
       at_tail : (function : NameBytes) (vs : List Value) (h : Holding) (y : B) (k : Holding) (e : ℕ) (d : Block) → Within b d → (o : Option (Last B)) (k' : Holding) → S.act (Runs g n' y e ys q k) ≡ s_acts o g n' ys q k' → TailAlike r n p q h0 k0 f g function vs h k' o → Ans ls (t_acts (Some (Tails function vs)) f n xs p h) b (Runs g n' y e ys q k) d
@@ -366,7 +463,7 @@ module _ {F A G B : Type 0} (r : Relation F A G B) (is : Keeps r) (pays : Pays r
           (find r.target ins_t function) (find r.source ins_s function) (find_alike function ins_t ins_s all_t) a
       at_tail function vs h y k e d v o k' a (passing ws next alike' s only) =
           let h1 = without_own r.target f n h in
-          calls_too ls p q h1 k' s.alike vs ws alike' xs (Waits g n' next ∷ ys) based (passed only based (frames_wider h1 k' p.begun (omega (arith, less)) (frames_now h1 k' s))) function b d (Runs g n' y e ys q k) v
+          calls_too ls p q h1 k' s.alike vs ws alike' xs (Waits g n' (results_of r.setting.edge function) next ∷ ys) based (passed only based (frames_wider h1 k' p.begun (omega (arith, less)) (frames_now h1 k' s))) function b d (Runs g n' y e ys q k) v
           (find r.target ins_t function) (find r.source ins_s function) (find_alike function ins_t ins_s all_t) a
 
       at_returns : (vs : List Value) (h : Holding) (y : B) (k : Holding) (e : ℕ) (d : Block) → Within b d → LastAlike r n p q h0 k0 f g (Returns vs) h (s_step r y k).last (s_step r y k).holding → Ans ls (t_acts (Some (Returns vs)) f n xs p h) b (Runs g n' y e ys q k) d
@@ -375,7 +472,7 @@ module _ {F A G B : Type 0} (r : Relation F A G B) (is : Keeps r) (pays : Pays r
           let ends = ends_stands h k' m.3.alike in
           let h1 = without_own r.target f n h in
           let k1 = without_own r.source g n' k' in
-          returns_too ls p q h1 k1 ends.alike vs m.0 m.2 b (frames_later h k' h1 k1 (frames_now h k' m.3) ends.later) (omega (arith, less)) based d (Runs g n' y e ys q k) v (act_is y k e (Returns m.0) m.1)
+          returns_too ls p q h1 k1 ends.alike vs b (frames_later h k' h1 k1 (frames_now h k' m.3) ends.later) (omega (arith, less)) based m.0 (all_first vs m.0 m.2) d (Runs g n' y e ys q k) v (act_is y k e (Returns m.0) m.1)
 
       at_last : (y : B) (o : Option (Last A)) (h : Holding) → Does r n p q h0 k0 f g o h b y c → Ans ls (t_acts o f n xs p h) b (Runs g n' y e' ys q k0) c
       at_last y None h m = fails_soon g n' ys q m
@@ -404,7 +501,7 @@ module _ {F A G B : Type 0} (r : Relation F A G B) (is : Keeps r) (pays : Pays r
       at None (Some y) ready = absurd ready
       at (Some x) (Some y) ready = begins_going ls f g found p q h k alike xs ys based fr x y nothing nothing (nothing_under nothing) ready
 
-  module _ (ls : List RunLabel) (p q : Past) (h k : Holding) (alike : r.alike p h q k) (vs ws : List Value) (same : AllSame r vs ws) (out : outward ≡ true) where
+  module _ (ls : List RunLabel) (p q : Past) (h k : Holding) (alike : r.alike p h q k) (vs : List Value) (out : outward ≡ true) where
     not_based : {X : Type 0} → Based outward [] → X
     not_based b = let no : ⊥ = subst (λ v. Based v []) out b in absurd no
 
@@ -414,48 +511,72 @@ module _ {F A G B : Type 0} (r : Relation F A G B) (is : Keeps r) (pays : Pays r
     resumes_later f g n n' made less equal xs ys based fr c z (Some x) (Some y) ready e =
         step (Runs g n' y 0 ys q k) e (going ls f g n n' 0 p q h k x h (begun T (Runs f n x 0 xs p h)) xs ys made less equal based fr (ready nothing c (nothing_under c)))
 
+    abbrev Back_to : List (Frame F A) → Thread G B → Block → Type 0
+    Back_to xs z c = Fol ls (comes_back (Some vs) xs p h) (begun T (comes_back (Some vs) xs p h)) z c
+
+    -- the source is about to return to the outside what came back
+    leaving_later : (xs : List (Frame F A)) (ys : List (Frame G B)) → Frames h k p.begun xs ys → (o o' : Option (List Value)) → SameIf r o o' → (c : Block) (z : Thread G B) → waiting_price r.target.tariff r.targets ≤ c.price → Subsequence (below r.target xs []) (S.open_functions z) → S.act z ≡ leaves_with r.setting.layout o' ys q k → Fol ls (leaves_later o xs p h) (begun T (leaves_later o xs p h)) z c
+    leaving_later xs ys fr o None same c z w opened e = fails_follows (subst (λ (v : Act (Thread G B)). IsBad v) (sym e) tt)
+    leaving_later xs ys fr None (Some ws) same c z w opened e = absurd same
+    leaving_later xs ys fr (Some us) (Some ws) same c z w opened e = related (leaving ws ys q k out e opened (waiting_within c w) same alike fr)
+
+    -- what follows in the source on a result that is only passed on
+    passes_back : (n : ℕ) (g : G) (xs : List (Frame F A)) (ys : List (Frame G B)) → r.source.blocks g ≡ [] → (next : List Value → Option B) → Subsequence (below r.target xs []) (below r.source ys (r.source.name g ∷ [])) → (ws' : List Value) → FirstSame vs ws' → (y : B) → PassesOn r ws' (Some y) → ((us : List Value) → FirstSame vs us → (c' : Block) (z' : Thread G B) → waiting_price r.target.tariff r.targets ≤ c'.price → Subsequence (below r.target xs []) (S.open_functions z') → S.act z' ≡ returns r.setting.layout us ys q k → Back_to xs z' c') → (c : Block) → step_price r.source.tariff r.sources y ≤ c.price → Back_to xs (Runs g n y 0 ys q k) c
+    passes_back n g xs ys none next opened ws' s y (fails_then form) more c le = fails_follows (failing_form g n 0 ys q k y form)
+    passes_back n g xs ys none next opened ws' s y (returns_first us rest are form less) more c le =
+        more us (fewer_first vs us rest (subst (λ v. FirstSame vs v) are s)) c (Runs g n y 0 ys q k) (omega (arith, le, less))
+        (subst (λ (v : _). Subsequence (below r.target xs []) (below r.source ys (r.source.name g ∷ called (performed r.setting.edge.cells r.setting.words v (record { holding = k; footprint = nothing_touched })).last))) (sym form) opened)
+        (passing_on g next n 0 ys q k us y none form)
+
     -- the source is about to return what came back
-    back_later : {m : ℕ} {xs : List (Frame F A)} {ys : List (Frame G B)} → Frames h k m xs ys → m ≤ p.begun → Based outward xs → (c : Block) (z : Thread G B) → waiting_price r.target.tariff r.targets ≤ c.price → Subsequence (below r.target xs []) (S.open_functions z) → S.act z ≡ returns r.setting.layout ws ys q k → Fol ls (comes_back (Some vs) xs p h) (begun T (comes_back (Some vs) xs p h)) z c
-    back_later bottom less based c z w opened e = not_based based
-    back_later (outer {xs = xs} {ys = ys} o fr) less based c z w opened e = related (leaving ws ys q k out e opened (waiting_within c w) same alike (frames_wider h k p.begun less fr))
-    back_later (under {n = n} {n' = n'} {f = f} {g = g} {next = next} {next' = next'} {xs = xs} {ys = ys} below' equal made wait under' fr) less based c z w opened e =
-        resumes_later f g n n' made (omega (arith, below', less)) equal xs ys under' fr c z (next vs) (next' ws) (wait p q h k (is.at_once (n + 1) h k) alike vs ws same) e
-    back_later (passed {n = n} {g = g} {next' = next'} {xs = xs} {ys = ys} only under' fr) less based c z w opened e =
-        passing_back n g xs ys only.0 next' (next' ws) (only.1 ws) (frames_open fr [] (r.source.name g ∷ []) (skip done)) c z w (λ z' c' w' opened' e'. back_later fr less based c' z' w' opened' e') e
+    back_later : {m : ℕ} {xs : List (Frame F A)} {ys : List (Frame G B)} → Frames h k m xs ys → m ≤ p.begun → Based outward xs → (ws : List Value) → FirstSame vs ws → (c : Block) (z : Thread G B) → waiting_price r.target.tariff r.targets ≤ c.price → Subsequence (below r.target xs []) (S.open_functions z) → S.act z ≡ returns r.setting.layout ws ys q k → Back_to xs z c
+    back_later bottom less based ws s c z w opened e = not_based based
+    back_later (outer {results = results} {xs = xs} {ys = ys} o fr) less based ws s c z w opened e = leaving_later xs ys (frames_wider h k p.begun less fr) (kept_results results vs) (kept_results results ws) (kept_same results vs ws s) c z w opened e
+    back_later (under {n = n} {n' = n'} {f = f} {g = g} {results = results} {next = next} {next' = next'} {xs = xs} {ys = ys} below' equal made wait under' fr) less based ws s c z w opened e =
+        resumes_later f g n n' made (omega (arith, below', less)) equal xs ys under' fr c z (and_then (kept_results results vs) next) (and_then (kept_results results ws) next') (waits_ready f g n p q h k alike results next next' wait vs ws s) e
+    back_later (passed {n = n} {g = g} {results = results} {next' = next'} {xs = xs} {ys = ys} only under' fr) less based ws s c z w opened e =
+        by (kept_results results ws) refl (λ us s' c' z' w' opened' e'. back_later fr less under' us s' c' z' w' opened' e') e
       where
-        passing_back : (n : ℕ) (g : G) (xs : List (Frame F A)) (ys : List (Frame G B)) → r.source.blocks g ≡ [] → (next' : List Value → Option B) (o : Option B) → PassesOn r g o ws → Subsequence (below r.target xs []) (below r.source ys (r.source.name g ∷ [])) → (c : Block) (z : Thread G B) → waiting_price r.target.tariff r.targets ≤ c.price → ((z' : Thread G B) (c' : Block) → waiting_price r.target.tariff r.targets ≤ c'.price → Subsequence (below r.target xs []) (S.open_functions z') → S.act z' ≡ returns r.setting.layout ws ys q k → Fol ls (comes_back (Some vs) xs p h) (begun T (comes_back (Some vs) xs p h)) z' c') → S.act z ≡ goes_back g n o ys q k → Fol ls (comes_back (Some vs) xs p h) (begun T (comes_back (Some vs) xs p h)) z c
-        passing_back n g xs ys none next' None passes opened c z w more e = fails_follows (subst (λ (v : Act (Thread G B)). IsBad v) (sym e) tt)
-        passing_back n g xs ys none next' (Some y) passes opened c z w more e =
-            let z' : Thread G B = Runs g n y 0 ys q k in
-            step z' e (more z' (onward S c z') (omega (arith, w)) (subst (λ (v : _). Subsequence (below r.target xs []) (below r.source ys (r.source.name g ∷ called (performed r.setting.edge.cells r.setting.words v (record { holding = k; footprint = nothing_touched })).last))) (sym passes.0) opened) (passing_on g next' n 0 ys q k ws y none passes.0))
+        on : (ws' : List Value) → FirstSame vs ws' → (o : Option B) → PassesOn r ws' o → ((us : List Value) → FirstSame vs us → (c' : Block) (z' : Thread G B) → waiting_price r.target.tariff r.targets ≤ c'.price → Subsequence (below r.target xs []) (S.open_functions z') → S.act z' ≡ returns r.setting.layout us ys q k → Back_to xs z' c') → S.act z ≡ goes_back g n o ys q k → Back_to xs z c
+        on ws' s' None passes more f = fails_follows (subst (λ (v : Act (Thread G B)). IsBad v) (sym f) tt)
+        on ws' s' (Some y) passes more f = step (Runs g n y 0 ys q k) f (passes_back n g xs ys only.0 next' (frames_open fr [] (r.source.name g ∷ []) (skip done)) ws' s' y passes more (onward S c (Runs g n y 0 ys q k)) (omega arith))
+
+        by : (o : Option (List Value)) → kept_results results ws ≡ o → ((us : List Value) → FirstSame vs us → (c' : Block) (z' : Thread G B) → waiting_price r.target.tariff r.targets ≤ c'.price → Subsequence (below r.target xs []) (S.open_functions z') → S.act z' ≡ returns r.setting.layout us ys q k → Back_to xs z' c') → S.act z ≡ goes_back g n (and_then o next') ys q k → Back_to xs z c
+        by None i more f = fails_follows (subst (λ (v : Act (Thread G B)). IsBad v) (sym f) tt)
+        by (Some ws') i more f = let kept = kept_of results ws ws' i in on ws' (fewer_first vs ws' kept.more (subst (λ v. FirstSame vs v) kept.are s)) (next' ws') (only.1 ws' kept.count) more f
 
     -- what comes back, at once
-    back_too : {m : ℕ} {xs : List (Frame F A)} {ys : List (Frame G B)} → Frames h k m xs ys → m ≤ p.begun → Fol ls (comes_back (Some vs) xs p h) (begun T (comes_back (Some vs) xs p h)) (comes_back (Some ws) ys q k) (begun S (comes_back (Some ws) ys q k))
-    back_too bottom less = related (broken tt)
-    back_too (outer {xs = xs} {ys = ys} o fr) less = related (leaving ws ys q k out refl (frames_open fr [] [] done) waits_within same alike (frames_wider h k p.begun less fr))
-    back_too (under {n = n} {n' = n'} {f = f} {g = g} {next = next} {next' = next'} {xs = xs} {ys = ys} below' equal made wait under' fr) less =
-        at (next vs) (next' ws) (wait p q h k (is.at_once (n + 1) h k) alike vs ws same)
+    back_too : {m : ℕ} {xs : List (Frame F A)} {ys : List (Frame G B)} → Frames h k m xs ys → m ≤ p.begun → (ws : List Value) → FirstSame vs ws → Back_to xs (comes_back (Some ws) ys q k) (begun S (comes_back (Some ws) ys q k))
+    back_too bottom less ws s = related (broken tt)
+    back_too (outer {results = results} {xs = xs} {ys = ys} o fr) less ws s = by (kept_results results vs) (kept_results results ws) (kept_same results vs ws s)
+      where
+        by : (o o' : Option (List Value)) → SameIf r o o' → Fol ls (leaves_later o xs p h) (begun T (leaves_later o xs p h)) (leaves_later o' ys q k) (begun S (leaves_later o' ys q k))
+        by o None same = related (broken tt)
+        by None (Some us) same = absurd same
+        by (Some us) (Some ws') same = related (leaving ws' ys q k out refl (frames_open fr [] [] done) waits_within same alike (frames_wider h k p.begun less fr))
+    back_too (under {n = n} {n' = n'} {f = f} {g = g} {results = results} {next = next} {next' = next'} {xs = xs} {ys = ys} below' equal made wait under' fr) less ws s =
+        at (and_then (kept_results results vs) next) (and_then (kept_results results ws) next') (waits_ready f g n p q h k alike results next next' wait vs ws s)
       where
         at : (o : Option A) (o' : Option B) → ReadyIf r f g n p q o 0 h o' 0 k → Fol ls (resumes f n o xs p h) (begun T (resumes f n o xs p h)) (resumes g n' o' ys q k) (begun S (resumes g n' o' ys q k))
         at None None ready = related (broken tt)
         at (Some x) None ready = related (broken tt)
         at None (Some y) ready = absurd ready
         at (Some x) (Some y) ready = going ls f g n n' 0 p q h k x h (begun T (Runs f n x 0 xs p h)) xs ys made (omega (arith, below', less)) equal under' fr (ready nothing nothing (nothing_under nothing))
-    back_too (passed {n = n} {g = g} {next' = next'} {xs = xs} {ys = ys} only under' fr) less = at (next' ws) (only.1 ws)
+    back_too (passed {n = n} {g = g} {results = results} {next' = next'} {xs = xs} {ys = ys} only under' fr) less ws s = by (kept_results results ws) refl
       where
-        at : (o : Option B) → PassesOn r g o ws → Fol ls (comes_back (Some vs) xs p h) (begun T (comes_back (Some vs) xs p h)) (resumes g n o ys q k) (begun S (resumes g n o ys q k))
-        at None passes = related (broken tt)
-        at (Some y) passes =
-            let z : Thread G B = Runs g n y 0 ys q k in
-            let le = passes.1 in
-            back_later fr less under' (begun S z) z (omega (arith, le))
-            (subst (λ (v : _). Subsequence (below r.target xs []) (below r.source ys (r.source.name g ∷ called (performed r.setting.edge.cells r.setting.words v (record { holding = k; footprint = nothing_touched })).last))) (sym passes.0) (frames_open fr [] (r.source.name g ∷ []) (skip done)))
-            (passing_on g next' n 0 ys q k ws y only.0 passes.0)
+        on : (ws' : List Value) → FirstSame vs ws' → (o : Option B) → PassesOn r ws' o → Back_to xs (resumes g n o ys q k) (begun S (resumes g n o ys q k))
+        on ws' s' None passes = related (broken tt)
+        on ws' s' (Some y) passes =
+            passes_back n g xs ys only.0 next' (frames_open fr [] (r.source.name g ∷ []) (skip done)) ws' s' y passes (λ us s'' c' z' w' opened' e'. back_later fr less under' us s'' c' z' w' opened' e') (begun S (Runs g n y 0 ys q k)) (omega arith)
+
+        by : (o : Option (List Value)) → kept_results results ws ≡ o → Back_to xs (resumes g n (and_then o next') ys q k) (begun S (resumes g n (and_then o next') ys q k))
+        by None i = related (broken tt)
+        by (Some ws') i = let kept = kept_of results ws ws' i in on ws' (fewer_first vs ws' kept.more (subst (λ v. FirstSame vs v) kept.are s)) (next' ws') (only.1 ws' kept.count)
 
   backs_too : (ls : List RunLabel) (p q : Past) (h k : Holding) → r.alike p h q k → outward ≡ true → (xs : List (Frame F A)) (ys : List (Frame G B)) → Frames h k p.begun xs ys → (vs ws : Option (List Value)) → SameIf r vs ws → Fol ls (comes_back vs xs p h) (begun T (comes_back vs xs p h)) (comes_back ws ys q k) (begun S (comes_back ws ys q k))
   backs_too ls p q h k alike out xs ys fr vs None same = related (broken tt)
   backs_too ls p q h k alike out xs ys fr None (Some ws) same = absurd same
-  backs_too ls p q h k alike out xs ys fr (Some vs) (Some ws) same = back_too ls p q h k alike vs ws same out fr (omega arith)
+  backs_too ls p q h k alike out xs ys fr (Some vs) (Some ws) same = back_too ls p q h k alike vs out fr (omega arith) ws (all_first vs ws same)
 
   module _ (all : AllMade r.made r.targets r.sources) (all_t : AllMade r.made ins_t ins_s) where
     heard_too : (ls : List RunLabel) (p q : Past) (h k : Holding) → r.alike p h q k → outward ≡ true → (xs : List (Frame F A)) (ys : List (Frame G B)) → Frames h k p.begun xs ys → (l : RunLabel) → MayBring r.setting.edge ls l → Fol (l ∷ ls) (hears r.target there scene_t xs p h l) (begun T (hears r.target there scene_t xs p h l)) (hears r.source r.setting scene_s ys q k l) (begun S (hears r.source r.setting scene_s ys q k l))
@@ -465,13 +586,13 @@ module _ {F A G B : Type 0} (r : Relation F A G B) (is : Keeps r) (pays : Pays r
         let q' = with_naming q (brought_in r q k crossing).naming in
         let h' = heard r p h crossing in
         let k' = heard r q k crossing in
-        (enters_too (Enter name crossing ∷ ls) p' q' h' k' s.0.alike (Outer ∷ xs) (Outer ∷ ys) outer_based (outer out (frames_later h k h' k' fr s.0.later)) (find r.target r.targets name) (find r.source r.sources name)
+        (enters_too (Enter name crossing ∷ ls) p' q' h' k' s.0.alike (Outer (results_of r.setting.edge name) ∷ xs) (Outer (results_of r.setting.edge name) ∷ ys) outer_based (outer out (frames_later h k h' k' fr s.0.later)) (find r.target r.targets name) (find r.source r.sources name)
         (all_taken (brought_in r p h crossing).naming crossing.values) (all_taken (brought_in r q k crossing).naming crossing.values) (find_alike name r.targets r.sources all) s.1)
       where
-        outer_based : Based outward (Outer ∷ xs)
+        outer_based : Based outward (Outer (results_of r.setting.edge name) ∷ xs)
         outer_based = on outward
           where
-            on : (o : Bool) → Based o (Outer ∷ xs)
+            on : (o : Bool) → Based o (Outer (results_of r.setting.edge name) ∷ xs)
             on true = tt
             on false = tt
     heard_too ls p q h k alike out xs ys fr (Back crossing) m =

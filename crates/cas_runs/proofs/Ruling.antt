@@ -1,7 +1,7 @@
 -- The machines of the layer of calls keep the rules, whatever the activations do.
 use Rattle.std.proofs.Common.{◌≡◌, ℕ, zero, suc, ◌+◌, ◌≤◌, List, [], ◌∷◌, Option, Some, None, Bool, true, false, if◌then◌else◌, slice_get, refl, sym, ap, ◌∙◌, subst, arith}
 use Rattle.cas_runs.specs.Label.{NameBytes, same_name, Share, Crossing, RunLabel, Lock, Unlock, Out, Done, Enter, Back, Call, Leave, locks_of}
-use Rattle.cas_runs.specs.Edge.{Cell, LockWord, SharedWord, TableWord, Edge, AreGuarded, IsOrdered}
+use Rattle.cas_runs.specs.Edge.{Cell, LockWord, SharedWord, TableWord, Edge, AreGuarded, IsOrdered, results_of}
 use Rattle.cas_runs.specs.Outside.{Pending, Called, Entered, without_newest, pending, crossed, IsAmong, Brings, MayBring}
 use Rattle.cas_runs.specs.Naming.{Value, Number, ArePlaced, Part, parts_at, Naming, and_then, all_named_by, objects_of, same_objects, all_taken, brought}
 use Rattle.cas_runs.specs.Machine.{Act, Quiet, Says, Crosses, Locks, Hears, Bad, Stops, label_of, Machine, CanCross, Leads, Block, Run, starts as begins_run, quiet, labelled}
@@ -11,7 +11,7 @@ use Rattle.cas_runs.specs.Refines.{Refines}
 use Rattle.cas_runs.specs.Bounds.{IsTariff}
 use Rattle.cas_runs.specs.Access.{Stretch, Holding, words_in, with_lock, without_lock}
 use Rattle.cas_runs.specs.Unit.{Setting, AreLaidOut, IsLayout, lock_at, lock_number, guard_of}
-use Rattle.cas_runs.specs.Calls.{Last, Goes, Takes, Gives, Puts, Calls, Tails, Returns, Activations, Scene, Frame, Waits, Outer, Past, Thread, Away, Runs, Leaves as LeavesNow, Over, Wrong, nothing_touched, same_share, if_shown, crosses_as, can_cross, with_naming, to_outside, calls_by, leaves_by, crosses_if, leaves, goes_back, returns, resumes, comes_back, with_share, takes_lock, takes, gives_lock, gives, find, with_own, without_own, one_begun, calls_in, enters_at, enters, step_at, calls_out, calls, acts, hears, machine, no_past, no_holding, outside_first, starts, language}
+use Rattle.cas_runs.specs.Calls.{Last, Goes, Takes, Gives, Puts, Calls, Tails, Returns, Activations, Scene, Frame, Waits, Outer, Past, Thread, Away, Runs, Leaves as LeavesNow, Over, Wrong, nothing_touched, same_share, if_shown, crosses_as, can_cross, with_naming, to_outside, calls_by, leaves_by, crosses_if, leaves, kept_results, leaves_with, leaves_later, goes_back, returns, resumes, comes_back, with_share, takes_lock, takes, gives_lock, gives, find, with_own, without_own, one_begun, calls_in, enters_at, enters, step_at, calls_out, calls, acts, hears, machine, no_past, no_holding, outside_first, starts, language}
 use Rattle.cas_runs.proofs.Composing.{refines_itself}
 use Rattle.cas_runs.proofs.Tests.{objects_from, share_from, same_name_self}
 use Rattle.cas_runs.proofs.Showing.{some_crossing}
@@ -35,8 +35,8 @@ guard_is edge (Some s) n e = let is = lock_is (slice_get edge.cells s.first) s.f
 mutual
   pub data RunsFor {F A : Type 0} : List Pending → List (Frame F A) → Type 0 where
     at_bottom : RunsFor [] []
-    at_waits : {ps : List Pending} {f : F} {n : ℕ} {next : List Value → Option A} {stack : List (Frame F A)} → RunsFor ps stack → RunsFor ps (Waits f n next ∷ stack)
-    at_outer : {ps : List Pending} {g : NameBytes} {stack : List (Frame F A)} → AwayFor ps stack → RunsFor (Entered g ∷ ps) (Outer ∷ stack)
+    at_waits : {ps : List Pending} {f : F} {n : ℕ} {results : Option ℕ} {next : List Value → Option A} {stack : List (Frame F A)} → RunsFor ps stack → RunsFor ps (Waits f n results next ∷ stack)
+    at_outer : {ps : List Pending} {g : NameBytes} {results : Option ℕ} {stack : List (Frame F A)} → AwayFor ps stack → RunsFor (Entered g ∷ ps) (Outer results ∷ stack)
 
   pub data AwayFor {F A : Type 0} : List Pending → List (Frame F A) → Type 0 where
     at_first : AwayFor [] []
@@ -210,8 +210,12 @@ module _ {F A : Type 0} (l : Activations F A) (setting : Setting) (scene : Scene
 
   returns_sound : (ls : List RunLabel) (p : Past) (h : Holding) → Common ls p h → (values : List Value) (ps : List Pending) (stack : List (Frame F A)) → pending ls ≡ ps → RunsFor ps stack → Sound ls (returns setting.layout values stack p h)
   returns_sound ls p h c values ps stack e at_bottom = (tt, over refl)
-  returns_sound ls p h c values ps stack e (at_waits {f = f} {n = n} {next = next} {stack = rest} w) = goes_back_sound ls p h c f n rest (subst (λ v. RunsFor v rest) (sym e) w) (next values)
-  returns_sound ls p h c values ps stack e (at_outer {ps = older} {g = g} {stack = rest} w) = leaves_sound ls p h c values rest g older e w
+  returns_sound ls p h c values ps stack e (at_waits {f = f} {n = n} {results = results} {next = next} {stack = rest} w) = goes_back_sound ls p h c f n rest (subst (λ v. RunsFor v rest) (sym e) w) (and_then (kept_results results values) next)
+  returns_sound ls p h c values ps stack e (at_outer {ps = older} {g = g} {results = results} {stack = rest} w) = by (kept_results results values)
+    where
+      by : (o : Option (List Value)) → Sound ls (leaves_with setting.layout o rest p h)
+      by None = tt
+      by (Some kept) = leaves_sound ls p h c kept rest g older e w
 
   begins_sound : (ls : List RunLabel) (p : Past) (h : Holding) → Common ls p h → (f : F) → Laid f → (stack : List (Frame F A)) → RunsFor (pending ls) stack → (o : Option A) → Sound ls (calls_in l f o stack p h)
   begins_sound ls p h c f k stack w None = tt
@@ -278,7 +282,7 @@ module _ {F A : Type 0} (l : Activations F A) (setting : Setting) (scene : Scene
   acts_sound ls p h c f n stack w (Some (Takes lock next)) = takes_sound ls p h c next f n stack w lock (guard_of E setting.words lock) refl
   acts_sound ls p h c f n stack w (Some (Gives lock next)) = gives_sound ls p h c next f n stack w (guard_of E setting.words lock)
   acts_sound ls p h c f n stack w (Some (Puts word next)) = (tt, runs (share_common ls (Out word ∷ ls) p h h.share c refl c.ordered c.locks) w)
-  acts_sound ls p h c f n stack w (Some (Calls function values next)) = calls_sound ls p h c function values (Waits f n next ∷ stack) (at_waits w) (find l scene.within function) refl
+  acts_sound ls p h c f n stack w (Some (Calls function values next)) = calls_sound ls p h c function values (Waits f n (results_of E function) next ∷ stack) (at_waits w) (find l scene.within function) refl
   acts_sound ls p h c f n stack w (Some (Tails function values)) = calls_sound ls p (without_own l f n h) (ends_common ls p h f n c) function values stack w (find l scene.within function) refl
   acts_sound ls p h c f n stack w (Some (Returns values)) = returns_sound ls p (without_own l f n h) (ends_common ls p h f n c) values (pending ls) stack refl w
 
@@ -306,13 +310,17 @@ module _ {F A : Type 0} (l : Activations F A) (setting : Setting) (scene : Scene
   back_inv ls crossing p h c None ps stack e w = wrong
   back_inv ls crossing p h c (Some values) ps stack e at_first = wrong
   back_inv ls crossing p h c (Some values) ps stack e (at_call at_bottom) = wrong
-  back_inv ls crossing p h c (Some values) ps stack e (at_call (at_waits {f = f} {n = n} {next = next} {stack = rest} w)) = resumes_inv (Back crossing ∷ ls) p h c f n rest (subst (λ v. RunsFor v rest) (sym (ap without_newest e)) w) (next values)
-  back_inv ls crossing p h c (Some values) ps stack e (at_call (at_outer {ps = older} {g = g} w)) = leaving g older c (ap without_newest e) w
+  back_inv ls crossing p h c (Some values) ps stack e (at_call (at_waits {f = f} {n = n} {results = results} {next = next} {stack = rest} w)) = resumes_inv (Back crossing ∷ ls) p h c f n rest (subst (λ v. RunsFor v rest) (sym (ap without_newest e)) w) (and_then (kept_results results values) next)
+  back_inv ls crossing p h c (Some values) ps stack e (at_call (at_outer {ps = older} {g = g} {results = results} {stack = rest} w)) = by (kept_results results values)
+    where
+      by : (o : Option (List Value)) → Inv (Back crossing ∷ ls) (leaves_later o rest p h)
+      by None = wrong
+      by (Some kept) = leaving g older c (ap without_newest e) w
 
   hears_inv : (ls : List RunLabel) (p : Past) (h : Holding) → Common ls p h → ExactAll setting.layout (crossed ls) h.memory p.naming → (ps : List Pending) (stack : List (Frame F A)) → pending ls ≡ ps → AwayFor ps stack → (k : RunLabel) → MayBring E ls k → Inv (k ∷ ls) (hears l setting scene stack p h k)
   hears_inv ls p h c exact ps stack e w (Enter name crossing) m =
       let d = in_common ls (Enter name crossing) p h c exact crossing m.brings refl refl in
-      enters_inv (Enter name crossing ∷ ls) _ _ d (Outer ∷ stack) (subst (λ v. RunsFor (Entered name ∷ v) (Outer ∷ stack)) (sym e) (at_outer w)) (all_taken (brought h.memory p.naming 0 crossing.objects).naming crossing.values) (find l scene.functions name)
+      enters_inv (Enter name crossing ∷ ls) _ _ d (Outer (results_of E name) ∷ stack) (subst (λ v. RunsFor (Entered name ∷ v) (Outer (results_of E name) ∷ stack)) (sym e) (at_outer w)) (all_taken (brought h.memory p.naming 0 crossing.objects).naming crossing.values) (find l scene.functions name)
       (λ f g. find_laid scene.functions laid name f g)
   hears_inv ls p h c exact ps stack e w (Back crossing) m =
       back_inv ls crossing _ _ (in_common ls (Back crossing) p h c exact crossing m.brings refl refl) (all_taken (brought h.memory p.naming 0 crossing.objects).naming crossing.values) ps stack e w
@@ -383,8 +391,12 @@ module _ {F A : Type 0} (l : Activations F A) (setting : Setting) (scene : Scene
 
   returns_label : (values : List Value) (stack : List (Frame F A)) (p : Past) (h : Holding) → HasLabel (returns setting.layout values stack p h)
   returns_label values [] p h = tt
-  returns_label values (Outer ∷ stack) p h = leaves_label values stack p h (can_cross setting.layout p values) refl
-  returns_label values (Waits f n next ∷ stack) p h = back_label f n (next values) stack p h
+  returns_label values (Outer results ∷ stack) p h = by (kept_results results values)
+    where
+      by : (o : Option (List Value)) → HasLabel (leaves_with setting.layout o stack p h)
+      by None = tt
+      by (Some kept) = leaves_label kept stack p h (can_cross setting.layout p kept) refl
+  returns_label values (Waits f n results next ∷ stack) p h = back_label f n (and_then (kept_results results values) next) stack p h
 
   any_call_label : (function : NameBytes) (values : List Value) (stack : List (Frame F A)) (p : Past) (h : Holding) (o : Option F) → HasLabel (calls l setting scene o function values stack p h)
   any_call_label function values stack p h (Some f) = by (l.enter f p.begun values)
@@ -420,7 +432,7 @@ module _ {F A : Type 0} (l : Activations F A) (setting : Setting) (scene : Scene
   acts_label (Some (Takes lock next)) f n stack p h = takes_label (guard_of E setting.words lock) next f n stack p h
   acts_label (Some (Gives lock next)) f n stack p h = gives_label (guard_of E setting.words lock) next f n stack p h
   acts_label (Some (Puts word next)) f n stack p h = tt
-  acts_label (Some (Calls function values next)) f n stack p h = any_call_label function values (Waits f n next ∷ stack) p h (find l scene.within function)
+  acts_label (Some (Calls function values next)) f n stack p h = any_call_label function values (Waits f n (results_of E function) next ∷ stack) p h (find l scene.within function)
   acts_label (Some (Tails function values)) f n stack p h = any_call_label function values stack p (without_own l f n h) (find l scene.within function)
   acts_label (Some (Returns values)) f n stack p h = returns_label values stack p (without_own l f n h)
 

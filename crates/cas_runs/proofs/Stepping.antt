@@ -78,7 +78,7 @@ module _ {F A G B : Type 0} (r : Relation F A G B) (At : F → G → A → B →
     does_last n p q h k a h' b y c a' w (gives_at {x = x} {y = y'} at) e = meets (y', e, record { alike = a'; later = plain.later n h k h' (s_step r y k).holding }, shared_ready n p q h' (s_step r y k).holding a' x y' at)
     does_last n p q h k a h' b y c a' w (puts_at {x = x} {y = y'} at) e = meets (y', e, record { alike = a'; later = plain.later n h k h' (s_step r y k).holding }, ready n p q h' (s_step r y k).holding a' x y' at 0 0 (omega arith))
     does_last n p q h k a h' b y c a' w (calls_at {ws = ws} {next = next} {next' = next'} s conts) e =
-        meets (ws, next', e, s, record { alike = a'; later = plain.later n h k h' (s_step r y k).holding }, λ p' q' h'' k'' l a'' us xs same. ready_if n p' q' h'' k'' a'' (next us) (next' xs) (conts us xs same) 0 0 (omega arith))
+        meets (ws, next', e, s, record { alike = a'; later = plain.later n h k h' (s_step r y k).holding }, λ p' q' h'' k'' l a'' us xs same count. ready_if n p' q' h'' k'' a'' (next us) (next' xs) (conts us xs same count) 0 0 (omega arith))
     does_last n p q h k a h' b y c a' w (tails_at {function = function} {vs = vs} {ws = ws} s) e =
         meets (subst (λ o. TailAlike r n p q h k f g function vs h' (s_step r y k).holding o) (sym e) (tail ws s (record { alike = a'; later = plain.later n h k h' (s_step r y k).holding })))
     does_last n p q h k a h' b y c a' w (returns_at {ws = ws} s) e = meets (ws, e, s, record { alike = a'; later = plain.later n h k h' (s_step r y k).holding })

@@ -1,13 +1,14 @@
 -- In the layer of calls a machine waits for the outside exactly after a Call or a Leave, and before the first label.
 use Rattle.std.proofs.Common.{◌≡◌, ℕ, List, [], ◌∷◌, Option, Some, None, Bool, true, false, if◌then◌else◌, refl, sym, subst}
 use Rattle.cas_runs.specs.Label.{NameBytes, same_name, Crossing, RunLabel, Lock, Unlock, Out, Done, Enter, Back, Call, Leave}
+use Rattle.cas_runs.specs.Edge.{results_of}
 use Rattle.cas_runs.specs.Outside.{MayBring}
-use Rattle.cas_runs.specs.Naming.{Value, Number, Naming, all_taken, brought}
+use Rattle.cas_runs.specs.Naming.{Value, Number, Naming, and_then, all_taken, brought}
 use Rattle.cas_runs.specs.Machine.{Act, Quiet, Says, Crosses, Locks, Hears, Bad, Stops, Machine, label_of, CanCross, Leads, Block, Run, starts as begins_run, quiet, labelled}
 use Rattle.cas_runs.specs.Rules.{HasCrossed, MayHear, IsHearing}
 use Rattle.cas_runs.specs.Access.{Holding, words_in, with_lock, without_lock}
 use Rattle.cas_runs.specs.Unit.{Setting, guard_of}
-use Rattle.cas_runs.specs.Calls.{Last, Goes, Takes, Gives, Puts, Calls, Tails, Returns, Activations, Scene, Frame, Waits, Outer, Past, Thread, Away, Runs, Leaves, Over, Wrong, can_cross, crosses_as, with_naming, to_outside, calls_by, leaves_by, crosses_if, goes_back, returns, resumes, comes_back, with_share, takes_lock, takes, gives_lock, gives, find, without_own, calls_in, enters_at, enters, step_at, calls_out, calls, acts, hears, machine, no_past, no_holding, outside_first, starts}
+use Rattle.cas_runs.specs.Calls.{Last, Goes, Takes, Gives, Puts, Calls, Tails, Returns, Activations, Scene, Frame, Waits, Outer, Past, Thread, Away, Runs, Leaves, Over, Wrong, can_cross, crosses_as, with_naming, to_outside, calls_by, leaves_by, crosses_if, kept_results, leaves_with, leaves_later, goes_back, returns, resumes, comes_back, with_share, takes_lock, takes, gives_lock, gives, find, without_own, calls_in, enters_at, enters, step_at, calls_out, calls, acts, hears, machine, no_past, no_holding, outside_first, starts}
 use Rattle.cas_runs.proofs.Composing.{said_stays, brought_stays}
 
 module _ {F A : Type 0} (l : Activations F A) (setting : Setting) (scene : Scene F) (start : Thread F A) where
@@ -70,8 +71,12 @@ module _ {F A : Type 0} (l : Activations F A) (setting : Setting) (scene : Scene
 
   returns_own : (values : List Value) (stack : List (Frame F A)) (p : Past) (h : Holding) → Own (returns setting.layout values stack p h)
   returns_own values [] p h = λ away. away
-  returns_own values (Outer ∷ stack) p h = leaves_own values stack p h (can_cross setting.layout p values)
-  returns_own values (Waits f n next ∷ stack) p h = back_own f n (next values) stack p h
+  returns_own values (Outer results ∷ stack) p h = by (kept_results results values)
+    where
+      by : (o : Option (List Value)) → Own (leaves_with setting.layout o stack p h)
+      by None = tt
+      by (Some kept) = leaves_own kept stack p h (can_cross setting.layout p kept)
+  returns_own values (Waits f n results next ∷ stack) p h = back_own f n (and_then (kept_results results values) next) stack p h
 
   calls_own : (function : NameBytes) (values : List Value) (stack : List (Frame F A)) (p : Past) (h : Holding) (o : Option F) → Own (calls l setting scene o function values stack p h)
   calls_own function values stack p h (Some f) = by (l.enter f p.begun values)
@@ -111,7 +116,7 @@ module _ {F A : Type 0} (l : Activations F A) (setting : Setting) (scene : Scene
   acts_own (Some (Takes lock next)) f n stack p h = takes_own (guard_of setting.edge setting.words lock) next f n stack p h
   acts_own (Some (Gives lock next)) f n stack p h = gives_own (guard_of setting.edge setting.words lock) next f n stack p h
   acts_own (Some (Puts word next)) f n stack p h = λ away. away
-  acts_own (Some (Calls function values next)) f n stack p h = calls_own function values (Waits f n next ∷ stack) p h (find l scene.within function)
+  acts_own (Some (Calls function values next)) f n stack p h = calls_own function values (Waits f n (results_of setting.edge function) next ∷ stack) p h (find l scene.within function)
   acts_own (Some (Tails function values)) f n stack p h = calls_own function values stack p (without_own l f n h) (find l scene.within function)
   acts_own (Some (Returns values)) f n stack p h = returns_own values stack p (without_own l f n h)
 
@@ -136,15 +141,19 @@ module _ {F A : Type 0} (l : Activations F A) (setting : Setting) (scene : Scene
   back_stays : (values : Option (List Value)) (stack : List (Frame F A)) (p : Past) (h : Holding) → IsAway (comes_back values stack p h) → ⊥
   back_stays None stack p h away = away
   back_stays (Some values) [] p h away = away
-  back_stays (Some values) (Outer ∷ stack) p h away = away
-  back_stays (Some values) (Waits f n next ∷ stack) p h away = by (next values) away
+  back_stays (Some values) (Outer results ∷ stack) p h away = by (kept_results results values) away
+    where
+      by : (o : Option (List Value)) → IsAway (leaves_later o stack p h) → ⊥
+      by None away = away
+      by (Some kept) away = away
+  back_stays (Some values) (Waits f n results next ∷ stack) p h away = by (and_then (kept_results results values) next) away
     where
       by : (o : Option A) → IsAway (resumes f n o stack p h) → ⊥
       by None away = away
       by (Some a) away = away
 
   heard_stays : (stack : List (Frame F A)) (p : Past) (h : Holding) (k : RunLabel) → IsAway (hears l setting scene stack p h k) → ⊥
-  heard_stays stack p h (Enter name crossing) away = entered_stays (find l scene.functions name) (all_taken (brought h.memory p.naming 0 crossing.objects).naming crossing.values) (Outer ∷ stack) _ _ away
+  heard_stays stack p h (Enter name crossing) away = entered_stays (find l scene.functions name) (all_taken (brought h.memory p.naming 0 crossing.objects).naming crossing.values) (Outer (results_of setting.edge name) ∷ stack) _ _ away
   heard_stays stack p h (Back crossing) away = back_stays (all_taken (brought h.memory p.naming 0 crossing.objects).naming crossing.values) stack _ _ away
   heard_stays stack p h (Lock lock ws) away = away
   heard_stays stack p h (Unlock lock ws) away = away

@@ -1,6 +1,7 @@
 -- The layer of calls: a language gives the steps of one activation, and calls, crossings, locks, shares, memory and prices are told here once.
 use Rattle.std.specs.Prelude.{ℕ, zero, suc, ◌+◌, nat_eq, Bool, true, false, List, [], ◌∷◌, Option, Some, None, if◌then◌else◌}
 use Rattle.cas_runs.specs.Label.{NameBytes, same_name, Share, Crossing, RunLabel, Enter, Back, Call, Leave}
+use Rattle.cas_runs.specs.Edge.{results_of}
 use Rattle.cas_runs.specs.Naming.{Own, Value, Number, Layout, parts_at, Naming, Memory, and_then, all_named_by, can_show_all, objects_of, same_objects, all_taken, with_block, brought}
 use Rattle.cas_runs.specs.Machine.{Footprint, Act, Quiet, Says, Crosses, Locks, Hears, Bad, Stops, Ended, Taken, Unlocks, Prints, Ends, Machine}
 use Rattle.cas_runs.specs.Bounds.{Tariff, step_price, first_price, waiting_price}
@@ -32,10 +33,10 @@ pub record Scene (F : Type 0) : Type 0 where
   pub within : List F
   pub crosses : Bool
 
--- what waits below the newest activation: an activation for the result of its call, or the outside
+-- what waits below the newest activation: an activation for the result of its call, or the outside, and how many values the function that it called returns
 pub data Frame (F A : Type 0) : Type 0 where
-  Waits : (function : F) (serial : ℕ) (next : List Value → Option A) → Frame F A
-  Outer : Frame F A
+  Waits : (function : F) (serial : ℕ) (results : Option ℕ) (next : List Value → Option A) → Frame F A
+  Outer : (results : Option ℕ) → Frame F A
 
 -- the objects that have crossed, and how many activations have begun
 pub record Past : Type 0 where
@@ -109,6 +110,18 @@ can_cross layout past values = can_show_all (parts_at layout past.begun) past.na
 abbrev pub with_naming : Past → Naming → Past
 with_naming past ns = record { naming = ns; begun = past.begun }
 
+-- the first values, if there are so many
+abbrev pub first_values : ℕ → List Value → Option (List Value)
+first_values zero values = Some []
+first_values (suc n) [] = None
+first_values (suc n) (v ∷ values) = and_then (first_values n values) (λ firsts. Some (v ∷ firsts))
+
+-- the results that the caller takes: as many as the called function returns by its type. A tail call may return more, as where a function without
+-- result ends by calling one that has a result
+abbrev pub kept_results : Option ℕ → List Value → Option (List Value)
+kept_results None values = None
+kept_results (Some n) values = first_values n values
+
 module _ {F A : Type 0} where
   -- the outside runs, with this naming
   abbrev pub to_outside : List (Frame F A) → Past → Holding → Option Naming → Option (Thread F A)
@@ -139,23 +152,32 @@ module _ {F A : Type 0} where
   goes_back f serial None stack past h = Bad
   goes_back f serial (Some a) stack past h = Quiet (Runs f serial a 0 stack past h)
 
+  -- a return to the outside with the results that it takes
+  abbrev pub leaves_with : Layout → Option (List Value) → List (Frame F A) → Past → Holding → Act (Thread F A)
+  leaves_with layout None stack past h = Bad
+  leaves_with layout (Some values) stack past h = leaves layout values stack past h
+
   -- the newest activation has returned: to one that waits, to the outside, or the thread has ended
   abbrev pub returns : Layout → List Value → List (Frame F A) → Past → Holding → Act (Thread F A)
   returns layout values [] past h = Says Ends Over
-  returns layout values (Outer ∷ stack) past h = leaves layout values stack past h
-  returns layout values (Waits f serial next ∷ stack) past h = goes_back f serial (next values) stack past h
+  returns layout values (Outer results ∷ stack) past h = leaves_with layout (kept_results results values) stack past h
+  returns layout values (Waits f serial results next ∷ stack) past h = goes_back f serial (and_then (kept_results results values) next) stack past h
 
   -- the same, where the outside brought the result
   abbrev pub resumes : F → (serial : ℕ) → Option A → List (Frame F A) → Past → Holding → Thread F A
   resumes f serial None stack past h = Wrong
   resumes f serial (Some a) stack past h = Runs f serial a 0 stack past h
 
+  abbrev pub leaves_later : Option (List Value) → List (Frame F A) → Past → Holding → Thread F A
+  leaves_later None stack past h = Wrong
+  leaves_later (Some values) stack past h = Leaves values stack past h
+
   -- the call that crossed last returns: where it was a tail call, its result leaves
   abbrev pub comes_back : Option (List Value) → List (Frame F A) → Past → Holding → Thread F A
   comes_back None stack past h = Wrong
   comes_back (Some values) [] past h = Wrong
-  comes_back (Some values) (Outer ∷ stack) past h = Leaves values stack past h
-  comes_back (Some values) (Waits f serial next ∷ stack) past h = resumes f serial (next values) stack past h
+  comes_back (Some values) (Outer results ∷ stack) past h = leaves_later (kept_results results values) stack past h
+  comes_back (Some values) (Waits f serial results next ∷ stack) past h = resumes f serial (and_then (kept_results results values) next) stack past h
 
 -- Locks.
 
@@ -224,8 +246,8 @@ module _ {F A : Type 0} (l : Activations F A) where
   -- the functions of the waiting activations, the oldest first, and then these
   abbrev pub below : List (Frame F A) → List NameBytes → List NameBytes
   below [] names = names
-  below (Waits f serial next ∷ stack) names = below stack (l.name f ∷ names)
-  below (Outer ∷ stack) names = below stack names
+  below (Waits f serial results next ∷ stack) names = below stack (l.name f ∷ names)
+  below (Outer results ∷ stack) names = below stack names
 
 -- the called function, where the step is a call
 abbrev pub called : {A : Type 0} → Option (Last A) → List NameBytes
@@ -260,7 +282,7 @@ module _ {F A : Type 0} (l : Activations F A) (setting : Setting) (scene : Scene
   acts (Some (Takes lock next)) f serial stack past h = takes (guard_of setting.edge setting.words lock) next f serial stack past h
   acts (Some (Gives lock next)) f serial stack past h = gives (guard_of setting.edge setting.words lock) next f serial stack past h
   acts (Some (Puts word next)) f serial stack past h = Says (Prints word) (Runs f serial next 0 stack past h)
-  acts (Some (Calls function values next)) f serial stack past h = calls (find l scene.within function) function values (Waits f serial next ∷ stack) past h
+  acts (Some (Calls function values next)) f serial stack past h = calls (find l scene.within function) function values (Waits f serial (results_of setting.edge function) next ∷ stack) past h
   acts (Some (Tails function values)) f serial stack past h = calls (find l scene.within function) function values stack past (without_own l f serial h)
   acts (Some (Returns values)) f serial stack past h = returns setting.layout values stack past (without_own l f serial h)
 
@@ -268,7 +290,7 @@ module _ {F A : Type 0} (l : Activations F A) (setting : Setting) (scene : Scene
   abbrev pub hears : List (Frame F A) → Past → Holding → RunLabel → Thread F A
   hears stack past h (Enter f crossing) =
       let c = brought h.memory past.naming 0 crossing.objects in
-      enters l (find l scene.functions f) (all_taken c.naming crossing.values) (Outer ∷ stack) (with_naming past c.naming) (record { share = crossing.share; memory = c.memory })
+      enters l (find l scene.functions f) (all_taken c.naming crossing.values) (Outer (results_of setting.edge f) ∷ stack) (with_naming past c.naming) (record { share = crossing.share; memory = c.memory })
   hears stack past h (Back crossing) =
       let c = brought h.memory past.naming 0 crossing.objects in
       comes_back (all_taken c.naming crossing.values) stack (with_naming past c.naming) (record { share = crossing.share; memory = c.memory })

@@ -114,6 +114,14 @@ abbrev pub signature_of : List Signature → NameBytes → Option Signature
 signature_of [] name = None
 signature_of (f ∷ fs) name = if same_name f.name name then Some f else signature_of fs name
 
+abbrev pub count_of : Option Signature → Option ℕ
+count_of None = None
+count_of (Some f) = Some (length (returned f.ret))
+
+-- how many values the function of this name returns, where the edge has it
+abbrev pub results_of : Edge → NameBytes → Option ℕ
+results_of edge name = count_of (signature_of edge.functions name)
+
 -- the most words of globals and locks that a program has
 abbrev pub most_words : ℕ
 most_words = 65536

@@ -1,11 +1,12 @@
 -- What a pass shows of one activation, where the calls of both languages are those of the layer: it then refines functions, units and threads.
-use Rattle.std.specs.Prelude.{◌≡◌, ℕ, ◌+◌, ◌≤◌, true, List, [], ◌∷◌, Option, Some, None, ◌⊎◌}
+use Rattle.std.specs.Prelude.{◌≡◌, ℕ, ◌+◌, ◌≤◌, true, List, [], ◌∷◌, ◌++◌, length, Option, Some, None, ◌⊎◌}
 use Rattle.cas_runs.specs.Label.{NameBytes, Share, Crossing}
+use Rattle.cas_runs.specs.Edge.{results_of}
 use Rattle.cas_runs.specs.Naming.{Value, Number, Layout, Naming, Crossed, all_taken, brought}
 use Rattle.cas_runs.specs.Machine.{Block, and_step}
 use Rattle.cas_runs.specs.Refines.{Within, Subsequence}
 use Rattle.cas_runs.specs.Bounds.{IsTariff, step_price, first_price, waiting_price}
-use Rattle.cas_runs.specs.Access.{Then, Holding, Performed}
+use Rattle.cas_runs.specs.Access.{Then, Fails, Holding, Performed}
 use Rattle.cas_runs.specs.Unit.{Setting}
 use Rattle.cas_runs.specs.Calls.{Last, Goes, Takes, Gives, Puts, Calls, Tails, Returns, Activations, Past, can_cross, crosses_as, with_naming, with_share, with_own, without_own, one_begun, called, step_at, no_past, no_holding}
 
@@ -70,24 +71,25 @@ module _ {F A G B : Type 0} (r : Relation F A G B) where
   ReadyIf f g n p q None extra h (Some y) more k = ⊥
   ReadyIf f g n p q x extra h None more k = Unit {0}
 
-  -- two activations that wait for the same result, and go on with it at any later moment
-  abbrev pub WaitAlike : F → G → ℕ → Holding → Holding → (List Value → Option A) → (List Value → Option B) → Type 0
-  WaitAlike f g n h k next next' =
-      (p q : Past) (h' k' : Holding) → r.later (n + 1) h k h' k' → r.alike p h' q k' → (vs ws : List Value) → AllSame vs ws → ReadyIf f g n p q (next vs) 0 h' (next' ws) 0 k'
+  -- two activations that wait for the same results, of this number, and go on with them at any later moment
+  abbrev pub WaitAlike : F → G → ℕ → Holding → Holding → Option ℕ → (List Value → Option A) → (List Value → Option B) → Type 0
+  WaitAlike f g n h k results next next' =
+      (p q : Past) (h' k' : Holding) → r.later (n + 1) h k h' k' → r.alike p h' q k' → (vs ws : List Value) → AllSame vs ws → results ≡ Some (length ws) → ReadyIf f g n p q (next vs) 0 h' (next' ws) 0 k'
 
-  -- the source's activation does nothing with the result but return it, and has no blocks: the target has none in its place
-  abbrev pub PassesOn : G → Option B → List Value → Type 0
-  PassesOn g None ws = Unit {0}
-  PassesOn g (Some y) ws = (r.source.form y ≡ Then (Returns ws)) × (waiting_price r.target.tariff r.targets ≤ step_price r.source.tariff r.sources y)
+  -- the source's activation does nothing with these results but return them, or the first of them, as where it returns none; or it fails
+  pub data PassesOn (ws : List Value) : Option B → Type 0 where
+    cannot_go_on : PassesOn ws None
+    fails_then : {y : B} → r.source.form y ≡ Fails → PassesOn ws (Some y)
+    returns_first : {y : B} (us more : List Value) → ws ≡ us ++ more → r.source.form y ≡ Then (Returns us) → waiting_price r.target.tariff r.targets ≤ step_price r.source.tariff r.sources y → PassesOn ws (Some y)
 
-  -- and that for every result
-  abbrev pub OnlyPasses : G → (List Value → Option B) → Type 0
-  OnlyPasses g next = (r.source.blocks g ≡ []) × ((ws : List Value) → PassesOn g (next ws) ws)
+  -- and that for all results of this number, and has no blocks: the target has no activation in its place
+  abbrev pub OnlyPasses : G → Option ℕ → (List Value → Option B) → Type 0
+  OnlyPasses g results next = (r.source.blocks g ≡ []) × ((ws : List Value) → results ≡ Some (length ws) → PassesOn ws (next ws))
 
   -- the tail call of the target is one of the source, or a call whose result is only passed on
   pub data TailAlike (n : ℕ) (p q : Past) (h k : Holding) (f : F) (g : G) (function : NameBytes) (vs : List Value) (h' k' : Holding) : Option (Last B) → Type 0 where
     tail : (ws : List Value) → AllSame vs ws → Stands n p q h k h' k' → TailAlike n p q h k f g function vs h' k' (Some (Tails function ws))
-    passing : (ws : List Value) (next : List Value → Option B) → AllSame vs ws → Stands n p q h k (without_own r.target f n h') k' → OnlyPasses g next → TailAlike n p q h k f g function vs h' k' (Some (Calls function ws next))
+    passing : (ws : List Value) (next : List Value → Option B) → AllSame vs ws → Stands n p q h k (without_own r.target f n h') k' → OnlyPasses g (results_of r.setting.edge function) next → TailAlike n p q h k f g function vs h' k' (Some (Calls function ws next))
 
   -- what the source does at last where the target does this, but for a step that only goes on
   abbrev pub LastAlike : ℕ → Past → Past → Holding → Holding → F → G → Last A → Holding → Option (Last B) → Holding → Type 0
@@ -98,7 +100,7 @@ module _ {F A G B : Type 0} (r : Relation F A G B) where
       (y : B) × (o ≡ Some (Gives lock y)) × Stands n p q h k h' k' × ((share : Share) → Ready f g n p q x 0 (with_share h' share) y 0 (with_share k' share))
   LastAlike n p q h k f g (Puts word x) h' o k' = (y : B) × (o ≡ Some (Puts word y)) × Stands n p q h k h' k' × Ready f g n p q x 0 h' y 0 k'
   LastAlike n p q h k f g (Calls function vs next) h' o k' =
-      (ws : List Value) × (next' : List Value → Option B) × (o ≡ Some (Calls function ws next')) × AllSame vs ws × Stands n p q h k h' k' × WaitAlike f g n h' k' next next'
+      (ws : List Value) × (next' : List Value → Option B) × (o ≡ Some (Calls function ws next')) × AllSame vs ws × Stands n p q h k h' k' × WaitAlike f g n h' k' (results_of r.setting.edge function) next next'
   LastAlike n p q h k f g (Tails function vs) h' o k' = TailAlike n p q h k f g function vs h' k' o
   LastAlike n p q h k f g (Returns vs) h' o k' = (ws : List Value) × (o ≡ Some (Returns ws)) × AllSame vs ws × Stands n p q h k h' k'
 

@@ -1,6 +1,7 @@
 -- Passes of which each step of the target is one step of the source: they show that the forms do the same.
-use Rattle.std.specs.Prelude.{◌≡◌, ℕ, ◌≤◌, List, Option, Some, None}
+use Rattle.std.specs.Prelude.{◌≡◌, ℕ, ◌≤◌, List, length, Option, Some, None}
 use Rattle.cas_runs.specs.Label.{NameBytes}
+use Rattle.cas_runs.specs.Edge.{results_of}
 use Rattle.cas_runs.specs.Naming.{Value, Memory}
 use Rattle.cas_runs.specs.Machine.{Block}
 use Rattle.cas_runs.specs.Refines.{Within}
@@ -26,7 +27,7 @@ module _ {F A G B : Type 0} (r : Relation F A G B) (At : F → G → A → B →
     takes_at : {lock : NameBytes} {x : A} {y : B} → At f g x y → LastAt f g (Takes lock x) (Takes lock y)
     gives_at : {lock : NameBytes} {x : A} {y : B} → At f g x y → LastAt f g (Gives lock x) (Gives lock y)
     puts_at : {word : ℕ} {x : A} {y : B} → At f g x y → LastAt f g (Puts word x) (Puts word y)
-    calls_at : {function : NameBytes} {vs ws : List Value} {next : List Value → Option A} {next' : List Value → Option B} → AllSame r vs ws → ((us xs : List Value) → AllSame r us xs → AtIf f g (next us) (next' xs)) → LastAt f g (Calls function vs next) (Calls function ws next')
+    calls_at : {function : NameBytes} {vs ws : List Value} {next : List Value → Option A} {next' : List Value → Option B} → AllSame r vs ws → ((us xs : List Value) → AllSame r us xs → results_of r.setting.edge function ≡ Some (length xs) → AtIf f g (next us) (next' xs)) → LastAt f g (Calls function vs next) (Calls function ws next')
     tails_at : {function : NameBytes} {vs ws : List Value} → AllSame r vs ws → LastAt f g (Tails function vs) (Tails function ws)
     returns_at : {vs ws : List Value} → AllSame r vs ws → LastAt f g (Returns vs) (Returns ws)
 

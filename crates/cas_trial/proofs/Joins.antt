@@ -232,7 +232,7 @@ forms_alike setting ts ss to from x y begins = stores refl refl (stores refl ref
 forms_alike setting ts ss to from x y locks = last (takes_at holds)
 forms_alike setting ts ss to from x y holds = writes (last (goes_at unlocks))
 forms_alike setting ts ss to from x y unlocks = last (gives_at shows)
-forms_alike setting ts ss to from x y (shows {f = f} {fs = fs}) = last (calls_at (refl, tt) (λ us xs s. came_back_at setting ts (f ∷ fs) to from us xs s (λ v w e. loading e)))
+forms_alike setting ts ss to from x y (shows {f = f} {fs = fs}) = last (calls_at (refl, tt) (λ us xs s count. came_back_at setting ts (f ∷ fs) to from us xs s (λ v w e. loading e)))
 forms_alike setting ts ss to from x y (loading {f = f} {fs = fs} {v = v} {w = w} s) = loading_alike setting ts (f ∷ fs) to from ends v w s
 forms_alike setting ts ss to from x y ends = last (returns_at tt)
 

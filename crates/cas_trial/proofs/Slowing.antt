@@ -35,7 +35,7 @@ module _ (setting : Setting) (ts : List Relaying) (ss : List Relaying) where
   result_at f g us xs s = subst (λ v. AtStep (Hands us) (Hands v)) (to_equal slow fast setting ts ss (MadeAmong IsSame ts ss) (λ f g n x h b y k c. Unit {0}) (λ f g m. refl) (λ f g m. refl) us xs s) returns
 
   forms : (f g : Relaying) (x y : Pace) → AtStep x y → (credit : ℕ) × (1 + credit ≤ 2) × Leads R0 (λ f g. AtStep) SameSize f g credit (slow_form x) (fast_form y)
-  forms f g x y (begins {word = word}) = (1, omega arith, onward (Calling word) 0 (omega arith) (at_last (last (calls_at (refl, tt) (result_at f g)))))
+  forms f g x y (begins {word = word}) = (1, omega arith, onward (Calling word) 0 (omega arith) (at_last (last (calls_at (refl, tt) (λ us xs s count. result_at f g us xs s)))))
   forms f g x y (returns {values = values}) = (1, omega arith, at_last (last (returns_at (all_equal slow fast setting ts ss (MadeAmong IsSame ts ss) (λ f g n x h b y k c. Unit {0}) (λ f g m. refl) (λ f g m. refl) values))))
 
   enters : (f g : Relaying) (v w : ℕ) → v ≡ w → (vs ws : List Value) → AllSame R0 vs ws → AtIf R0 (λ f g. AtStep) f g (enters_at v vs) (enters_at w ws)

@@ -1,11 +1,11 @@
 -- The pass that makes tail calls is a pass of the layer of calls.
-use Rattle.std.proofs.Common.{◌≡◌, ℕ, List, [], ◌∷◌, ◌⊎◌, Some, inr, refl, subst, arith}
+use Rattle.std.proofs.Common.{◌≡◌, ℕ, List, [], ◌∷◌, ◌⊎◌, Some, inr, refl, sym, subst, arith, append-nil}
 use Rattle.cas_runs.specs.Naming.{Value, Layout}
 use Rattle.cas_runs.specs.Machine.{Block}
 use Rattle.cas_runs.specs.Access.{Holding}
 use Rattle.cas_runs.specs.Unit.{Setting, AreDistinct, IsLayout}
 use Rattle.cas_runs.specs.Calls.{Past, with_own, one_begun, nothing_touched, language}
-use Rattle.cas_runs.specs.Passing.{Relation, AllSame, t_step, matched, ReadyIf, passing, meets, FailsSoon, Does, FineAt, Passes, IsPass, AllMade, MadeAmong, relation, Keeps}
+use Rattle.cas_runs.specs.Passing.{Relation, AllSame, t_step, matched, ReadyIf, returns_first, passing, meets, FailsSoon, Does, FineAt, Passes, IsPass, AllMade, MadeAmong, relation, Keeps}
 use Rattle.cas_runs.specs.Unmoved.{Equal}
 use Rattle.cas_runs.proofs.Composing.{sub_same}
 use Rattle.cas_runs.proofs.Performing.{foot_same}
@@ -45,7 +45,7 @@ module _ (setting : Setting) (ts : List Relayed) (ss : List Relaying) where
   fine_at n f g made p q x h b y k c (at_call w) a = inr (record { within = w; opened = sub_same (show_name ∷ []) })
 
   does_at : (n : ℕ) (f : Relayed) (g : Relaying) → R.made f g → (p q : Past) (x : Relay) (h : Holding) (b : Block) (y : Relay) (k : Holding) (c : Block) → AtCall n x h b y k c → R.alike p h q k → Does R n p q h k f g (t_step R x h).last (t_step R x h).holding b y c
-  does_at n f g m p q x h b y k c (at_call {word = word} w) a = meets (passing _ hands (refl, tt) (record { alike = a; later = tt }) (refl, λ ws. (refl, omega arith)))
+  does_at n f g m p q x h b y k c (at_call {word = word} w) a = meets (passing _ hands (refl, tt) (record { alike = a; later = tt }) (refl, λ ws count. returns_first ws [] (sym (append-nil ws)) refl (omega arith)))
 
   passes : Passes R
   passes = record {
