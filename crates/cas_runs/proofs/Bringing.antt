@@ -4,7 +4,7 @@ use Rattle.std.proofs.lemmas.Option.{slice_get_within}
 use Rattle.cas_runs.specs.Label.{NameBytes, Shown, Word, Place, Object, Crossing}
 use Rattle.cas_runs.specs.Naming.{Home, Own, Theirs, Value, Number, Pointer, Part, Layout, parts_at, some_reaches, Named, Naming, Memory, and_then, all_named_by, reaches, reached_in, can_show, can_show_all, same_home, objects_of, same_objects, value_at, taken, all_taken, written, with_block, left_in, new_block, Crossed, brought}
 use Rattle.cas_runs.specs.Machine.{Block}
-use Rattle.cas_runs.specs.Access.{Holding, value_in, length_of}
+use Rattle.cas_runs.specs.Access.{Holding, with_lock, without_lock, value_in, length_of}
 use Rattle.cas_runs.specs.Forms.{LengthsAlike, Stored, MemoryKeeps}
 use Rattle.cas_runs.specs.Unit.{Setting}
 use Rattle.cas_runs.specs.Calls.{Activations, Past, fresh, gone, without_own, with_share, same_share, if_shown, crosses_as, with_naming}
@@ -215,14 +215,15 @@ module _ {F A G B : Type 0} (target : Activations F A) (source : Activations G B
   pub moved_keeps : Keeps R
   moved_keeps = record {
     names = λ f g m. is.names f g m;
-    numbers = λ w. refl;
+    numbers = λ w word. refl;
     first = record { begun = refl; share = refl; memory = record { own = λ f a b to e. refl; theirs = λ k. tt; have_sizes = λ f a b ws e. absurd (cc e) }; naming = tt };
     begun = λ p q h k a. a.begun;
     shares = λ p q h k a. a.share;
     at_once = λ n h k. tt;
     then_later = λ n h k h' k' h'' k'' l m. tt;
     fewer = λ m n h k h' k' le l. tt;
-    shared = λ n p q h k share a. record { alike = with_memory p q h k (with_share h share) (with_share k share) a refl a.memory; later = tt };
+    locks = λ n p q h k a lock words g. record { alike = with_memory p q h k (with_share h (with_lock h.share lock words)) (with_share k (with_lock k.share lock words)) a (ap (λ v. with_lock v lock words) a.share) a.memory; later = tt };
+    unlocks = λ n p q h k a lock. record { alike = with_memory p q h k (with_share h (without_lock h.share lock)) (with_share k (without_lock k.share lock)) a (ap (λ v. without_lock v lock) a.share) a.memory; later = tt };
     begins = λ f g m p q h k a. record {
       alike = record { begun = ap (λ n. n + 1) a.begun; share = a.share; memory = blocks_moved target source made place sizes placed setting.layout is fresh begin f g m p.begun q.begun a.begun h.memory k.memory a.memory; naming = a.naming };
       later = tt;
@@ -233,7 +234,7 @@ module _ {F A G B : Type 0} (target : Activations F A) (source : Activations G B
     };
     shows = λ p q h k a vs ws s e. subst (λ n. can_show_all (parts_at placed n) p.naming vs ≡ true) (sym a.begun) (all_show_too target source made place sizes placed setting.layout is q.begun p.naming q.naming a.naming vs ws (to_moved vs ws s) e);
     crosses = λ p q h k a vs ws s crossing ns e. crosses_moved target source made place sizes placed setting.layout is p q h k a vs ws (to_moved vs ws s) crossing ns e;
-    hears = λ n p q h k a crossing.
+    hears = λ n p q h k a before types crossing brings typed.
         let both = left target source made place sizes placed setting.layout is crossing.objects h.memory k.memory a.memory p.naming q.naming a.naming 0 in (
           record { alike = record { begun = a.begun; share = refl; memory = both.memory; naming = both.naming }; later = tt },
           same_if (all_taken (brought_in R p h crossing).naming crossing.values) (all_taken (brought_in R q k crossing).naming crossing.values)

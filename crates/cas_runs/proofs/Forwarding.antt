@@ -7,7 +7,7 @@ use Rattle.cas_runs.specs.Naming.{Home, Value, Memory}
 use Rattle.cas_runs.specs.Machine.{Footprint, Block, and_step}
 use Rattle.cas_runs.specs.Refines.{Within, Subsequence, done, skip}
 use Rattle.cas_runs.specs.Bounds.{step_price, first_price}
-use Rattle.cas_runs.specs.Access.{Words, Accesses, Reads, Writes, Loads, Stores, Looks, Then, Fails, Holding, words_in, place_among, word_in, Doing, has_read, has_written, has_stored, Performed, failed, reads_as, reads_cell, writes_in, writes_cell, number_in, reads_word, writes_word, value_in, loads_as, stores_in, length_of, performed}
+use Rattle.cas_runs.specs.Access.{Words, Accesses, Reads, Writes, Loads, Stores, Looks, Then, Fails, Holding, with_lock, without_lock, words_in, place_among, word_in, Doing, has_read, has_written, has_stored, Performed, failed, reads_as, reads_cell, writes_in, writes_cell, number_in, reads_word, writes_word, value_in, loads_as, stores_in, length_of, performed}
 use Rattle.cas_runs.specs.Forms.{MemoryKeeps, BothPerform, FootIn}
 use Rattle.cas_runs.specs.Calls.{Last, Goes, Takes, Gives, Puts, Calls, Tails, Returns, Past, with_share, with_own, one_begun, called, nothing_touched}
 use Rattle.cas_runs.specs.Passing.{Relation, t_step, s_step, t_on, s_on, Going, matched, fails, goes, Ready, ReadyIf, TailAlike, tail, meets, fails_first, FailsSoon, fails_now, Does, FineAt, Passes, Keeps}
@@ -234,15 +234,15 @@ module _ {F A G B : Type 0} (r : Relation F A G B) (At : F → G → A → B →
       ready_if n p q h k a None None at e m le = tt
       ready_if n p q h k a (Some x) None at e m le = tt
 
-      shared_ready : (n : ℕ) (p q : Past) (h k : Holding) → r.alike p h q k → (x : A) (y : B) → At to from x y → (share : Share) → Ready R' to from n p q x 0 (with_share h share) y 0 (with_share k share)
-      shared_ready n p q h k a x y at share = ready n p q (with_share h share) (with_share k share) (plain.again p q h k (with_share h share) (with_share k share) a refl (plain.memories p q h k a)) x y at 0 0 (omega arith)
+      shared_ready : (n : ℕ) (p q : Past) (h k : Holding) → r.alike p h q k → (x : A) (y : B) → At to from x y → (change : Share → Share) → Ready R' to from n p q x 0 (with_share h (change h.share)) y 0 (with_share k (change k.share))
+      shared_ready n p q h k a x y at change = ready n p q (with_share h (change h.share)) (with_share k (change k.share)) (plain.again p q h k (with_share h (change h.share)) (with_share k (change k.share)) a (ap change (plain.shares p q h k a)) (plain.memories p q h k a)) x y at 0 0 (omega arith)
 
       -- A step of the target.
 
       does_last : (n : ℕ) (p q : Past) (h k : Holding) (h' : Holding) (b : Block) (y : B) (c : Block) → r.alike p h' q (s_step R' y k).holding → Within b c → {l : Last A} {m : Last B} → LastAt r At to from l m → (s_step R' y k).last ≡ Some m → Does R' n p q h k to from (Some l) h' b y c
       does_last n p q h k h' b y c a w (goes_at {x = x} {y = y'} at) e = goes y' e (reach n p q h k h' (s_step R' y k).holding a x y' at b c w 0 0 (omega arith))
-      does_last n p q h k h' b y c a w (takes_at {x = x} {y = y'} at) e = meets (y', e, record { alike = a; later = plain.later n h k h' (s_step R' y k).holding }, shared_ready n p q h' (s_step R' y k).holding a x y' at)
-      does_last n p q h k h' b y c a w (gives_at {x = x} {y = y'} at) e = meets (y', e, record { alike = a; later = plain.later n h k h' (s_step R' y k).holding }, shared_ready n p q h' (s_step R' y k).holding a x y' at)
+      does_last n p q h k h' b y c a w (takes_at {x = x} {y = y'} at) e = meets (y', e, record { alike = a; later = plain.later n h k h' (s_step R' y k).holding }, λ num words named guarded. shared_ready n p q h' (s_step R' y k).holding a x y' at (λ share. with_lock share num words))
+      does_last n p q h k h' b y c a w (gives_at {x = x} {y = y'} at) e = meets (y', e, record { alike = a; later = plain.later n h k h' (s_step R' y k).holding }, λ num named. shared_ready n p q h' (s_step R' y k).holding a x y' at (λ share. without_lock share num))
       does_last n p q h k h' b y c a w (puts_at {x = x} {y = y'} at) e = meets (y', e, record { alike = a; later = plain.later n h k h' (s_step R' y k).holding }, ready n p q h' (s_step R' y k).holding a x y' at 0 0 (omega arith))
       does_last n p q h k h' b y c a w (calls_at {ws = ws} {next = next} {next' = next'} s conts) e =
           meets (ws, next', e, s, record { alike = a; later = plain.later n h k h' (s_step R' y k).holding }, λ p' q' h'' k'' l a'' us xs same count. ready_if n p' q' h'' k'' a'' (next us) (next' xs) (conts us xs same count) 0 0 (omega arith))

@@ -3,14 +3,15 @@ use Rattle.std.proofs.Common.{◌≡◌, ℕ, List, [], ◌∷◌, Some, true, f
 use Rattle.std.specs.List.{IsDistinct}
 use Rattle.cas_base.specs.declared.decl.Decl.{Decl}
 use Rattle.cas_base.specs.declared.decl.Unit.{Unit as UnitOf}
+use Rattle.cas_base.specs.declared.kind.Kind.TheVariants.{U32}
 use Rattle.cas_runs.specs.Label.{NameBytes}
-use Rattle.cas_runs.specs.Edge.{Edge}
+use Rattle.cas_runs.specs.Edge.{Edge, IsOfKind}
 use Rattle.cas_runs.specs.Naming.{Value, Number, Layout}
 use Rattle.cas_runs.specs.Machine.{Block}
 use Rattle.cas_runs.specs.Refines.{Refines}
 use Rattle.cas_runs.specs.Simulation.{related}
 use Rattle.cas_runs.specs.Access.{Holding, Words}
-use Rattle.cas_runs.specs.Unit.{Setting, laid_out, names_of, AreDistinct, IsLayout, UnitRefines, FunctionRefines, ThreadRefines}
+use Rattle.cas_runs.specs.Unit.{Setting, laid_out, names_of, AreDistinct, IsEdge, IsLayout, UnitRefines, FunctionRefines, ThreadRefines}
 use Rattle.cas_runs.specs.Calls.{Activations, Past, machine, outside_first, starts, find, no_past, no_holding, language}
 use Rattle.cas_runs.specs.Passing.{Relation, IsPass, AllMade, IsMember, MadeAmong, relation}
 use Rattle.cas_runs.proofs.Lifting.{away, bottom, waits_within, lifted_refines, find_alike, enters_too}
@@ -22,14 +23,14 @@ module _ {F A G B : Type 0} (r : Relation F A G B) (is : IsPass r) (all : AllMad
       (related (away refl (waits_within r is.keeps is.pays is.passes ins_t ins_s true outside_first outside_first) is.keeps.first bottom))
 
   -- where a thread runs
-  pub thread_refines : (entry : NameBytes) (thread : ℕ) → Refines r.setting.edge (machine r.target (laid_out r.setting r.placed) (record { functions = r.targets; within = r.targets; crosses = false }) (starts r.target (find r.target r.targets entry) thread)) (machine r.source r.setting (record { functions = r.sources; within = r.sources; crosses = false }) (starts r.source (find r.source r.sources entry) thread))
-  thread_refines entry thread =
+  pub thread_refines : (entry : NameBytes) (thread : ℕ) → IsOfKind thread U32 → Refines r.setting.edge (machine r.target (laid_out r.setting r.placed) (record { functions = r.targets; within = r.targets; crosses = false }) (starts r.target (find r.target r.targets entry) thread)) (machine r.source r.setting (record { functions = r.sources; within = r.sources; crosses = false }) (starts r.source (find r.source r.sources entry) thread))
+  thread_refines entry thread word =
       let start_t = starts r.target (find r.target r.targets entry) thread in
       let start_s = starts r.source (find r.source r.sources entry) thread in
       lifted_refines r is.keeps is.pays is.passes r.targets r.sources false start_t start_s all all
       (enters_too r is.keeps is.pays is.passes r.targets r.sources false start_t start_s [] no_past no_past no_holding no_holding is.keeps.first [] [] tt bottom
       (find r.target r.targets entry) (find r.source r.sources entry) (Some (Number thread ∷ [])) (Some (Number thread ∷ []))
-      (find_alike r is.keeps is.pays is.passes r.targets r.sources false start_t start_s entry r.targets r.sources all) (is.keeps.numbers thread, tt))
+      (find_alike r is.keeps is.pays is.passes r.targets r.sources false start_t start_s entry r.targets r.sources all) (is.keeps.numbers thread word, tt))
 
 -- what is made is among the functions that run together
 all_among : {F G : Type 0} (made : F → G → Type 0) (ts : List F) (ss : List G) (fs : List F) (gs : List G) → ((f : F) → IsMember f fs → IsMember f ts) → ((g : G) → IsMember g gs → IsMember g ss) → AllMade made fs gs → AllMade (MadeAmong made ts ss) fs gs
@@ -44,7 +45,7 @@ among_all made ts ss h = all_among made ts ss ts ss (λ f m. m) (λ g m. m) h
 module _ {F A G B : Type 0} (target : Activations F A) (source : Activations G B) (made : F → G → Type 0) (naming : List G → Layout → Layout) (same : Setting → List F → List G → Value → Value → Type 0) (alike : Setting → List F → List G → Past → Holding → Past → Holding → Type 0) (later : Setting → List F → List G → ℕ → Holding → Holding → Holding → Holding → Type 0) (match : Setting → List F → List G → F → G → ℕ → A → Holding → Block → B → Holding → Block → Type 0)
     (names : (f : F) (g : G) → made f g → target.name f ≡ source.name g)
     (laid_out_too : (ts : List F) (ss : List G) → AllMade made ts ss → AreDistinct (language source) ss → (layout : Layout) → IsLayout (language source) ss layout → IsLayout (language target) ts (naming ss layout))
-    (passes : (setting : Setting) (ts : List F) (ss : List G) → AllMade made ts ss → AreDistinct (language source) ss → IsLayout (language source) ss setting.layout → IsPass (relation target source made naming same alike later match ts ss setting)) where
+    (passes : (setting : Setting) (ts : List F) (ss : List G) → AllMade made ts ss → AreDistinct (language source) ss → IsEdge setting.edge → IsLayout (language source) ss setting.layout → IsPass (relation target source made naming same alike later match ts ss setting)) where
   names_made : (ts : List F) (ss : List G) → AllMade made ts ss → names_of (language target) ts ≡ names_of (language source) ss
   names_made [] [] h = refl
   names_made [] (g ∷ gs) h = absurd h
@@ -63,7 +64,7 @@ module _ {F A G B : Type 0} (target : Activations F A) (source : Activations G B
     names = names_made t.funs s.funs all;
     naming = naming s.funs;
     laid_out_too = laid_out_too t.funs s.funs all distinct;
-    refines = λ setting fits laid. outward_refines (relation target source made naming same alike later match t.funs s.funs setting) (passes setting t.funs s.funs all distinct laid) (among_all made t.funs s.funs all) t.funs s.funs (among_all made t.funs s.funs all);
+    refines = λ setting fits laid. outward_refines (relation target source made naming same alike later match t.funs s.funs setting) (passes setting t.funs s.funs all distinct fits.edge_is laid) (among_all made t.funs s.funs all) t.funs s.funs (among_all made t.funs s.funs all);
   }
 
   pub functions_pass : (decl : Decl) (f : F) (g : G) → target.name f ≡ decl.name → source.name g ≡ decl.name → made f g → FunctionRefines (language target) (language source) decl f g
@@ -72,14 +73,14 @@ module _ {F A G B : Type 0} (target : Activations F A) (source : Activations G B
     source_name = m;
     naming = naming (g ∷ []);
     laid_out_too = laid_out_too (f ∷ []) (g ∷ []) (h, tt) (one_distinct g);
-    refines = λ setting fits laid. outward_refines (relation target source made naming same alike later match (f ∷ []) (g ∷ []) setting) (passes setting (f ∷ []) (g ∷ []) (h, tt) (one_distinct g) laid) (among_all made (f ∷ []) (g ∷ []) (h, tt)) [] [] tt;
+    refines = λ setting fits laid. outward_refines (relation target source made naming same alike later match (f ∷ []) (g ∷ []) setting) (passes setting (f ∷ []) (g ∷ []) (h, tt) (one_distinct g) fits.edge_is laid) (among_all made (f ∷ []) (g ∷ []) (h, tt)) [] [] tt;
   }
 
-  pub threads_pass : (edge : Edge) (words : Words) (ts : List F) (ss : List G) (entry : NameBytes) (thread : ℕ) → AllMade made ts ss → AreDistinct (language source) ss → ThreadRefines (language target) (language source) edge words ts ss entry thread
-  threads_pass edge words ts ss entry thread all distinct = record {
+  pub threads_pass : (edge : Edge) (words : Words) (ts : List F) (ss : List G) (entry : NameBytes) (thread : ℕ) → IsEdge edge → IsOfKind thread U32 → AllMade made ts ss → AreDistinct (language source) ss → ThreadRefines (language target) (language source) edge words ts ss entry thread
+  threads_pass edge words ts ss entry thread is_edge word all distinct = record {
     naming = naming ss;
     laid_out_too = laid_out_too ts ss all distinct;
     refines = λ layout unknown laid.
         let setting : Setting = record { edge = edge; words = words; layout = layout; unknown = unknown } in
-        thread_refines (relation target source made naming same alike later match ts ss setting) (passes setting ts ss all distinct laid) (among_all made ts ss all) entry thread;
+        thread_refines (relation target source made naming same alike later match ts ss setting) (passes setting ts ss all distinct is_edge laid) (among_all made ts ss all) entry thread word;
   }

@@ -1,8 +1,8 @@
 -- A pass of activations is a simulation of the machines that the layer of calls makes of them.
 use Rattle.std.proofs.Common.{◌≡◌, ℕ, zero, suc, ◌+◌, ◌≤◌, List, [], ◌∷◌, ◌++◌, length, ◌⊎◌, Option, Some, None, Bool, true, false, if◌then◌else◌, inl, inr, refl, sym, ap, ◌∙◌, subst, ⊎_elim, arith}
 use Rattle.cas_runs.specs.Label.{NameBytes, same_name, Share, Crossing, RunLabel, Lock, Unlock, Out, Done, Enter, Back, Call, Leave}
-use Rattle.cas_runs.specs.Edge.{results_of}
-use Rattle.cas_runs.specs.Outside.{MayBring}
+use Rattle.cas_runs.specs.Edge.{AreGuarded, returned, results_of}
+use Rattle.cas_runs.specs.Outside.{crossed, MayBring}
 use Rattle.cas_runs.specs.Naming.{Value, Naming, and_then, all_taken}
 use Rattle.cas_runs.specs.Machine.{Act, Quiet, Says, Crosses, Locks, Hears, Bad, Stops, Ended, Taken, Full, Prints, Machine, CanCross, Leads, IsBad, Block, nothing, begun, onward, and_step}
 use Rattle.cas_runs.specs.Refines.{Within, Subsequence, done, keep, skip, Refines}
@@ -160,29 +160,28 @@ module _ {F A G B : Type 0} (r : Relation F A G B) (is : Keeps r) (pays : Pays r
     at_label : (l : RunLabel) (h' k' : Holding) → r.later n h k h' k' → Ready r f g n p q x 0 h' y 0 k' → Fol (l ∷ ls) (Runs f n x 0 xs p h') (begun T (Runs f n x 0 xs p h')) (Runs g n' y 0 ys q k') (begun S (Runs g n' y 0 ys q k'))
     at_label l h' k' later ready = going (l ∷ ls) f g n n' 0 p q h' k' x h' (begun T (Runs f n x 0 xs p h')) xs ys made less same based (frames_later h k h' k' fr later) (ready nothing nothing (nothing_under nothing))
 
-    module _ (ready : (share : Share) → Ready r f g n p q x 0 (with_share h share) y 0 (with_share k share)) where
-      shared : (l : RunLabel) (share : Share) → Fol (l ∷ ls) (Runs f n x 0 xs p (with_share h share)) (begun T (Runs f n x 0 xs p (with_share h share))) (Runs g n' y 0 ys q (with_share k share)) (begun S (Runs g n' y 0 ys q (with_share k share)))
-      shared l share = at_label l (with_share h share) (with_share k share) (is.shared n p q h k share alike).later (ready share)
+    module _ (lock : NameBytes) (ready : (num : ℕ) (ws : List ℕ) → guard_of r.setting.edge r.setting.words lock ≡ Some num → AreGuarded r.setting.edge num ws → Ready r f g n p q x 0 (with_share h (with_lock h.share num ws)) y 0 (with_share k (with_lock k.share num ws))) where
+      takes_free : (num : ℕ) → guard_of r.setting.edge r.setting.words lock ≡ Some num → (o : Option (List ℕ)) → S.act z ≡ takes_lock num o (λ ws. Runs g n' y 0 ys q (with_share k (with_lock k.share num ws))) → Ans ls (takes_lock num o (λ ws. Runs f n x 0 xs p (with_share h (with_lock h.share num ws)))) b z d
+      takes_free num named None e = waits_too (λ ws. Runs g n' y 0 ys q (with_share k (with_lock k.share num ws))) e
+          (λ ws guarded. at_label (Lock num ws) (with_share h (with_lock h.share num ws)) (with_share k (with_lock k.share num ws)) (is.locks n p q h k alike num ws guarded).later (ready num ws named guarded))
+      takes_free num named (Some held) e = halts e
 
-      takes_free : (num : ℕ) (o : Option (List ℕ)) → S.act z ≡ takes_lock num o (λ ws. Runs g n' y 0 ys q (with_share k (with_lock k.share num ws))) → Ans ls (takes_lock num o (λ ws. Runs f n x 0 xs p (with_share h (with_lock k.share num ws)))) b z d
-      takes_free num None e = waits_too (λ ws. Runs g n' y 0 ys q (with_share k (with_lock k.share num ws))) e (λ ws guarded. shared (Lock num ws) (with_lock k.share num ws))
-      takes_free num (Some held) e = halts e
+      takes_too : (o : Option ℕ) → guard_of r.setting.edge r.setting.words lock ≡ o → S.act z ≡ takes o y g n' ys q k → Ans ls (takes o x f n xs p h) b z d
+      takes_too None named e = now (subst (λ (v : Act (Thread G B)). IsBad v) (sym e) tt)
+      takes_too (Some num) named e =
+          subst (λ (s : Share). Ans ls (takes_lock num (words_in s num) (λ ws. Runs f n x 0 xs p (with_share h (with_lock h.share num ws)))) b z d) (sym (is.shares p q h k alike)) (takes_free num named (words_in k.share num) e)
 
-      takes_too : (o : Option ℕ) → S.act z ≡ takes o y g n' ys q k → Ans ls (takes o x f n xs p h) b z d
-      takes_too None e = now (subst (λ (v : Act (Thread G B)). IsBad v) (sym e) tt)
-      takes_too (Some num) e =
-          subst (λ (s : Share). Ans ls (takes_lock num (words_in s num) (λ ws. Runs f n x 0 xs p (with_share h (with_lock s num ws)))) b z d) (sym (is.shares p q h k alike)) (takes_free num (words_in k.share num) e)
-
-      gives_held : (num : ℕ) (o : Option (List ℕ)) → S.act z ≡ gives_lock num o (Runs g n' y 0 ys q (with_share k (without_lock k.share num))) → Ans ls (gives_lock num o (Runs f n x 0 xs p (with_share h (without_lock k.share num)))) b z d
-      gives_held num None e = now (subst (λ (v : Act (Thread G B)). IsBad v) (sym e) tt)
-      gives_held num (Some held) e = by (Runs g n' y 0 ys q (with_share k (without_lock k.share num)))
+    module _ (lock : NameBytes) (ready : (num : ℕ) → guard_of r.setting.edge r.setting.words lock ≡ Some num → Ready r f g n p q x 0 (with_share h (without_lock h.share num)) y 0 (with_share k (without_lock k.share num))) where
+      gives_held : (num : ℕ) → guard_of r.setting.edge r.setting.words lock ≡ Some num → (o : Option (List ℕ)) → S.act z ≡ gives_lock num o (Runs g n' y 0 ys q (with_share k (without_lock k.share num))) → Ans ls (gives_lock num o (Runs f n x 0 xs p (with_share h (without_lock h.share num)))) b z d
+      gives_held num named None e = now (subst (λ (v : Act (Thread G B)). IsBad v) (sym e) tt)
+      gives_held num named (Some held) e = by (Runs g n' y 0 ys q (with_share k (without_lock k.share num)))
           (subst (λ (v : Act (Thread G B)). Leads r.setting.edge ls v (Unlock num held) (Runs g n' y 0 ys q (with_share k (without_lock k.share num)))) (sym e) (refl, refl))
-          (shared (Unlock num held) (without_lock k.share num))
+          (at_label (Unlock num held) (with_share h (without_lock h.share num)) (with_share k (without_lock k.share num)) (is.unlocks n p q h k alike num).later (ready num named))
 
-      gives_too : (o : Option ℕ) → S.act z ≡ gives o y g n' ys q k → Ans ls (gives o x f n xs p h) b z d
-      gives_too None e = now (subst (λ (v : Act (Thread G B)). IsBad v) (sym e) tt)
-      gives_too (Some num) e =
-          subst (λ (s : Share). Ans ls (gives_lock num (words_in s num) (Runs f n x 0 xs p (with_share h (without_lock s num)))) b z d) (sym (is.shares p q h k alike)) (gives_held num (words_in k.share num) e)
+      gives_too : (o : Option ℕ) → guard_of r.setting.edge r.setting.words lock ≡ o → S.act z ≡ gives o y g n' ys q k → Ans ls (gives o x f n xs p h) b z d
+      gives_too None named e = now (subst (λ (v : Act (Thread G B)). IsBad v) (sym e) tt)
+      gives_too (Some num) named e =
+          subst (λ (s : Share). Ans ls (gives_lock num (words_in s num) (Runs f n x 0 xs p (with_share h (without_lock h.share num)))) b z d) (sym (is.shares p q h k alike)) (gives_held num named (words_in k.share num) e)
 
     puts_too : (word : ℕ) → Ready r f g n p q x 0 h y 0 k → S.act z ≡ Says (Prints word) (Runs g n' y 0 ys q k) → Ans ls (Says (Prints word) (Runs f n x 0 xs p h)) b z d
     puts_too word ready e = by (Runs g n' y 0 ys q k) (subst (λ (v : Act (Thread G B)). Leads r.setting.edge ls v (Out word) (Runs g n' y 0 ys q k)) (sym e) (refl, refl)) (at_label (Out word) h k (is.at_once n h k) ready)
@@ -436,12 +435,12 @@ module _ {F A G B : Type 0} (r : Relation F A G B) (is : Keeps r) (pays : Pays r
       at_takes : (lock : NameBytes) (x : A) (h : Holding) (y : B) (k : Holding) (e : ℕ) (d : Block) → Within b d → LastAlike r n p q h0 k0 f g (Takes lock x) h (s_step r y k).last (s_step r y k).holding → Ans ls (t_acts (Some (Takes lock x)) f n xs p h) b (Runs g n' y e ys q k) d
       at_takes lock x h y k e d v m =
           let k' = (s_step r y k).holding in
-          takes_too ls b d f g n n' p q xs ys made less same based h k' m.2.alike (frames_now h k' m.2) x m.0 (Runs g n' y e ys q k) m.3 (guard_of r.setting.edge r.setting.words lock) (act_is y k e (Takes lock m.0) m.1)
+          takes_too ls b d f g n n' p q xs ys made less same based h k' m.2.alike (frames_now h k' m.2) x m.0 (Runs g n' y e ys q k) lock m.3 (guard_of r.setting.edge r.setting.words lock) refl (act_is y k e (Takes lock m.0) m.1)
 
       at_gives : (lock : NameBytes) (x : A) (h : Holding) (y : B) (k : Holding) (e : ℕ) (d : Block) → Within b d → LastAlike r n p q h0 k0 f g (Gives lock x) h (s_step r y k).last (s_step r y k).holding → Ans ls (t_acts (Some (Gives lock x)) f n xs p h) b (Runs g n' y e ys q k) d
       at_gives lock x h y k e d v m =
           let k' = (s_step r y k).holding in
-          gives_too ls b d f g n n' p q xs ys made less same based h k' m.2.alike (frames_now h k' m.2) x m.0 (Runs g n' y e ys q k) m.3 (guard_of r.setting.edge r.setting.words lock) (act_is y k e (Gives lock m.0) m.1)
+          gives_too ls b d f g n n' p q xs ys made less same based h k' m.2.alike (frames_now h k' m.2) x m.0 (Runs g n' y e ys q k) lock m.3 (guard_of r.setting.edge r.setting.words lock) refl (act_is y k e (Gives lock m.0) m.1)
 
       at_puts : (word : ℕ) (x : A) (h : Holding) (y : B) (k : Holding) (e : ℕ) (d : Block) → Within b d → LastAlike r n p q h0 k0 f g (Puts word x) h (s_step r y k).last (s_step r y k).holding → Ans ls (t_acts (Some (Puts word x)) f n xs p h) b (Runs g n' y e ys q k) d
       at_puts word x h y k e d v m =
@@ -581,7 +580,7 @@ module _ {F A G B : Type 0} (r : Relation F A G B) (is : Keeps r) (pays : Pays r
   module _ (all : AllMade r.made r.targets r.sources) (all_t : AllMade r.made ins_t ins_s) where
     heard_too : (ls : List RunLabel) (p q : Past) (h k : Holding) → r.alike p h q k → outward ≡ true → (xs : List (Frame F A)) (ys : List (Frame G B)) → Frames h k p.begun xs ys → (l : RunLabel) → MayBring r.setting.edge ls l → Fol (l ∷ ls) (hears r.target there scene_t xs p h l) (begun T (hears r.target there scene_t xs p h l)) (hears r.source r.setting scene_s ys q k l) (begun S (hears r.source r.setting scene_s ys q k l))
     heard_too ls p q h k alike out xs ys fr (Enter name crossing) m =
-        let s = is.hears p.begun p q h k alike crossing in
+        let s = is.hears p.begun p q h k alike (crossed ls) m.signature.params crossing m.brings m.values in
         let p' = with_naming p (brought_in r p h crossing).naming in
         let q' = with_naming q (brought_in r q k crossing).naming in
         let h' = heard r p h crossing in
@@ -596,7 +595,7 @@ module _ {F A G B : Type 0} (r : Relation F A G B) (is : Keeps r) (pays : Pays r
             on true = tt
             on false = tt
     heard_too ls p q h k alike out xs ys fr (Back crossing) m =
-        let s = is.hears p.begun p q h k alike crossing in
+        let s = is.hears p.begun p q h k alike (crossed ls) (returned m.signature.ret) crossing m.brings m.values in
         let p' = with_naming p (brought_in r p h crossing).naming in
         let q' = with_naming q (brought_in r q k crossing).naming in
         let h' = heard r p h crossing in

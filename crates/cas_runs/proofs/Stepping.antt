@@ -1,12 +1,12 @@
 -- A pass of which each step is one step of the source is a pass.
-use Rattle.std.proofs.Common.{◌≡◌, ℕ, ◌≤◌, List, [], ◌∷◌, ◌++◌, ◌⊎◌, Option, Some, None, inl, inr, refl, sym, subst, ⊎_elim, arith}
+use Rattle.std.proofs.Common.{◌≡◌, ℕ, ◌≤◌, List, [], ◌∷◌, ◌++◌, ◌⊎◌, Option, Some, None, inl, inr, refl, sym, ap, subst, ⊎_elim, arith}
 use Rattle.cas_runs.specs.Label.{Share}
 use Rattle.cas_runs.specs.Outside.{IsAmong, first, later}
 use Rattle.cas_runs.specs.Naming.{Memory}
 use Rattle.cas_runs.specs.Machine.{Footprint, Block, and_step}
 use Rattle.cas_runs.specs.Refines.{Within, Subsequence}
 use Rattle.cas_runs.specs.Bounds.{first_price}
-use Rattle.cas_runs.specs.Access.{Holding}
+use Rattle.cas_runs.specs.Access.{Holding, with_lock, without_lock}
 use Rattle.cas_runs.specs.Forms.{MemoryKeeps, BothPerform, PerformAlike, FootIn}
 use Rattle.cas_runs.specs.Calls.{Last, Goes, Takes, Gives, Puts, Calls, Tails, Returns, Past, with_share, with_own, one_begun, called, nothing_touched}
 use Rattle.cas_runs.specs.Passing.{Relation, t_step, s_step, t_on, s_on, Going, matched, fails, goes, Ready, ReadyIf, TailAlike, tail, meets, fails_first, FailsSoon, fails_now, Does, FineAt, Passes, Keeps}
@@ -69,13 +69,13 @@ module _ {F A G B : Type 0} (r : Relation F A G B) (At : F → G → A → B →
     ready_if n p q h k a None None at e m le = tt
     ready_if n p q h k a (Some x) None at e m le = tt
 
-    shared_ready : (n : ℕ) (p q : Past) (h k : Holding) → r.alike p h q k → (x : A) (y : B) → At f g x y → (share : Share) → Ready r f g n p q x 0 (with_share h share) y 0 (with_share k share)
-    shared_ready n p q h k a x y at share = ready n p q (with_share h share) (with_share k share) (plain.again p q h k (with_share h share) (with_share k share) a refl (plain.memories p q h k a)) x y at 0 0 (omega arith)
+    shared_ready : (n : ℕ) (p q : Past) (h k : Holding) → r.alike p h q k → (x : A) (y : B) → At f g x y → (change : Share → Share) → Ready r f g n p q x 0 (with_share h (change h.share)) y 0 (with_share k (change k.share))
+    shared_ready n p q h k a x y at change = ready n p q (with_share h (change h.share)) (with_share k (change k.share)) (plain.again p q h k (with_share h (change h.share)) (with_share k (change k.share)) a (ap change (plain.shares p q h k a)) (plain.memories p q h k a)) x y at 0 0 (omega arith)
 
     does_last : (n : ℕ) (p q : Past) (h k : Holding) → r.alike p h q k → (h' : Holding) (b : Block) (y : B) (c : Block) → r.alike p h' q (s_step r y k).holding → Within b c → {l : Last A} {m : Last B} → LastAt r At f g l m → (s_step r y k).last ≡ Some m → Does r n p q h k f g (Some l) h' b y c
     does_last n p q h k a h' b y c a' w (goes_at {x = x} {y = y'} at) e = goes y' e (reach n p q h k h' (s_step r y k).holding a' x y' at b c w 0 0 (omega arith))
-    does_last n p q h k a h' b y c a' w (takes_at {x = x} {y = y'} at) e = meets (y', e, record { alike = a'; later = plain.later n h k h' (s_step r y k).holding }, shared_ready n p q h' (s_step r y k).holding a' x y' at)
-    does_last n p q h k a h' b y c a' w (gives_at {x = x} {y = y'} at) e = meets (y', e, record { alike = a'; later = plain.later n h k h' (s_step r y k).holding }, shared_ready n p q h' (s_step r y k).holding a' x y' at)
+    does_last n p q h k a h' b y c a' w (takes_at {x = x} {y = y'} at) e = meets (y', e, record { alike = a'; later = plain.later n h k h' (s_step r y k).holding }, λ num words named guarded. shared_ready n p q h' (s_step r y k).holding a' x y' at (λ share. with_lock share num words))
+    does_last n p q h k a h' b y c a' w (gives_at {x = x} {y = y'} at) e = meets (y', e, record { alike = a'; later = plain.later n h k h' (s_step r y k).holding }, λ num named. shared_ready n p q h' (s_step r y k).holding a' x y' at (λ share. without_lock share num))
     does_last n p q h k a h' b y c a' w (puts_at {x = x} {y = y'} at) e = meets (y', e, record { alike = a'; later = plain.later n h k h' (s_step r y k).holding }, ready n p q h' (s_step r y k).holding a' x y' at 0 0 (omega arith))
     does_last n p q h k a h' b y c a' w (calls_at {ws = ws} {next = next} {next' = next'} s conts) e =
         meets (ws, next', e, s, record { alike = a'; later = plain.later n h k h' (s_step r y k).holding }, λ p' q' h'' k'' l a'' us xs same count. ready_if n p' q' h'' k'' a'' (next us) (next' xs) (conts us xs same count) 0 0 (omega arith))

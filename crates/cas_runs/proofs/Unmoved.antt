@@ -3,7 +3,7 @@ use Rattle.std.proofs.Common.{◌≡◌, ℕ, ◌<◌, List, [], ◌∷◌, Opti
 use Rattle.cas_runs.specs.Label.{NameBytes}
 use Rattle.cas_runs.specs.Naming.{Home, Value, Pointer, Memory, all_taken, with_block}
 use Rattle.cas_runs.specs.Machine.{Block}
-use Rattle.cas_runs.specs.Access.{Holding, value_in, length_of}
+use Rattle.cas_runs.specs.Access.{Holding, with_lock, without_lock, value_in, length_of}
 use Rattle.cas_runs.specs.Unit.{Setting}
 use Rattle.cas_runs.specs.Calls.{Activations, Past, set_blocks, fresh, gone, one_begun, with_share, can_cross, crosses_as, with_naming}
 use Rattle.cas_runs.specs.Passing.{Relation, AllSame, SameIf, brought_in, heard, Keeps}
@@ -46,14 +46,15 @@ module _ {F A G B : Type 0} (target : Activations F A) (source : Activations G B
   pub equal_keeps : Keeps R
   equal_keeps = record {
     names = names;
-    numbers = λ w. refl;
+    numbers = λ w word. refl;
     first = record { past = refl; holding = refl };
     begun = λ p q h k a. ap (λ (v : Past). v.begun) a.past;
     shares = λ p q h k a. ap (λ (v : Holding). v.share) a.holding;
     at_once = λ n h k. tt;
     then_later = λ n h k h' k' h'' k'' l m. tt;
     fewer = λ m n h k h' k' le l. tt;
-    shared = λ n p q h k share a. record { alike = record { past = a.past; holding = ap (λ v. with_share v share) a.holding }; later = tt };
+    locks = λ n p q h k a lock words g. record { alike = record { past = a.past; holding = ap (λ (v : Holding). with_share v (with_lock v.share lock words)) a.holding }; later = tt };
+    unlocks = λ n p q h k a lock. record { alike = record { past = a.past; holding = ap (λ (v : Holding). with_share v (without_lock v.share lock)) a.holding }; later = tt };
     begins = λ f g m p q h k a. record { alike = record { past = ap (λ v. one_begun target v) a.past; holding = set_equal fresh f g m p.begun q.begun (ap (λ (v : Past). v.begun) a.past) h k a.holding }; later = tt };
     ends = λ n f g m p q h k a. record { alike = record { past = a.past; holding = set_equal gone f g m n n refl h k a.holding }; later = tt };
     shows = λ p q h k a vs ws s e.
@@ -66,7 +67,7 @@ module _ {F A G B : Type 0} (target : Activations F A) (source : Activations G B
           ap (λ us. crosses_as setting.layout us p h crossing) (to_equal vs ws s) ∙ ap (λ v. crosses_as setting.layout ws v h crossing) past ∙ ap (λ v. crosses_as setting.layout ws q v crossing) holding ∙ e,
           record { past = ap (λ v. with_naming v ns) past; holding = holding },
         );
-    hears = λ n p q h k a crossing.
+    hears = λ n p q h k a before types crossing brings typed.
         let past : p ≡ q = a.past in
         let holding : h ≡ k = a.holding in
         let both : brought_in R p h crossing ≡ brought_in R q k crossing = ap (λ v. brought_in R v h crossing) past ∙ ap (λ v. brought_in R q v crossing) holding in (

@@ -1,13 +1,16 @@
 -- What a pass shows of one activation, where the calls of both languages are those of the layer: it then refines functions, units and threads.
 use Rattle.std.specs.Prelude.{◌≡◌, ℕ, ◌+◌, ◌≤◌, true, List, [], ◌∷◌, ◌++◌, length, Option, Some, None, ◌⊎◌}
-use Rattle.cas_runs.specs.Label.{NameBytes, Share, Crossing}
-use Rattle.cas_runs.specs.Edge.{results_of}
+use Rattle.cas_base.specs.declared.kind.Kind.TheVariants.{U32}
+use Rattle.cas_base.specs.declared.kind.Ty.{Ty}
+use Rattle.cas_runs.specs.Label.{NameBytes, Object, Crossing}
+use Rattle.cas_runs.specs.Edge.{IsOfKind, AreGuarded, AreOfTypes, results_of}
+use Rattle.cas_runs.specs.Outside.{Brings}
 use Rattle.cas_runs.specs.Naming.{Value, Number, Layout, Naming, Crossed, all_taken, brought}
 use Rattle.cas_runs.specs.Machine.{Block, and_step}
 use Rattle.cas_runs.specs.Refines.{Within, Subsequence}
 use Rattle.cas_runs.specs.Bounds.{IsTariff, step_price, first_price, waiting_price}
-use Rattle.cas_runs.specs.Access.{Then, Fails, Holding, Performed}
-use Rattle.cas_runs.specs.Unit.{Setting}
+use Rattle.cas_runs.specs.Access.{Then, Fails, Holding, with_lock, without_lock, Performed}
+use Rattle.cas_runs.specs.Unit.{Setting, guard_of}
 use Rattle.cas_runs.specs.Calls.{Last, Goes, Takes, Gives, Puts, Calls, Tails, Returns, Activations, Past, can_cross, crosses_as, with_naming, with_share, with_own, without_own, one_begun, called, step_at, no_past, no_holding}
 
 -- two languages in a setting, where these functions run together, the layout of the target's blocks, and how both are related
@@ -95,9 +98,9 @@ module _ {F A G B : Type 0} (r : Relation F A G B) where
   abbrev pub LastAlike : ℕ → Past → Past → Holding → Holding → F → G → Last A → Holding → Option (Last B) → Holding → Type 0
   LastAlike n p q h k f g (Goes x) h' o k' = ⊥
   LastAlike n p q h k f g (Takes lock x) h' o k' =
-      (y : B) × (o ≡ Some (Takes lock y)) × Stands n p q h k h' k' × ((share : Share) → Ready f g n p q x 0 (with_share h' share) y 0 (with_share k' share))
+      (y : B) × (o ≡ Some (Takes lock y)) × Stands n p q h k h' k' × ((num : ℕ) (words : List ℕ) → guard_of r.setting.edge r.setting.words lock ≡ Some num → AreGuarded r.setting.edge num words → Ready f g n p q x 0 (with_share h' (with_lock h'.share num words)) y 0 (with_share k' (with_lock k'.share num words)))
   LastAlike n p q h k f g (Gives lock x) h' o k' =
-      (y : B) × (o ≡ Some (Gives lock y)) × Stands n p q h k h' k' × ((share : Share) → Ready f g n p q x 0 (with_share h' share) y 0 (with_share k' share))
+      (y : B) × (o ≡ Some (Gives lock y)) × Stands n p q h k h' k' × ((num : ℕ) → guard_of r.setting.edge r.setting.words lock ≡ Some num → Ready f g n p q x 0 (with_share h' (without_lock h'.share num)) y 0 (with_share k' (without_lock k'.share num)))
   LastAlike n p q h k f g (Puts word x) h' o k' = (y : B) × (o ≡ Some (Puts word y)) × Stands n p q h k h' k' × Ready f g n p q x 0 h' y 0 k'
   LastAlike n p q h k f g (Calls function vs next) h' o k' =
       (ws : List Value) × (next' : List Value → Option B) × (o ≡ Some (Calls function ws next')) × AllSame vs ws × Stands n p q h k h' k' × WaitAlike f g n h' k' (results_of r.setting.edge function) next next'
@@ -151,22 +154,23 @@ module _ {F A G B : Type 0} (r : Relation F A G B) where
   abbrev pub heard : Past → Holding → Crossing → Holding
   heard p h crossing = record { share = crossing.share; memory = (brought_in p h crossing).memory }
 
-  -- of what both threads hold: the layer's steps keep it alike
+  -- of what both threads hold: the layer's steps keep it alike. What comes from the outside is in kind
   pub record Keeps : Type 0 where
     pub names : (f : F) (g : G) → r.made f g → r.target.name f ≡ r.source.name g
-    pub numbers : (w : ℕ) → r.same (Number w) (Number w)
+    pub numbers : (w : ℕ) → IsOfKind w U32 → r.same (Number w) (Number w)
     pub first : r.alike no_past no_holding no_past no_holding
     pub begun : (p q : Past) (h k : Holding) → r.alike p h q k → p.begun ≡ q.begun
     pub shares : (p q : Past) (h k : Holding) → r.alike p h q k → h.share ≡ k.share
     pub at_once : (n : ℕ) (h k : Holding) → r.later n h k h k
     pub then_later : (n : ℕ) (h k h' k' h'' k'' : Holding) → r.later n h k h' k' → r.later n h' k' h'' k'' → r.later n h k h'' k''
     pub fewer : (m n : ℕ) (h k h' k' : Holding) → m ≤ n → r.later n h k h' k' → r.later m h k h' k'
-    pub shared : (n : ℕ) (p q : Past) (h k : Holding) (share : Share) → r.alike p h q k → Stands n p q h k (with_share h share) (with_share k share)
+    pub locks : (n : ℕ) (p q : Past) (h k : Holding) → r.alike p h q k → (lock : ℕ) (words : List ℕ) → AreGuarded r.setting.edge lock words → Stands n p q h k (with_share h (with_lock h.share lock words)) (with_share k (with_lock k.share lock words))
+    pub unlocks : (n : ℕ) (p q : Past) (h k : Holding) → r.alike p h q k → (lock : ℕ) → Stands n p q h k (with_share h (without_lock h.share lock)) (with_share k (without_lock k.share lock))
     pub begins : (f : F) (g : G) → r.made f g → (p q : Past) (h k : Holding) → r.alike p h q k → Stands p.begun (one_begun r.target p) (one_begun r.source q) h k (with_own r.target f p.begun h) (with_own r.source g q.begun k)
     pub ends : (n : ℕ) (f : F) (g : G) → r.made f g → (p q : Past) (h k : Holding) → r.alike p h q k → Stands n p q h k (without_own r.target f n h) (without_own r.source g n k)
     pub shows : (p q : Past) (h k : Holding) → r.alike p h q k → (vs ws : List Value) → AllSame vs ws → can_cross r.setting.layout q ws ≡ true → can_cross r.placed p vs ≡ true
     pub crosses : (p q : Past) (h k : Holding) → r.alike p h q k → (vs ws : List Value) → AllSame vs ws → (crossing : Crossing) (ns : Naming) → crosses_as r.setting.layout ws q k crossing ≡ Some ns → (ms : Naming) × (crosses_as r.placed vs p h crossing ≡ Some ms) × r.alike (with_naming p ms) h (with_naming q ns) k
-    pub hears : (n : ℕ) (p q : Past) (h k : Holding) → r.alike p h q k → (crossing : Crossing) → Stands n (with_naming p (brought_in p h crossing).naming) (with_naming q (brought_in q k crossing).naming) h k (heard p h crossing) (heard q k crossing) × SameIf (all_taken (brought_in p h crossing).naming crossing.values) (all_taken (brought_in q k crossing).naming crossing.values)
+    pub hears : (n : ℕ) (p q : Past) (h k : Holding) → r.alike p h q k → (before : List Object) (types : List Ty) (crossing : Crossing) → Brings r.setting.edge before crossing → AreOfTypes crossing.objects types crossing.values → Stands n (with_naming p (brought_in p h crossing).naming) (with_naming q (brought_in q k crossing).naming) h k (heard p h crossing) (heard q k crossing) × SameIf (all_taken (brought_in p h crossing).naming crossing.values) (all_taken (brought_in q k crossing).naming crossing.values)
 
   -- the constants are prices, and waiting costs no more than in the source
   pub record Pays : Type 0 where

@@ -1,6 +1,7 @@
 -- Refinement of units, of functions and of threads, in any two languages of the compiler.
 use Rattle.std.specs.Prelude.{◌≡◌, ℕ, ◌+◌, ◌<◌, ◌≤◌, Bool, true, false, ◌&&◌, if◌then◌else◌, List, [], ◌∷◌, length, Option, Some, None, slice_get, ◌⊎◌}
 use Rattle.std.specs.List.{IsDistinct}
+use Rattle.cas_base.specs.declared.kind.Kind.TheVariants.{U32}
 use Rattle.cas_base.specs.declared.kind.Ty.{Ty}
 use Rattle.cas_base.specs.declared.kind.Ty.TheVariants.{Void, Int, Ptr, Array}
 use Rattle.cas_base.specs.declared.decl.Decl.{Decl}
@@ -167,9 +168,24 @@ abbrev pub OnlyInside : (NameBytes → Bool) → List Signature → Type 0
 OnlyInside test [] = Unit {0}
 OnlyInside test (f ∷ fs) = (f.inside ≡ test f.name) × OnlyInside test fs
 
+-- what the word is at first is a value of its kind, or a word
+abbrev pub IsInKind : Cell → Type 0
+IsInKind LockWord = Unit {0}
+IsInKind (SharedWord kind guard initial) = IsOfKind initial kind
+IsInKind (TableWord value) = IsOfKind value U32
+
+abbrev pub AreInKind : List Cell → Type 0
+AreInKind [] = Unit {0}
+AreInKind (c ∷ cs) = IsInKind c × AreInKind cs
+
+-- an edge that a program can have: not too many words, and what they are at first is in kind
+pub record IsEdge (edge : Edge) : Type 0 where
+  pub few : length edge.cells ≤ most_words
+  pub kinds : AreInKind edge.cells
+
 -- an edge at which a unit with these declarations and data may run
 pub record FitsUnit (edge : Edge) (words : Words) (decls : List Decl) (globals : List Global) : Type 0 where
-  pub few : length edge.cells ≤ most_words
+  pub edge_is : IsEdge edge
   pub declared : AreDeclared edge words decls
   pub data_there : HaveData edge words globals
   pub apart : AllApart words decls
@@ -177,7 +193,7 @@ pub record FitsUnit (edge : Edge) (words : Words) (decls : List Decl) (globals :
 
 -- an edge at which a function of this declaration may run alone
 pub record FitsFunction (edge : Edge) (words : Words) (decl : Decl) : Type 0 where
-  pub few : length edge.cells ≤ most_words
+  pub edge_is : IsEdge edge
   pub declared : IsDeclared edge words decl.name decl.form
   pub entered : OnlyInside (same_name decl.name) edge.functions
 

@@ -1,14 +1,15 @@
 ghost use Rattle.std.specs.Prelude.{◌≡◌, ℕ, IfOk, List};
 ghost use Rattle.cas_base.specs.declared.decl.Decl.{Decl};
+ghost use Rattle.cas_base.specs.declared.kind.Kind.TheVariants.{U32};
 ghost use Rattle.cas_base.specs.declared.decl.Unit.{Unit as UnitOf};
 ghost use Rattle.cas_runs.specs.Access.{Holding, Words};
 ghost use Rattle.cas_runs.specs.Calls.{Activations, Past, language};
-ghost use Rattle.cas_runs.specs.Edge.{Edge};
+ghost use Rattle.cas_runs.specs.Edge.{Edge, IsOfKind};
 ghost use Rattle.cas_runs.specs.Label.{NameBytes};
 ghost use Rattle.cas_runs.specs.Machine.{Block};
 ghost use Rattle.cas_runs.specs.Naming.{Layout, Value};
 ghost use Rattle.cas_runs.specs.Passing.{AllMade, IsPass, relation};
-ghost use Rattle.cas_runs.specs.Unit.{AreDistinct, FunctionRefines, IsLayout, Setting, ThreadRefines, UnitRefines};
+ghost use Rattle.cas_runs.specs.Unit.{AreDistinct, FunctionRefines, IsEdge, IsLayout, Setting, ThreadRefines, UnitRefines};
 
 use cas_base::NoMemory;
 use std::alloc::Global;
@@ -56,7 +57,7 @@ pub trait FunctionPass {
 
     /// The law that what is related so is a pass.
     fn passes()
-        ensures { (setting : Setting) (ts : List Self.Target) (ss : List Self.Source) → AllMade made ts ss → AreDistinct (language source) ss → IsLayout (language source) ss setting.layout → IsPass (relation target source made naming same alike later matches ts ss setting) };
+        ensures { (setting : Setting) (ts : List Self.Target) (ss : List Self.Source) → AllMade made ts ss → AreDistinct (language source) ss → IsEdge setting.edge → IsLayout (language source) ss setting.layout → IsPass (relation target source made naming same alike later matches ts ss setting) };
 }
 
 /// What a pass makes of a function refines it, where each runs alone.
@@ -79,9 +80,9 @@ pub fn units_refine<P: FunctionPass>()
 }
 
 /// Each thread of a whole program of such functions refines the thread of the other program, whose names are
-/// distinct.
+/// distinct, at an edge that a program can have. The thread's number is a word.
 pub fn threads_refine<P: FunctionPass>()
-    ensures { (edge : Edge) (words : Words) (ss : List P.Source) (ts : List P.Target) (entry : NameBytes) (thread : ℕ) → AllMade P.made ts ss → AreDistinct (language P.source) ss → ThreadRefines (language P.target) (language P.source) edge words ts ss entry thread }
+    ensures { (edge : Edge) (words : Words) (ss : List P.Source) (ts : List P.Target) (entry : NameBytes) (thread : ℕ) → IsEdge edge → IsOfKind thread U32 → AllMade P.made ts ss → AreDistinct (language P.source) ss → ThreadRefines (language P.target) (language P.source) edge words ts ss entry thread }
 {
     P::names_stay();
     P::laid_out_too();

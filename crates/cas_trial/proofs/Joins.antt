@@ -5,7 +5,7 @@ use Rattle.cas_runs.specs.Label.{NameBytes, same_name}
 use Rattle.cas_runs.specs.Naming.{Home, Own, Theirs, Value, Number, Pointer, Part, Layout, ArePlaced, is_place, part_by}
 use Rattle.cas_runs.specs.Bounds.{IsPrice, IsTariff}
 use Rattle.cas_runs.specs.Access.{Accesses}
-use Rattle.cas_runs.specs.Unit.{Setting, AreDistinct, IsLayout}
+use Rattle.cas_runs.specs.Unit.{Setting, AreDistinct, IsEdge, IsLayout}
 use Rattle.cas_runs.specs.Calls.{Last, language}
 use Rattle.cas_runs.specs.Forms.{FormAlike, writes, loads, stores, last, never}
 use Rattle.cas_runs.specs.Passing.{Relation, AllSame, IsPass, AllMade, MadeAmong, relation, Keeps, Pays}
@@ -271,8 +271,8 @@ joins_pay setting ts ss = record {
 }
 
 -- the law of the pass
-pub joins_passes : (setting : Setting) (ts : List Joined) (ss : List Apart) → AllMade IsJoined ts ss → AreDistinct (language apart) ss → IsLayout (language apart) ss setting.layout → IsPass (Rel setting ts ss)
-joins_passes setting ts ss h d l =
+pub joins_passes : (setting : Setting) (ts : List Joined) (ss : List Apart) → AllMade IsJoined ts ss → AreDistinct (language apart) ss → IsEdge setting.edge → IsLayout (language apart) ss setting.layout → IsPass (Rel setting ts ss)
+joins_passes setting ts ss h d edge l =
     let keeps = joins_keep setting ts ss l in
     record {
       keeps = keeps;

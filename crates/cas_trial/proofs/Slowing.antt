@@ -3,7 +3,7 @@ use Rattle.std.proofs.Common.{◌≡◌, ℕ, ◌+◌, ◌≤◌, List, [], ◌�
 use Rattle.cas_base.specs.declared.decl.Unit.{Unit as UnitOf}
 use Rattle.cas_runs.specs.Naming.{Value, Layout, Memory}
 use Rattle.cas_runs.specs.Bounds.{IsPrice}
-use Rattle.cas_runs.specs.Unit.{Setting, AreDistinct, IsLayout, UnitRefines}
+use Rattle.cas_runs.specs.Unit.{Setting, AreDistinct, IsEdge, IsLayout, UnitRefines}
 use Rattle.cas_runs.specs.Calls.{language}
 use Rattle.cas_runs.specs.Access.{Holding}
 use Rattle.cas_runs.specs.Forms.{last}
@@ -66,8 +66,8 @@ each_laid_out (t ∷ ts) (s ∷ ss) h layout l = (l.0, each_laid_out ts ss h.1 l
 slow_laid_out : (ts ss : List Relaying) → AllMade IsSame ts ss → AreDistinct (language fast) ss → (layout : Layout) → IsLayout (language fast) ss layout → IsLayout (language slow) ts layout
 slow_laid_out ts ss h d layout l = each_laid_out ts ss h layout l
 
-slow_pass : (setting : Setting) (ts ss : List Relaying) → AllMade IsSame ts ss → AreDistinct (language fast) ss → IsLayout (language fast) ss setting.layout → IsPass (Rel setting ts ss)
-slow_pass setting ts ss h d l = record {
+slow_pass : (setting : Setting) (ts ss : List Relaying) → AllMade IsSame ts ss → AreDistinct (language fast) ss → IsEdge setting.edge → IsLayout (language fast) ss setting.layout → IsPass (Rel setting ts ss)
+slow_pass setting ts ss h d edge l = record {
   keeps = keeps setting ts ss;
   pays = record { prices = (λ a. (record { least = omega arith; most = omega arith }, tt), omega arith, λ f. let one : IsPrice 1 = record { least = omega arith; most = omega arith } in (one, (one, (one, tt)))); waits = omega arith };
   passes = forward_passes (Bare setting ts ss) (λ f g. AtStep) SameSize (λ t s. t ≡ s) memory_equal (plainly setting ts ss) (steps setting ts ss) (keeps setting ts ss);

@@ -3,7 +3,7 @@ use Rattle.std.proofs.Common.{◌≡◌, ℕ, List, [], ◌∷◌, ◌⊎◌, So
 use Rattle.cas_runs.specs.Naming.{Value, Layout}
 use Rattle.cas_runs.specs.Machine.{Block}
 use Rattle.cas_runs.specs.Access.{Holding}
-use Rattle.cas_runs.specs.Unit.{Setting, AreDistinct, IsLayout}
+use Rattle.cas_runs.specs.Unit.{Setting, AreDistinct, IsEdge, IsLayout}
 use Rattle.cas_runs.specs.Calls.{Past, with_own, one_begun, nothing_touched, language}
 use Rattle.cas_runs.specs.Passing.{Relation, AllSame, t_step, matched, ReadyIf, returns_first, passing, meets, FailsSoon, Does, FineAt, Passes, IsPass, AllMade, MadeAmong, relation, Keeps}
 use Rattle.cas_runs.specs.Unmoved.{Equal}
@@ -57,8 +57,8 @@ module _ (setting : Setting) (ts : List Relayed) (ss : List Relaying) where
   }
 
 -- the law of the pass
-pub tails_pass : (setting : Setting) (ts : List Relayed) (ss : List Relaying) → AllMade IsTailing ts ss → AreDistinct (language calling) ss → IsLayout (language calling) ss setting.layout → IsPass (Rel setting ts ss)
-tails_pass setting ts ss h d l = record {
+pub tails_pass : (setting : Setting) (ts : List Relayed) (ss : List Relaying) → AllMade IsTailing ts ss → AreDistinct (language calling) ss → IsEdge setting.edge → IsLayout (language calling) ss setting.layout → IsPass (Rel setting ts ss)
+tails_pass setting ts ss h d edge l = record {
   keeps = keeps setting ts ss;
   pays = record { prices = (λ a. (record { least = omega arith; most = omega arith }, tt), omega arith, λ f. (record { least = omega arith; most = omega arith }, tt)); waits = omega arith };
   passes = passes setting ts ss;

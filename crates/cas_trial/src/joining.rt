@@ -1,15 +1,16 @@
 ghost use Rattle.std.specs.Prelude.{IfOk, List, ℕ, ◌≡◌, ◌≤◌};
 ghost use Rattle.cas_base.specs.declared.decl.Decl.{Decl};
+ghost use Rattle.cas_base.specs.declared.kind.Kind.TheVariants.{U32};
 ghost use Rattle.cas_base.specs.declared.decl.Unit.{Unit as UnitOf};
 ghost use Rattle.cas_runs.specs.Access.{Words};
 ghost use Rattle.cas_runs.specs.Bounds.{weight_of};
 ghost use Rattle.cas_runs.specs.Calls.{language};
-ghost use Rattle.cas_runs.specs.Edge.{Edge};
+ghost use Rattle.cas_runs.specs.Edge.{Edge, IsOfKind};
 ghost use Rattle.cas_runs.specs.Label.{NameBytes};
 ghost use Rattle.cas_runs.specs.Passing.{AllMade};
 ghost use Rattle.cas_runs.specs.Placing.{AlikeMoved, SameMoved};
 ghost use Rattle.cas_runs.specs.Stepwise.{match_at};
-ghost use Rattle.cas_runs.specs.Unit.{AreDistinct, FunctionRefines, ThreadRefines, UnitRefines};
+ghost use Rattle.cas_runs.specs.Unit.{AreDistinct, FunctionRefines, IsEdge, ThreadRefines, UnitRefines};
 ghost use Rattle.cas_trial.specs.Places.{IsJoined, SameStage, joins, one_word, places};
 ghost use Rattle.cas_trial.specs.Stages.{Stage, apart, joined, main_name};
 
@@ -95,7 +96,7 @@ pub fn units_join()
 
 /// So do the threads of whole programs.
 pub fn threads_join()
-    ensures { (edge : Edge) (words : Words) (ss : List Apart) (ts : List Joined) (entry : NameBytes) (thread : ℕ) → AllMade IsJoined ts ss → AreDistinct (language apart) ss → ThreadRefines (language joined) (language apart) edge words ts ss entry thread }
+    ensures { (edge : Edge) (words : Words) (ss : List Apart) (ts : List Joined) (entry : NameBytes) (thread : ℕ) → IsEdge edge → IsOfKind thread U32 → AllMade IsJoined ts ss → AreDistinct (language apart) ss → ThreadRefines (language joined) (language apart) edge words ts ss entry thread }
 {
     threads_refine::<Joining>();
 }
