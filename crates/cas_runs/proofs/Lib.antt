@@ -8,6 +8,7 @@ pub mod Keeping
 pub mod Lifted
 pub mod Lifting
 pub mod Objects
+pub mod Outgoing
 pub mod Performing
 pub mod Placing
 pub mod Refining

@@ -1,8 +1,8 @@
 -- The machines of the layer of calls keep the rules, whatever the activations do.
-use Rattle.std.proofs.Common.{◌≡◌, ℕ, zero, suc, ◌+◌, ◌≤◌, List, [], ◌∷◌, Option, Some, None, Bool, true, false, if◌then◌else◌, slice_get, refl, sym, ap, ◌∙◌, subst, arith}
-use Rattle.cas_runs.specs.Label.{NameBytes, same_name, Share, Crossing, RunLabel, Lock, Unlock, Out, Done, Enter, Back, Call, Leave, locks_of}
+use Rattle.std.proofs.Common.{◌≡◌, ℕ, zero, suc, ◌+◌, ◌≤◌, List, [], ◌∷◌, Option, Some, None, Bool, true, false, if◌then◌else◌, length, slice_get, refl, sym, ap, ◌∙◌, subst, arith}
+use Rattle.cas_runs.specs.Label.{NameBytes, same_name, Share, Object, Crossing, RunLabel, Lock, Unlock, Out, Done, Enter, Back, Call, Leave, locks_of}
 use Rattle.cas_runs.specs.Edge.{Cell, LockWord, SharedWord, TableWord, Edge, AreGuarded, IsOrdered, results_of}
-use Rattle.cas_runs.specs.Outside.{Pending, Called, Entered, without_newest, pending, crossed, IsAmong, Brings, MayBring}
+use Rattle.cas_runs.specs.Outside.{Pending, Called, Entered, without_newest, pending, crossed, numbered, IsAmong, Brings, MayBring}
 use Rattle.cas_runs.specs.Naming.{Value, Number, ArePlaced, Part, parts_at, Naming, and_then, all_named_by, objects_of, same_objects, all_taken, brought}
 use Rattle.cas_runs.specs.Machine.{Act, Quiet, Says, Crosses, Locks, Hears, Bad, Stops, label_of, Machine, CanCross, Leads, Block, Run, starts as begins_run, quiet, labelled}
 use Rattle.cas_runs.specs.Rules.{and_lock, locks_after, IsShared, Leaves, LeavesAll, Carries, IsReturn, MaySay, MayCross, HasEnded, MayHalt, Proceeds, KeepsRules}
@@ -16,6 +16,7 @@ use Rattle.cas_runs.proofs.Composing.{refines_itself}
 use Rattle.cas_runs.proofs.Tests.{objects_from, share_from, same_name_self}
 use Rattle.cas_runs.proofs.Showing.{some_crossing}
 use Rattle.cas_runs.proofs.Lifting.{step_costs, waiting_costs}
+use Rattle.cas_runs.proofs.Outgoing.{all_count, objects_count, shown_count}
 use Rattle.cas_runs.proofs.Turns.{hears_outside, listens_after}
 use Rattle.cas_runs.proofs.Shares.{guarded_under, share_ordered, found, not_found, with_lock_ordered, without_lock_ordered, SameLength, Kept, performed_kept}
 use Rattle.cas_runs.proofs.Objects.{SoundMemory, SoundNaming, MemoryStep, lengths_step, lengths_sound, naming_step, ShowsAll, shows_step, shows_now, gone_step, gone_sound, fresh_step, fresh_sound, all_grown, leaves_all, ExactAll, exact_now, brought_so}
@@ -134,9 +135,11 @@ module _ {F A : Type 0} (l : Activations F A) (setting : Setting) (scene : Scene
           let same : ms ≡ ns = cc g in
           let grown = all_grown setting.layout p.begun h.memory values crossing.values p.naming c.naming ms named in
           let objects = objects_from (objects_of h.memory ms) crossing.objects i in
+          let count : numbered (length (crossed ls)) crossing.values ≡ Some (length crossing.objects) =
+          ap (λ n. numbered n crossing.values) (shown_count setting.layout (crossed ls) h.memory p.naming c.shows) ∙ all_count (parts_at setting.layout p.begun) values crossing.values p.naming ms named ∙ ap (λ n. Some n) (sym (objects_count h.memory ms)) ∙ ap (λ (os : List Object). Some (length os)) objects in
           let leave : LeavesAll (crossed ls) crossing.objects = subst (λ os. LeavesAll (crossed ls) os) objects (leaves_all setting.layout p.begun h.memory c.memory 0 (crossed ls) p.naming ms grown.sound grown.more c.shows) in
           subst (λ v. CrossedSo ls p h crossing v) same
-          (record { carries = record { share = subst (λ v. IsOrdered E v) share c.ordered; same_locks = ap locks_of (sym share) ∙ c.locks; objects = leave }; share = share; objects = objects; naming = grown.sound })
+          (record { carries = record { share = subst (λ v. IsOrdered E v) share c.ordered; same_locks = ap locks_of (sym share) ∙ c.locks; objects = leave; numbers = count }; share = share; objects = objects; naming = grown.sound })
 
       names : h.share ≡ crossing.share → (o : Option Naming) → all_named_by (parts_at setting.layout p.begun) p.naming values crossing.values ≡ o → and_then o (λ v. if_shown (same_objects (objects_of h.memory v) crossing.objects) v) ≡ Some ns → CrossedSo ls p h crossing ns
       names share None i g = absurd (cc g)

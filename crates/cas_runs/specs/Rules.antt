@@ -1,11 +1,11 @@
 -- The rules that each language's machine keeps, whatever the unit does: what would break them is Bad, or has no next step.
-use Rattle.std.specs.Prelude.{◌≡◌, ℕ, ◌≤◌, nat_eq, nat_lt, List, [], ◌∷◌, length, Option, Some, None, slice_get, if◌then◌else◌}
+use Rattle.std.specs.Prelude.{◌≡◌, ℕ, ◌≤◌, nat_eq, nat_lt, false, List, [], ◌∷◌, length, Option, Some, None, slice_get, if◌then◌else◌}
 use Rattle.cas_base.specs.declared.kind.Kind.{Kind}
 use Rattle.cas_base.specs.declared.kind.Kind.TheVariants.{U32}
 use Rattle.cas_base.specs.declared.kind.Ty.{Ty}
 use Rattle.cas_runs.specs.Label.{NameBytes, Inside, Object, Crossing, RunLabel, Lock, Unlock, Out, Done, Enter, Back, Call, Leave, locks_of}
 use Rattle.cas_runs.specs.Edge.{LockWord, SharedWord, Signature, Edge, AreOfTypes, returned, signature_of, IsOfKind, AreOfKinds, guarded, AreUnder, IsOrdered, IsShare}
-use Rattle.cas_runs.specs.Outside.{Pending, Entered, AreWordsOf, IsAmong, pending, crossed}
+use Rattle.cas_runs.specs.Outside.{Pending, Entered, AreWordsOf, IsAmong, pending, crossed, numbered}
 use Rattle.cas_runs.specs.Machine.{Act, Quiet, Says, Crosses, Locks, Hears, Bad, Stops, Halt, Ended, Taken, Full, Machine, Saying, label_of, CanCross, Block, Run}
 
 -- the lock and these, in ascending order
@@ -71,11 +71,12 @@ LeavesAll [] news = AreOwn news
 LeavesAll (o ∷ os) [] = ⊥
 LeavesAll (o ∷ os) (n ∷ ns) = Leaves o n × LeavesAll os ns
 
--- what the unit shows with a call or a return
+-- what the unit shows with a call or a return: the objects that its values show for the first time take the next numbers
 pub record Carries (edge : Edge) (before : List RunLabel) (crossing : Crossing) : Type 0 where
   pub share : IsOrdered edge crossing.share
   pub same_locks : locks_of crossing.share ≡ locks_after before
   pub objects : LeavesAll (crossed before) crossing.objects
+  pub numbers : numbered (length (crossed before)) crossing.values ≡ Some (length crossing.objects)
 
 -- the unit returns from the newest entry
 pub record IsReturn (before : List RunLabel) : Type 0 where
@@ -152,6 +153,10 @@ pub record KeepsRules {S : Type 0} (edge : Edge) (m : Machine S) : Type 0 where
   pub hears : (ls : List RunLabel) (bs : List Block) (b : Block) (x : S) → Run edge m ls bs b x → IsHearing (m.act x) → MayHear ls
   pub listens : (ls : List RunLabel) (bs : List Block) (b : Block) (x : S) → Run edge m ls bs b x → HasCrossed ls → IsHearing (m.act x)
   pub halts : (ls : List RunLabel) (bs : List Block) (b : Block) (x : S) → Run edge m ls bs b x → (why : Halt) → m.act x ≡ Stops why → MayHalt ls why
+
+-- what calls over the edge is no function inside. So it is of a unit; a function alone calls itself over its edge
+pub record CallsOut {S : Type 0} (edge : Edge) (m : Machine S) : Type 0 where
+  pub outside : (ls : List RunLabel) (bs : List Block) (b : Block) (x : S) → Run edge m ls bs b x → (next : RunLabel → Option S) → m.act x ≡ Crosses next → (function : NameBytes) (crossing : Crossing) (y : S) → next (Call function crossing) ≡ Some y → (f : Signature) → signature_of edge.functions function ≡ Some f → f.inside ≡ false
 
 -- what is shown of the objects are words of their kinds
 abbrev pub ShowsWords : Object → Option (List (Option ℕ)) → Type 0

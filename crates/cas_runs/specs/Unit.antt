@@ -163,6 +163,11 @@ abbrev pub defines : List Decl → NameBytes → Bool
 defines [] name = false
 defines (d ∷ ds) name = if same_name d.name name && defined_as d.form d.defined then true else defines ds name
 
+-- one of the functions has this name
+abbrev pub has_function : {F S : Type 0} → Language F S → List F → NameBytes → Bool
+has_function l [] name = false
+has_function l (f ∷ fs) name = if same_name (l.name f) name then true else has_function l fs name
+
 -- the outside may enter the functions for which the test is true, and no others
 abbrev pub OnlyInside : (NameBytes → Bool) → List Signature → Type 0
 OnlyInside test [] = Unit {0}

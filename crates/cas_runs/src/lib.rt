@@ -21,5 +21,5 @@ pub use refused::{
 };
 pub use rules::{
     functions_keep_rules, sections_keep_kinds, sections_keep_rules, threads_keep_rules,
-    threads_never_cross, units_keep_rules,
+    threads_never_cross, units_call_out, units_keep_rules,
 };

@@ -3,9 +3,9 @@ ghost use Rattle.cas_runs.specs.Bounds.{IsTariff};
 ghost use Rattle.cas_runs.specs.Calls.{Activations, Thread, language};
 ghost use Rattle.cas_runs.specs.Label.{ArePlain, NameBytes, RunLabel};
 ghost use Rattle.cas_runs.specs.Machine.{Block, Run};
-ghost use Rattle.cas_runs.specs.Rules.{KeepsKinds, KeepsRules};
+ghost use Rattle.cas_runs.specs.Rules.{CallsOut, KeepsKinds, KeepsRules};
 ghost use Rattle.cas_runs.specs.Sections.{Instruction, StoresWords, one_lock, sections};
-ghost use Rattle.cas_runs.specs.Unit.{IsLayout, Setting};
+ghost use Rattle.cas_runs.specs.Unit.{has_function, IsLayout, OnlyInside, Setting};
 
 /// The rules can be kept: a small language of critical sections keeps them, whatever its program does.
 pub fn sections_keep_rules()
@@ -41,4 +41,9 @@ pub fn threads_keep_rules<F, A>()
 #[tactic(auto, using(crate::proofs::Closed::threads_plain))]
 pub fn threads_never_cross<F, A>()
     ensures { (l : Activations F A) (setting : Setting) (fs : List F) (entry : NameBytes) (thread : ℕ) (ls : List RunLabel) (bs : List Block) (b : Block) (x : Thread F A) → Run setting.edge ((language l).thread setting fs entry thread) ls bs b x → ArePlain ls }
+{}
+
+/// The machine of a unit calls over its edge no function of its own, where the edge has these inside.
+pub fn units_call_out<F, A>()
+    ensures { (l : Activations F A) (setting : Setting) (fs : List F) → OnlyInside (has_function (language l) fs) setting.edge.functions → CallsOut setting.edge ((language l).unit setting fs) }
 {}
