@@ -129,3 +129,7 @@ most_words = 65536
 -- the most cells that an object has: those of all locals of a function
 abbrev pub most_cells : ℕ
 most_cells = 4096
+
+-- the most words of stack that a thread has, and so the most cells of live objects
+abbrev pub most_live : ℕ
+most_live = 1048576

@@ -2,7 +2,7 @@
 use Rattle.std.specs.Prelude.{◌≡◌, ℕ, ◌+◌, ◌≤◌, nat_eq, nat_lt, true, List, [], ◌∷◌, length, Option, Some, None, if◌then◌else◌}
 use Rattle.cas_base.specs.declared.kind.Kind.{Kind}
 use Rattle.cas_runs.specs.Label.{NameBytes, Shown, Word, Place, Outside, Object, Crossing, RunLabel, Lock, Unlock, Out, Done, Enter, Back, Call, Leave, locks_of}
-use Rattle.cas_runs.specs.Edge.{Signature, Edge, IsOfKind, IsShare, AreOfTypes, returned, signature_of, most_cells}
+use Rattle.cas_runs.specs.Edge.{Signature, Edge, IsOfKind, IsShare, AreOfTypes, returned, signature_of, most_cells, most_live}
 
 -- a call or an entry that hasn't returned yet
 pub data Pending : Type 0 where
@@ -90,10 +90,20 @@ numbered n [] = Some n
 numbered n (Word w ∷ vs) = numbered n vs
 numbered n (Place object place ∷ vs) = if nat_lt object n then numbered n vs else if nat_eq object n then numbered (n + 1) vs else None
 
--- what the outside may bring with an entry or a return: values of these types, a share, and the objects
+abbrev pub cells_if : Option (List (Option ℕ)) → (size : ℕ) → ℕ
+cells_if None size = 0
+cells_if (Some contents) size = size
+
+-- how many cells the live objects have
+abbrev pub live_cells : List Object → ℕ
+live_cells [] = 0
+live_cells (o ∷ os) = cells_if o.contents o.size + live_cells os
+
+-- what the outside may bring with an entry or a return: a share, and the objects, with no more live cells than a thread has words of stack
 pub record Brings (edge : Edge) (before : List Object) (crossing : Crossing) : Type 0 where
   pub share : IsShare edge crossing.share
   pub objects : Continues before crossing.objects
+  pub room : live_cells crossing.objects ≤ most_live
   pub numbers : numbered (length before) crossing.values ≡ Some (length crossing.objects)
 
 -- the lock is one of these

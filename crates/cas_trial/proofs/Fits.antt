@@ -76,7 +76,7 @@ abbrev nothing_crossed : Crossing
 nothing_crossed = record { values = []; share = []; objects = [] }
 
 abbrev entered : HasRun edge m (front 5 labels)
-entered = by_label [] (Enter main_name nothing_crossed) (record { blocks = []; block = begun m m.start; at = m.start; run = starts }) _ (record { signature = _; known = refl; inside = refl; values = tt; holds = tt; brings = record { share = tt; objects = tt; numbers = refl } }, refl)
+entered = by_label [] (Enter main_name nothing_crossed) (record { blocks = []; block = begun m m.start; at = m.start; run = starts }) _ (record { signature = _; known = refl; inside = refl; values = tt; holds = tt; brings = record { share = tt; objects = tt; room = omega arith; numbers = refl } }, refl)
 
 abbrev stored : HasRun edge m (front 5 labels)
 stored = on (front 5 labels) entered _ refl
@@ -104,7 +104,7 @@ came = by_label (front 2 labels) (Back (record { values = Place 0 0 ∷ []; shar
     known = refl;
     values = (record { it = first_object 9; there = refl; same_kind = refl; in_reach = omega arith }, tt);
     same_locks = refl;
-    brings = record { share = tt; objects = (record { owner = refl; kind = refl; size = refl; contents = record { size = refl; kinds = (refl, tt) } }, tt); numbers = refl };
+    brings = record { share = tt; objects = (record { owner = refl; kind = refl; size = refl; contents = record { size = refl; kinds = (refl, tt) } }, tt); room = omega arith; numbers = refl };
   },
   refl,
 )
