@@ -3,7 +3,7 @@ use Rattle.std.proofs.Common.{◌≡◌, ℕ, List, [], ◌∷◌, ◌++◌, ◌
 use Rattle.cas_runs.specs.Label.{NameBytes, RunLabel, Lock, Unlock, Out, Done, Enter, Back, Call, Leave}
 use Rattle.cas_runs.specs.Edge.{Edge}
 use Rattle.cas_runs.specs.Outside.{MayBring}
-use Rattle.cas_runs.specs.Machine.{Act, Quiet, Says, Crosses, Locks, Hears, Bad, Stops, Halt, Ended, Taken, Full, Saying, Unlocks, Prints, Ends, Machine, label_of, CanCross, Leads, Block, begun, Run, starts, quiet, labelled}
+use Rattle.cas_runs.specs.Machine.{Act, Quiet, Says, Crosses, Locks, Hears, Bad, Stops, Halt, Ended, Taken, Full, Saying, Unlocks, Prints, Ends, Opened, Machine, label_of, CanCross, Leads, Block, begun, Run, starts, quiet, labelled}
 use Rattle.cas_runs.specs.Refines.{AtLock, AtHearing, HaltsToo, Subsequence, done, keep, skip, Within, EachWithin, none, more, HasRun, BadBefore, Kept, CrossesAs, IsCrossing, Refines, NamesAlone, EachKept}
 use Rattle.cas_runs.proofs.Refining.{IsQuiet, leads_not_quiet, one_state, bad_longer, Before, before_label, has_before, has_shorter, crossing_or_not, bad_or_fine}
 use Rattle.cas_runs.specs.Rules.{Proceeds}
@@ -19,7 +19,7 @@ each_both : {bs cs ds : List Block} → EachWithin bs cs → EachWithin cs ds �
 each_both none none = none
 each_both (more h hs) (more k ks) = more (within_both _ _ _ h k) (each_both hs ks)
 
-sub_both : {xs ys zs : List NameBytes} → Subsequence xs ys → Subsequence ys zs → Subsequence xs zs
+sub_both : {xs ys zs : List Opened} → Subsequence xs ys → Subsequence ys zs → Subsequence xs zs
 sub_both h (skip k) = skip (sub_both h k)
 sub_both done done = done
 sub_both (keep h) (keep k) = keep (sub_both h k)
@@ -176,7 +176,7 @@ each_same : (bs : List Block) → EachWithin bs bs
 each_same [] = none
 each_same (b ∷ bs) = more (within_same b) (each_same bs)
 
-pub sub_same : (xs : List NameBytes) → Subsequence xs xs
+pub sub_same : (xs : List Opened) → Subsequence xs xs
 sub_same [] = done
 sub_same (x ∷ xs) = keep (sub_same xs)
 

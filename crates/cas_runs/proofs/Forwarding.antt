@@ -280,9 +280,15 @@ module _ {F A G B : Type 0} (r : Relation F A G B) (At : F → G → A → B →
               (does_last n p q h k (t_step R' x h).holding b y c (plain.again p q h k (t_step R' x h).holding (s_step R' y k).holding a both.share both.memory) m.within both.lasts both.s_does)
           by (moving u) = subst (λ o. Does R' n p q h k to from o (t_step R' x h).holding b y c) (sym u.does) (does_moving n p q x h b y k c a m u)
 
-      none_called : (names : List NameBytes) → Subsequence [] names
-      none_called [] = done
-      none_called (name ∷ names) = skip (none_called names)
+      none_called : (o : Option (Last B)) → Subsequence [] (called o)
+      none_called None = done
+      none_called (Some (Goes y)) = done
+      none_called (Some (Takes lock y)) = done
+      none_called (Some (Gives lock y)) = done
+      none_called (Some (Puts word y)) = done
+      none_called (Some (Calls function vs next)) = skip done
+      none_called (Some (Tails function vs)) = skip done
+      none_called (Some (Returns vs)) = done
 
       called_same : {l : Last A} {m : Last B} → LastAt r At to from l m → called (Some l) ≡ called (Some m)
       called_same (goes_at at) = refl
@@ -305,7 +311,7 @@ module _ {F A G B : Type 0} (r : Relation F A G B) (At : F → G → A → B →
                 opened = subst (λ o. Subsequence (called o) (called (s_step R' y k).last)) (sym u.t_does)
                     (subst (λ o. Subsequence (called (Some u.t_last)) (called o)) (sym s_does) (subst (λ v. Subsequence (called (Some u.t_last)) v) (called_same u.lasts) (sub_same (called (Some u.t_last)))));
               })
-          by m (moving u) = inr (record { within = m.within; opened = subst (λ o. Subsequence (called o) (called (s_step R' y k).last)) (sym u.does) (none_called (called (s_step R' y k).last)) })
+          by m (moving u) = inr (record { within = m.within; opened = subst (λ o. Subsequence (called o) (called (s_step R' y k).last)) (sym u.does) (none_called (s_step R' y k).last) })
 
     pub forward_passes : Passes R'
     forward_passes = record {

@@ -4,7 +4,7 @@ use Rattle.cas_runs.specs.Label.{NameBytes, same_name, Share, Crossing, RunLabel
 use Rattle.cas_runs.specs.Edge.{AreGuarded, returned, results_of}
 use Rattle.cas_runs.specs.Outside.{crossed, MayBring}
 use Rattle.cas_runs.specs.Naming.{Value, Naming, and_then, all_taken}
-use Rattle.cas_runs.specs.Machine.{Act, Quiet, Says, Crosses, Locks, Hears, Bad, Stops, Ended, Taken, Full, Prints, Machine, CanCross, Leads, IsBad, Block, nothing, begun, onward, and_step}
+use Rattle.cas_runs.specs.Machine.{Act, Quiet, Says, Crosses, Locks, Hears, Bad, Stops, Ended, Taken, Full, Prints, Opened, Open, Between, Machine, CanCross, Leads, IsBad, Block, nothing, begun, onward, and_step}
 use Rattle.cas_runs.specs.Refines.{Within, Subsequence, done, keep, skip, Refines}
 use Rattle.cas_runs.specs.Simulation.{halts, fails_halting, step_halting, BadSoon, now, soon, Follows, related, fails as fails_follows, step, FollowsBy, by, fails_before, step_before, waits_too, fails_waiting, step_waiting, FollowsHearing, hears_too, fails_hearing, step_hearing, crosses, fails_crossing, step_crossing, Answers, Fine, Simulates}
 use Rattle.cas_runs.specs.Bounds.{IsTariff, Tariff, BySize, ByForms, step_price, first_price, waiting_price}
@@ -72,17 +72,17 @@ module _ {F A G B : Type 0} (r : Relation F A G B) (is : Keeps r) (pays : Pays r
   frames_wider h k m' le (under less e made wait based fr) = under (omega (arith, le, less)) e made wait based fr
   frames_wider h k m' le (passed only based fr) = passed only based (frames_wider h k m' le fr)
 
-  frames_open : {h k : Holding} {m : ℕ} {xs : List (Frame F A)} {ys : List (Frame G B)} → Frames h k m xs ys → (as' bs' : List NameBytes) → Subsequence as' bs' → Subsequence (below r.target xs as') (below r.source ys bs')
+  frames_open : {h k : Holding} {m : ℕ} {xs : List (Frame F A)} {ys : List (Frame G B)} → Frames h k m xs ys → (as' bs' : List Opened) → Subsequence as' bs' → Subsequence (below r.target xs as') (below r.source ys bs')
   frames_open bottom as' bs' s = s
-  frames_open (outer o fr) as' bs' s = frames_open fr as' bs' s
+  frames_open (outer o fr) as' bs' s = frames_open fr (Between ∷ as') (Between ∷ bs') (keep s)
   frames_open (under {f = f} {g = g} less e made wait based fr) as' bs' s =
-      frames_open fr (r.target.name f ∷ as') (r.source.name g ∷ bs') (subst (λ v. Subsequence (r.target.name f ∷ as') (v ∷ bs')) (is.names f g made) (keep s))
-  frames_open (passed {g = g} only based fr) as' bs' s = frames_open fr as' (r.source.name g ∷ bs') (skip s)
+      frames_open fr (Open (r.target.name f) ∷ as') (Open (r.source.name g) ∷ bs') (subst (λ v. Subsequence (Open (r.target.name f) ∷ as') (Open v ∷ bs')) (is.names f g made) (keep s))
+  frames_open (passed {g = g} only based fr) as' bs' s = frames_open fr as' (Open (r.source.name g) ∷ bs') (skip s)
 
   pub data Lifted : Thread F A → Block → Thread G B → Block → Type 0 where
     away : {xs : List (Frame F A)} {ys : List (Frame G B)} {p q : Past} {h k : Holding} {b c : Block} → outward ≡ true → Within b c → r.alike p h q k → Frames h k p.begun xs ys → Lifted (Away xs p h) b (Away ys q k) c
     runs : {f : F} {g : G} {n n' e e' : ℕ} {x : A} {y : B} {xs : List (Frame F A)} {ys : List (Frame G B)} {p q : Past} {h k : Holding} {b c : Block} → r.made f g → n + 1 ≤ p.begun → n ≡ n' → r.match f g n x h b y k c → r.alike p h q k → Based outward xs → Frames h k n xs ys → Lifted (Runs f n x e xs p h) b (Runs g n' y e' ys q k) c
-    leaving : {z : Thread G B} {vs : List Value} {xs : List (Frame F A)} {p : Past} {h : Holding} {b c : Block} (ws : List Value) (ys : List (Frame G B)) (q : Past) (k : Holding) → outward ≡ true → S.act z ≡ leaves r.setting.layout ws ys q k → Subsequence (below r.target xs []) (S.open_functions z) → Within b c → AllSame r vs ws → r.alike p h q k → Frames h k p.begun xs ys → Lifted (Leaves vs xs p h) b z c
+    leaving : {z : Thread G B} {vs : List Value} {xs : List (Frame F A)} {p : Past} {h : Holding} {b c : Block} (ws : List Value) (ys : List (Frame G B)) (q : Past) (k : Holding) → outward ≡ true → S.act z ≡ leaves r.setting.layout ws ys q k → Subsequence (below r.target xs (Between ∷ [])) (S.open_functions z) → Within b c → AllSame r vs ws → r.alike p h q k → Frames h k p.begun xs ys → Lifted (Leaves vs xs p h) b z c
     over : {b c : Block} → Within b c → Lifted Over b Over c
     broken : {x : Thread F A} {z : Thread G B} {b c : Block} → IsBad (S.act z) → Lifted x b z c
 
@@ -514,17 +514,17 @@ module _ {F A G B : Type 0} (r : Relation F A G B) (is : Keeps r) (pays : Pays r
     Back_to xs z c = Fol ls (comes_back (Some vs) xs p h) (begun T (comes_back (Some vs) xs p h)) z c
 
     -- the source is about to return to the outside what came back
-    leaving_later : (xs : List (Frame F A)) (ys : List (Frame G B)) → Frames h k p.begun xs ys → (o o' : Option (List Value)) → SameIf r o o' → (c : Block) (z : Thread G B) → waiting_price r.target.tariff r.targets ≤ c.price → Subsequence (below r.target xs []) (S.open_functions z) → S.act z ≡ leaves_with r.setting.layout o' ys q k → Fol ls (leaves_later o xs p h) (begun T (leaves_later o xs p h)) z c
+    leaving_later : (xs : List (Frame F A)) (ys : List (Frame G B)) → Frames h k p.begun xs ys → (o o' : Option (List Value)) → SameIf r o o' → (c : Block) (z : Thread G B) → waiting_price r.target.tariff r.targets ≤ c.price → Subsequence (below r.target xs (Between ∷ [])) (S.open_functions z) → S.act z ≡ leaves_with r.setting.layout o' ys q k → Fol ls (leaves_later o xs p h) (begun T (leaves_later o xs p h)) z c
     leaving_later xs ys fr o None same c z w opened e = fails_follows (subst (λ (v : Act (Thread G B)). IsBad v) (sym e) tt)
     leaving_later xs ys fr None (Some ws) same c z w opened e = absurd same
     leaving_later xs ys fr (Some us) (Some ws) same c z w opened e = related (leaving ws ys q k out e opened (waiting_within c w) same alike fr)
 
     -- what follows in the source on a result that is only passed on
-    passes_back : (n : ℕ) (g : G) (xs : List (Frame F A)) (ys : List (Frame G B)) → r.source.blocks g ≡ [] → (next : List Value → Option B) → Subsequence (below r.target xs []) (below r.source ys (r.source.name g ∷ [])) → (ws' : List Value) → FirstSame vs ws' → (y : B) → PassesOn r ws' (Some y) → ((us : List Value) → FirstSame vs us → (c' : Block) (z' : Thread G B) → waiting_price r.target.tariff r.targets ≤ c'.price → Subsequence (below r.target xs []) (S.open_functions z') → S.act z' ≡ returns r.setting.layout us ys q k → Back_to xs z' c') → (c : Block) → step_price r.source.tariff r.sources y ≤ c.price → Back_to xs (Runs g n y 0 ys q k) c
+    passes_back : (n : ℕ) (g : G) (xs : List (Frame F A)) (ys : List (Frame G B)) → r.source.blocks g ≡ [] → (next : List Value → Option B) → Subsequence (below r.target xs []) (below r.source ys (Open (r.source.name g) ∷ [])) → (ws' : List Value) → FirstSame vs ws' → (y : B) → PassesOn r ws' (Some y) → ((us : List Value) → FirstSame vs us → (c' : Block) (z' : Thread G B) → waiting_price r.target.tariff r.targets ≤ c'.price → Subsequence (below r.target xs []) (S.open_functions z') → S.act z' ≡ returns r.setting.layout us ys q k → Back_to xs z' c') → (c : Block) → step_price r.source.tariff r.sources y ≤ c.price → Back_to xs (Runs g n y 0 ys q k) c
     passes_back n g xs ys none next opened ws' s y (fails_then form) more c le = fails_follows (failing_form g n 0 ys q k y form)
     passes_back n g xs ys none next opened ws' s y (returns_first us rest are form less) more c le =
         more us (fewer_first vs us rest (subst (λ v. FirstSame vs v) are s)) c (Runs g n y 0 ys q k) (omega (arith, le, less))
-        (subst (λ (v : _). Subsequence (below r.target xs []) (below r.source ys (r.source.name g ∷ called (performed r.setting.edge.cells r.setting.words v (record { holding = k; footprint = nothing_touched })).last))) (sym form) opened)
+        (subst (λ (v : _). Subsequence (below r.target xs []) (below r.source ys (Open (r.source.name g) ∷ called (performed r.setting.edge.cells r.setting.words v (record { holding = k; footprint = nothing_touched })).last))) (sym form) opened)
         (passing_on g next n 0 ys q k us y none form)
 
     -- the source is about to return what came back
@@ -538,7 +538,7 @@ module _ {F A G B : Type 0} (r : Relation F A G B) (is : Keeps r) (pays : Pays r
       where
         on : (ws' : List Value) → FirstSame vs ws' → (o : Option B) → PassesOn r ws' o → ((us : List Value) → FirstSame vs us → (c' : Block) (z' : Thread G B) → waiting_price r.target.tariff r.targets ≤ c'.price → Subsequence (below r.target xs []) (S.open_functions z') → S.act z' ≡ returns r.setting.layout us ys q k → Back_to xs z' c') → S.act z ≡ goes_back g n o ys q k → Back_to xs z c
         on ws' s' None passes more f = fails_follows (subst (λ (v : Act (Thread G B)). IsBad v) (sym f) tt)
-        on ws' s' (Some y) passes more f = step (Runs g n y 0 ys q k) f (passes_back n g xs ys only.0 next' (frames_open fr [] (r.source.name g ∷ []) (skip done)) ws' s' y passes more (onward S c (Runs g n y 0 ys q k)) (omega arith))
+        on ws' s' (Some y) passes more f = step (Runs g n y 0 ys q k) f (passes_back n g xs ys only.0 next' (frames_open fr [] (Open (r.source.name g) ∷ []) (skip done)) ws' s' y passes more (onward S c (Runs g n y 0 ys q k)) (omega arith))
 
         by : (o : Option (List Value)) → kept_results results ws ≡ o → ((us : List Value) → FirstSame vs us → (c' : Block) (z' : Thread G B) → waiting_price r.target.tariff r.targets ≤ c'.price → Subsequence (below r.target xs []) (S.open_functions z') → S.act z' ≡ returns r.setting.layout us ys q k → Back_to xs z' c') → S.act z ≡ goes_back g n (and_then o next') ys q k → Back_to xs z c
         by None i more f = fails_follows (subst (λ (v : Act (Thread G B)). IsBad v) (sym f) tt)
@@ -552,7 +552,7 @@ module _ {F A G B : Type 0} (r : Relation F A G B) (is : Keeps r) (pays : Pays r
         by : (o o' : Option (List Value)) → SameIf r o o' → Fol ls (leaves_later o xs p h) (begun T (leaves_later o xs p h)) (leaves_later o' ys q k) (begun S (leaves_later o' ys q k))
         by o None same = related (broken tt)
         by None (Some us) same = absurd same
-        by (Some us) (Some ws') same = related (leaving ws' ys q k out refl (frames_open fr [] [] done) waits_within same alike (frames_wider h k p.begun less fr))
+        by (Some us) (Some ws') same = related (leaving ws' ys q k out refl (frames_open fr (Between ∷ []) (Between ∷ []) (keep done)) waits_within same alike (frames_wider h k p.begun less fr))
     back_too (under {n = n} {n' = n'} {f = f} {g = g} {results = results} {next = next} {next' = next'} {xs = xs} {ys = ys} below' equal made wait under' fr) less ws s =
         at (and_then (kept_results results vs) next) (and_then (kept_results results ws) next') (waits_ready f g n p q h k alike results next next' wait vs ws s)
       where
@@ -566,7 +566,7 @@ module _ {F A G B : Type 0} (r : Relation F A G B) (is : Keeps r) (pays : Pays r
         on : (ws' : List Value) → FirstSame vs ws' → (o : Option B) → PassesOn r ws' o → Back_to xs (resumes g n o ys q k) (begun S (resumes g n o ys q k))
         on ws' s' None passes = related (broken tt)
         on ws' s' (Some y) passes =
-            passes_back n g xs ys only.0 next' (frames_open fr [] (r.source.name g ∷ []) (skip done)) ws' s' y passes (λ us s'' c' z' w' opened' e'. back_later fr less under' us s'' c' z' w' opened' e') (begun S (Runs g n y 0 ys q k)) (omega arith)
+            passes_back n g xs ys only.0 next' (frames_open fr [] (Open (r.source.name g) ∷ []) (skip done)) ws' s' y passes (λ us s'' c' z' w' opened' e'. back_later fr less under' us s'' c' z' w' opened' e') (begun S (Runs g n y 0 ys q k)) (omega arith)
 
         by : (o : Option (List Value)) → kept_results results ws ≡ o → Back_to xs (resumes g n (and_then o next') ys q k) (begun S (resumes g n (and_then o next') ys q k))
         by None i = related (broken tt)
@@ -611,8 +611,8 @@ module _ {F A G B : Type 0} (r : Relation F A G B) (is : Keeps r) (pays : Pays r
 
     -- The simulation.
 
-    open_runs : (f : F) (g : G) (x : A) (h : Holding) (y : B) (k : Holding) → r.made f g → Subsequence (called (t_step r x h).last) (called (s_step r y k).last) → Subsequence (r.target.name f ∷ called (t_step r x h).last) (r.source.name g ∷ called (s_step r y k).last)
-    open_runs f g x h y k made s = subst (λ v. Subsequence (r.target.name f ∷ called (t_step r x h).last) (v ∷ called (s_step r y k).last)) (is.names f g made) (keep s)
+    open_runs : (f : F) (g : G) (x : A) (h : Holding) (y : B) (k : Holding) → r.made f g → Subsequence (called (t_step r x h).last) (called (s_step r y k).last) → Subsequence (Open (r.target.name f) ∷ called (t_step r x h).last) (Open (r.source.name g) ∷ called (s_step r y k).last)
+    open_runs f g x h y k made s = subst (λ v. Subsequence (Open (r.target.name f) ∷ called (t_step r x h).last) (Open v ∷ called (s_step r y k).last)) (is.names f g made) (keep s)
 
     fine_of : (ls : List RunLabel) (x : Thread F A) (b : Block) (z : Thread G B) (c : Block) → Lifted x b z c → BadSoon S z ⊎ Fine r.setting.edge T S Rel x b z c
     fine_of ls x b z c (away out w alike fr) = inr (record { costs = waiting_costs r.target.tariff r.targets; within = w; opened = frames_open fr [] [] done })

@@ -3,7 +3,7 @@ use Rattle.std.specs.Prelude.{ℕ, zero, suc, ◌+◌, nat_eq, Bool, true, false
 use Rattle.cas_runs.specs.Label.{NameBytes, same_name, Share, Crossing, RunLabel, Enter, Back, Call, Leave}
 use Rattle.cas_runs.specs.Edge.{results_of}
 use Rattle.cas_runs.specs.Naming.{Own, Value, Number, Layout, parts_at, Naming, Memory, and_then, all_named_by, can_show_all, objects_of, same_objects, all_taken, with_block, brought}
-use Rattle.cas_runs.specs.Machine.{Footprint, Act, Quiet, Says, Crosses, Locks, Hears, Bad, Stops, Ended, Taken, Unlocks, Prints, Ends, Machine}
+use Rattle.cas_runs.specs.Machine.{Footprint, Act, Quiet, Says, Crosses, Locks, Hears, Bad, Stops, Ended, Taken, Unlocks, Prints, Ends, Opened, Open, Between, Machine}
 use Rattle.cas_runs.specs.Bounds.{Tariff, step_price, first_price, waiting_price}
 use Rattle.cas_runs.specs.Access.{Accesses, Holding, words_in, with_lock, without_lock, Performed, performed}
 use Rattle.cas_runs.specs.Unit.{Setting, Language, guard_of}
@@ -243,17 +243,17 @@ module _ {F A : Type 0} (l : Activations F A) where
   enters (Some f) None stack past h = Wrong
   enters (Some f) (Some values) stack past h = enters_at f (l.enter f past.begun values) stack past h
 
-  -- the functions of the waiting activations, the oldest first, and then these
-  abbrev pub below : List (Frame F A) → List NameBytes → List NameBytes
+  -- the functions of the waiting activations, the oldest first, with the places where the outside called in, and then these
+  abbrev pub below : List (Frame F A) → List Opened → List Opened
   below [] names = names
-  below (Waits f serial results next ∷ stack) names = below stack (l.name f ∷ names)
-  below (Outer results ∷ stack) names = below stack names
+  below (Waits f serial results next ∷ stack) names = below stack (Open (l.name f) ∷ names)
+  below (Outer results ∷ stack) names = below stack (Between ∷ names)
 
 -- the called function, where the step is a call
-abbrev pub called : {A : Type 0} → Option (Last A) → List NameBytes
+abbrev pub called : {A : Type 0} → Option (Last A) → List Opened
 called None = []
-called (Some (Calls function values next)) = function ∷ []
-called (Some (Tails function values)) = function ∷ []
+called (Some (Calls function values next)) = Open function ∷ []
+called (Some (Tails function values)) = Open function ∷ []
 called (Some (Goes next)) = []
 called (Some (Takes lock next)) = []
 called (Some (Gives lock next)) = []
@@ -319,10 +319,10 @@ module _ {F A : Type 0} (l : Activations F A) (setting : Setting) (scene : Scene
   footprint_at Wrong = nothing_touched
 
   -- the functions of the activations, and the called one
-  abbrev pub open_at : Thread F A → List NameBytes
+  abbrev pub open_at : Thread F A → List Opened
   open_at (Away stack past h) = below l stack []
-  open_at (Runs f serial now extra stack past h) = below l stack (l.name f ∷ called (step_at l setting now h).last)
-  open_at (Leaves values stack past h) = below l stack []
+  open_at (Runs f serial now extra stack past h) = below l stack (Open (l.name f) ∷ called (step_at l setting now h).last)
+  open_at (Leaves values stack past h) = below l stack (Between ∷ [])
   open_at Over = []
   open_at Wrong = []
 

@@ -54,14 +54,19 @@ pub data Act (S : Type 0) : Type 0 where
   -- no next step
   Stops : (why : Halt) → Act S
 
+-- among the open functions: one of an activation, or the outside, which called in there
+pub data Opened : Type 0 where
+  Open : (function : NameBytes) → Opened
+  Between : Opened
+
 -- a language at one unit. The price and the footprint at a state are those of the step that is next there
 pub record Machine (S : Type 0) : Type 0 where
   pub start : S
   pub act : S → Act S
   pub price : S → ℕ
   pub footprint : S → Footprint
-  -- the functions of the activations, the oldest first, and after them the called one where a call is next
-  pub open_functions : S → List NameBytes
+  -- the functions of the activations, the oldest first, and after them the called one where a call is next; and where the outside has called in
+  pub open_functions : S → List Opened
 
 -- after these labels, the act leads by this label to this state
 abbrev pub Leads : {S : Type 0} → Edge → List RunLabel → Act S → RunLabel → S → Type 0

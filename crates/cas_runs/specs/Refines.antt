@@ -3,13 +3,13 @@ use Rattle.std.specs.Prelude.{◌≡◌, ℕ, ◌<◌, ◌≤◌, List, [], ◌�
 use Rattle.cas_runs.specs.Label.{NameBytes, RunLabel}
 use Rattle.cas_runs.specs.Edge.{Edge}
 use Rattle.cas_runs.specs.Outside.{IsAmong}
-use Rattle.cas_runs.specs.Machine.{Act, Quiet, Says, Crosses, Locks, Hears, Bad, Stops, Halt, Ended, Taken, Full, Machine, CanCross, Leads, IsBad, Block, Run}
+use Rattle.cas_runs.specs.Machine.{Act, Quiet, Says, Crosses, Locks, Hears, Bad, Stops, Halt, Ended, Taken, Full, Opened, Open, Machine, CanCross, Leads, IsBad, Block, Run}
 
--- the same names in order, with some left out
-pub data Subsequence : List NameBytes → List NameBytes → Type 0 where
+-- the same functions in order, with some left out, between the same calls of the outside
+pub data Subsequence : List Opened → List Opened → Type 0 where
   done : Subsequence [] []
-  keep : {x : NameBytes} {xs ys : List NameBytes} → Subsequence xs ys → Subsequence (x ∷ xs) (x ∷ ys)
-  skip : {y : NameBytes} {xs ys : List NameBytes} → Subsequence xs ys → Subsequence xs (y ∷ ys)
+  keep : {x : Opened} {xs ys : List Opened} → Subsequence xs ys → Subsequence (x ∷ xs) (x ∷ ys)
+  skip : {function : NameBytes} {xs ys : List Opened} → Subsequence xs ys → Subsequence xs (Open function ∷ ys)
 
 -- a block of the target is within one of the source: it pays at most as much, writes only what that writes, and reads only what that reads or writes
 pub record Within (b c : Block) : Type 0 where

@@ -1,7 +1,7 @@
 -- The pass that makes tail calls is a pass of the layer of calls.
 use Rattle.std.proofs.Common.{◌≡◌, ℕ, List, [], ◌∷◌, ◌⊎◌, Some, inr, refl, sym, subst, arith, append-nil}
 use Rattle.cas_runs.specs.Naming.{Value, Layout}
-use Rattle.cas_runs.specs.Machine.{Block}
+use Rattle.cas_runs.specs.Machine.{Open, Block}
 use Rattle.cas_runs.specs.Access.{Holding}
 use Rattle.cas_runs.specs.Unit.{Setting, AreDistinct, IsEdge, IsLayout}
 use Rattle.cas_runs.specs.Calls.{Past, with_own, one_begun, nothing_touched, language}
@@ -42,7 +42,7 @@ module _ (setting : Setting) (ts : List Relayed) (ss : List Relaying) where
   enters_ready f g n p q h k a v w e (x ∷ vs) (y ∷ ws) s = tt
 
   fine_at : (n : ℕ) (f : Relayed) (g : Relaying) → R.made f g → (p q : Past) (x : Relay) (h : Holding) (b : Block) (y : Relay) (k : Holding) (c : Block) → AtCall n x h b y k c → R.alike p h q k → FailsSoon R y k ⊎ FineAt R x h b y k c
-  fine_at n f g made p q x h b y k c (at_call w) a = inr (record { within = w; opened = sub_same (show_name ∷ []) })
+  fine_at n f g made p q x h b y k c (at_call w) a = inr (record { within = w; opened = sub_same (Open show_name ∷ []) })
 
   does_at : (n : ℕ) (f : Relayed) (g : Relaying) → R.made f g → (p q : Past) (x : Relay) (h : Holding) (b : Block) (y : Relay) (k : Holding) (c : Block) → AtCall n x h b y k c → R.alike p h q k → Does R n p q h k f g (t_step R x h).last (t_step R x h).holding b y c
   does_at n f g m p q x h b y k c (at_call {word = word} w) a = meets (passing _ hands (refl, tt) (record { alike = a; later = tt }) (refl, λ ws count. returns_first ws [] (sym (append-nil ws)) refl (omega arith)))
