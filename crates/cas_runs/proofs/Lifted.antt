@@ -80,7 +80,7 @@ module _ {F A G B : Type 0} (target : Activations F A) (source : Activations G B
   threads_pass edge words ts ss entry thread is_edge word all distinct = record {
     naming = naming ss;
     laid_out_too = laid_out_too ts ss all distinct;
-    refines = λ layout unknown laid.
-        let setting : Setting = record { edge = edge; words = words; layout = layout; unknown = unknown } in
+    refines = λ layout stack unknown laid.
+        let setting : Setting = record { edge = edge; words = words; layout = layout; stack = stack; unknown = unknown } in
         thread_refines (relation target source made naming same alike later match ts ss setting) (passes setting ts ss all distinct is_edge laid) (among_all made ts ss all) entry thread word;
   }

@@ -37,9 +37,9 @@ module _ {F G H T S R : Type 0} (lt : Language F T) (ls : Language G S) (lr : La
   threads_both edge words ts ss rs entry thread h k = record {
     naming = λ l. h.naming (k.naming l);
     laid_out_too = λ l p. h.laid_out_too (k.naming l) (k.laid_out_too l p);
-    refines = λ layout unknown laid. refines_both edge
-        (lt.thread (record { edge = edge; words = words; layout = h.naming (k.naming layout); unknown = unknown }) ts entry thread)
-        (ls.thread (record { edge = edge; words = words; layout = k.naming layout; unknown = unknown }) ss entry thread)
-        (lr.thread (record { edge = edge; words = words; layout = layout; unknown = unknown }) rs entry thread)
-        (h.refines (k.naming layout) unknown (k.laid_out_too layout laid)) (k.refines layout unknown laid);
+    refines = λ layout stack unknown laid. refines_both edge
+        (lt.thread (record { edge = edge; words = words; layout = h.naming (k.naming layout); stack = stack; unknown = unknown }) ts entry thread)
+        (ls.thread (record { edge = edge; words = words; layout = k.naming layout; stack = stack; unknown = unknown }) ss entry thread)
+        (lr.thread (record { edge = edge; words = words; layout = layout; stack = stack; unknown = unknown }) rs entry thread)
+        (h.refines (k.naming layout) stack unknown (k.laid_out_too layout laid)) (k.refines layout stack unknown laid);
   }

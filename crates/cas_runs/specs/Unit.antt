@@ -18,17 +18,23 @@ use Rattle.cas_runs.specs.Machine.{Machine}
 use Rattle.cas_runs.specs.Outside.{Holds}
 use Rattle.cas_runs.specs.Refines.{Refines}
 
--- where a machine runs: the edge, where the words of each global and lock stand, which stretches of blocks are objects, and the values that nothing
--- fixes, as flags after a call of the lock
+-- the stack of a machine that has addresses: the address of its first word, and how many words it has
+pub record Stack : Type 0 where
+  pub address : ℕ
+  pub size : ℕ
+
+-- where a machine runs: the edge, where the words of each global and lock stand, which stretches of blocks are objects, the stack, and the values that
+-- nothing fixes, as flags and words below the stack's top after a call of the lock: at each occasion one for each place
 pub record Setting : Type 0 where
   pub edge : Edge
   pub words : Words
   pub layout : Layout
-  pub unknown : ℕ → ℕ
+  pub stack : Stack
+  pub unknown : (occasion place : ℕ) → ℕ
 
 -- the setting with another layout
 abbrev pub laid_out : Setting → Layout → Setting
-laid_out setting layout = record { edge = setting.edge; words = setting.words; layout = layout; unknown = setting.unknown }
+laid_out setting layout = record { edge = setting.edge; words = setting.words; layout = layout; stack = setting.stack; unknown = setting.unknown }
 
 -- a language: of its functions F the names and the sizes of an activation's blocks, and its runs with states S
 pub record Language (F S : Type 0) : Type 0 where
@@ -133,7 +139,7 @@ abbrev pub HaveValues : Edge → ℕ → List ℕ → Type 0
 HaveValues edge n [] = Unit {0}
 HaveValues edge n (v ∷ vs) = ((c : Cell) × (slice_get edge.cells n ≡ Some c) × (first_value c ≡ v)) × HaveValues edge (n + 1) vs
 
--- the defined globals have their values
+-- the defined globals have their values. A lock has none among a unit's data: its word is 1 at first
 abbrev pub HaveData : Edge → Words → List Global → Type 0
 HaveData edge words [] = Unit {0}
 HaveData edge words (g ∷ gs) = ((s : Stretch) × (words g.decl.name ≡ Some s) × HaveValues edge s.first g.values) × HaveData edge words gs
@@ -224,4 +230,4 @@ pub record FunctionRefines {F G S T : Type 0} (lt : Language F T) (ls : Language
 pub record ThreadRefines {F G S T : Type 0} (lt : Language F T) (ls : Language G S) (edge : Edge) (words : Words) (ts : List F) (ss : List G) (entry : NameBytes) (thread : ℕ) : Type 0 where
   pub naming : Layout → Layout
   pub laid_out_too : (layout : Layout) → IsLayout ls ss layout → IsLayout lt ts (naming layout)
-  pub refines : (layout : Layout) (unknown : ℕ → ℕ) → IsLayout ls ss layout → Refines edge (lt.thread (record { edge = edge; words = words; layout = naming layout; unknown = unknown }) ts entry thread) (ls.thread (record { edge = edge; words = words; layout = layout; unknown = unknown }) ss entry thread)
+  pub refines : (layout : Layout) (stack : Stack) (unknown : (occasion place : ℕ) → ℕ) → IsLayout ls ss layout → Refines edge (lt.thread (record { edge = edge; words = words; layout = naming layout; stack = stack; unknown = unknown }) ts entry thread) (ls.thread (record { edge = edge; words = words; layout = layout; stack = stack; unknown = unknown }) ss entry thread)

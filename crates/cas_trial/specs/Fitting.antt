@@ -30,7 +30,7 @@ abbrev pub decls : List Decl
 decls = lock_decl ∷ global_decl ∷ main_decl ∷ show_decl ∷ []
 
 abbrev pub globals : List Global
-globals = record { decl = lock_decl; values = 1 ∷ [] } ∷ record { decl = global_decl; values = 5 ∷ [] } ∷ []
+globals = record { decl = lock_decl; values = [] } ∷ record { decl = global_decl; values = 5 ∷ [] } ∷ []
 
 -- the lock is word 0, and it guards word 1
 abbrev pub edge : Edge
@@ -53,7 +53,7 @@ abbrev pub one_word_each : Layout
 one_word_each = λ function. two_words
 
 abbrev pub setting : Setting
-setting = record { edge = edge; words = words; layout = one_word_each; unknown = λ n. 0 }
+setting = record { edge = edge; words = words; layout = one_word_each; stack = record { address = 0; size = 16 }; unknown = λ occasion place. 0 }
 
 -- the first variable with this word
 abbrev pub first_object : ℕ → Object
