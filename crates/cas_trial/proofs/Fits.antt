@@ -75,26 +75,26 @@ by_label ls l h y e = record { blocks = h.block ∷ h.blocks; block = begun m y;
 abbrev nothing_crossed : Crossing
 nothing_crossed = record { values = []; share = []; objects = [] }
 
-abbrev entered : HasRun edge m (front 5 labels)
+abbrev entered : HasRun edge m (front 6 labels)
 entered = by_label [] (Enter main_name nothing_crossed) (record { blocks = []; block = begun m m.start; at = m.start; run = starts }) _ (record { signature = _; known = refl; inside = refl; values = tt; holds = tt; brings = record { share = tt; objects = tt; room = omega arith; numbers = refl } }, refl)
 
-abbrev stored : HasRun edge m (front 5 labels)
-stored = on (front 5 labels) entered _ refl
+abbrev stored : HasRun edge m (front 6 labels)
+stored = on (front 6 labels) entered _ refl
 
-abbrev locked : HasRun edge m (front 4 labels)
-locked = by_label (front 5 labels) (Lock 0 (5 ∷ [])) stored _ (5 ∷ [], refl, record { is_lock = refl; kinds = (refl, tt) }, refl)
+abbrev locked : HasRun edge m (front 5 labels)
+locked = by_label (front 6 labels) (Lock 0 (5 ∷ [])) stored _ (5 ∷ [], refl, record { is_lock = refl; kinds = (refl, tt) }, refl)
 
-abbrev wrote : HasRun edge m (front 4 labels)
-wrote = on (front 4 labels) locked _ refl
+abbrev wrote : HasRun edge m (front 5 labels)
+wrote = on (front 5 labels) locked _ refl
 
-abbrev unlocked : HasRun edge m (front 3 labels)
-unlocked = by_label (front 4 labels) (Unlock 0 (3 ∷ [])) wrote _ (refl, refl)
+abbrev unlocked : HasRun edge m (front 4 labels)
+unlocked = by_label (front 5 labels) (Unlock 0 (3 ∷ [])) wrote _ (refl, refl)
 
-abbrev showed : HasRun edge m (front 2 labels)
-showed = by_label (front 3 labels) (Call show_name (record { values = Place 0 1 ∷ []; share = []; objects = first_object 3 ∷ [] })) unlocked _ (tt, refl)
+abbrev showed : HasRun edge m (front 3 labels)
+showed = by_label (front 4 labels) (Call show_name (record { values = Place 0 1 ∷ []; share = []; objects = first_object 3 ∷ [] })) unlocked _ (tt, refl)
 
-abbrev came : HasRun edge m (front 1 labels)
-came = by_label (front 2 labels) (Back (record { values = Place 0 0 ∷ []; share = []; objects = first_object 9 ∷ [] })) showed _ (
+abbrev came : HasRun edge m (front 2 labels)
+came = by_label (front 3 labels) (Back (record { values = Place 0 0 ∷ []; share = []; objects = first_object 9 ∷ [] })) showed _ (
   record {
     function = show_name;
     locks = [];
@@ -109,8 +109,11 @@ came = by_label (front 2 labels) (Back (record { values = Place 0 0 ∷ []; shar
   refl,
 )
 
+abbrev told : HasRun edge m (front 1 labels)
+told = by_label (front 2 labels) (Out 9) came _ (refl, refl)
+
 pub comes_back : HasRun edge m labels
-comes_back = by_label (front 1 labels) (Out 9) came _ (refl, refl)
+comes_back = by_label (front 1 labels) (Out 7) told _ (refl, refl)
 
 pub apart_rules : (setting : Setting) (fs : List Apart) → IsLayout (language apart) fs setting.layout → KeepsRules setting.edge ((language apart).unit setting fs)
 apart_rules setting fs laid = unit_rules apart setting apart_prices fs laid

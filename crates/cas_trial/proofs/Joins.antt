@@ -16,8 +16,8 @@ use Rattle.cas_runs.proofs.Bringing.{moved_keeps, memory_keeps}
 use Rattle.cas_runs.proofs.Stepping.{stepwise_passes}
 use Rattle.cas_trial.specs.declared.joining.Apart.{Apart}
 use Rattle.cas_trial.specs.declared.joining.Joined.{Joined}
-use Rattle.cas_trial.specs.Stages.{main_name, Stage, Begins, Loading, Ends, puts, puts_at as puts_loaded, came_back, form, enters, apart, joined}
-use Rattle.cas_trial.specs.Places.{IsJoined, spot_of, places, moved_parts, joined_parts, joins, one_word, SameStage, begins, locks, holds, unlocks, shows, loading, ends}
+use Rattle.cas_trial.specs.Stages.{main_name, Stage, Begins, Loading, Tells, Ends, puts, puts_at as puts_loaded, came_back, form, enters, apart, joined}
+use Rattle.cas_trial.specs.Places.{IsJoined, spot_of, places, moved_parts, joined_parts, joins, one_word, SameStage, begins, locks, holds, unlocks, shows, loading, tells, ends}
 
 -- The layout.
 
@@ -201,13 +201,13 @@ module _ (setting : Setting) (ts : List Joined) (ss : List Apart) (f : Joined) (
   abbrev Forms : Accesses (Last Stage) → Accesses (Last Stage) → Type 0
   Forms x y = FormAlike (SameMoved (places ss)) (λ n m. Unit {0}) (LastAt R (λ f g. SameStage ss) f g) x y
 
-  puts_alike : SameStage ss Ends Ends → (v w : Value) → SameMoved (places ss) v w → Forms (puts v) (puts w)
-  puts_alike at v (Pointer home place) s = never
-  puts_alike at v (Number n) s = subst (λ u. Forms (puts u) (puts (Number n))) (let same : Number n ≡ v = cc s in same) (last (puts_at at))
+  puts_alike : (next : Stage) → SameStage ss next next → (v w : Value) → SameMoved (places ss) v w → Forms (puts next v) (puts next w)
+  puts_alike next at v (Pointer home place) s = never
+  puts_alike next at v (Number n) s = subst (λ u. Forms (puts next u) (puts next (Number n))) (let same : Number n ≡ v = cc s in same) (last (puts_at at))
 
-  loading_alike : SameStage ss Ends Ends → (v w : Value) → SameMoved (places ss) v w → Forms (puts_loaded v) (puts_loaded w)
-  loading_alike at v (Number n) s = never
-  loading_alike at (Number n) (Pointer home place) s = absurd (number_differs home place s)
+  loading_alike : (next : Stage) → SameStage ss next next → (v w : Value) → SameMoved (places ss) v w → Forms (puts_loaded next v) (puts_loaded next w)
+  loading_alike next at v (Number n) s = never
+  loading_alike next at (Number n) (Pointer home place) s = absurd (number_differs home place s)
     where
       number_differs : (home : Home) (place : ℕ) → moved (places ss) (Pointer home place) ≡ Some (Number n) → ⊥
       number_differs (Theirs k) place e = cc e
@@ -216,24 +216,25 @@ module _ (setting : Setting) (ts : List Joined) (ss : List Apart) (f : Joined) (
           by : (o : Option Spot) → pointer_in f a o place ≡ Some (Number n) → ⊥
           by None g = cc g
           by (Some to) g = cc g
-  loading_alike at (Pointer home' place') (Pointer home place) s = loads s (puts_alike at)
+  loading_alike next at (Pointer home' place') (Pointer home place) s = loads s (puts_alike next at)
 
-  came_back_at : (us xs : List Value) → AllSame R us xs → ((v w : Value) → SameMoved (places ss) v w → SameStage ss (Loading v) (Loading w)) → AtIf R (λ f g. SameStage ss) f g (came_back us) (came_back xs)
-  came_back_at [] [] s at = tt
-  came_back_at [] (x ∷ xs) s at = absurd s
-  came_back_at (u ∷ us) [] s at = absurd s
-  came_back_at (u ∷ []) (x ∷ []) s at = at u x s.0
-  came_back_at (u ∷ []) (x ∷ y ∷ xs) s at = absurd s.1
-  came_back_at (u ∷ v ∷ us) (x ∷ []) s at = absurd s.1
-  came_back_at (u ∷ v ∷ us) (x ∷ y ∷ xs) s at = tt
+  came_back_at : (serial : ℕ) (us xs : List Value) → AllSame R us xs → ((v w : Value) → SameMoved (places ss) v w → SameStage ss (Loading serial v) (Loading serial w)) → AtIf R (λ f g. SameStage ss) f g (came_back serial us) (came_back serial xs)
+  came_back_at serial [] [] s at = tt
+  came_back_at serial [] (x ∷ xs) s at = absurd s
+  came_back_at serial (u ∷ us) [] s at = absurd s
+  came_back_at serial (u ∷ []) (x ∷ []) s at = at u x s.0
+  came_back_at serial (u ∷ []) (x ∷ y ∷ xs) s at = absurd s.1
+  came_back_at serial (u ∷ v ∷ us) (x ∷ []) s at = absurd s.1
+  came_back_at serial (u ∷ v ∷ us) (x ∷ y ∷ xs) s at = tt
 
 forms_alike : (setting : Setting) (ts : List Joined) (ss : List Apart) (to : Joined) (from : Apart) (x y : Stage) → SameStage ss x y → Forms setting ts ss to from (form 0 1 x) (form 1 0 y)
 forms_alike setting ts ss to from x y begins = stores refl refl (stores refl refl (last (goes_at locks)))
 forms_alike setting ts ss to from x y locks = last (takes_at holds)
 forms_alike setting ts ss to from x y holds = writes (last (goes_at unlocks))
 forms_alike setting ts ss to from x y unlocks = last (gives_at shows)
-forms_alike setting ts ss to from x y (shows {f = f} {fs = fs}) = last (calls_at (refl, tt) (λ us xs s count. came_back_at setting ts (f ∷ fs) to from us xs s (λ v w e. loading e)))
-forms_alike setting ts ss to from x y (loading {f = f} {fs = fs} {v = v} {w = w} s) = loading_alike setting ts (f ∷ fs) to from ends v w s
+forms_alike setting ts ss to from x y (shows {f = f} {fs = fs} {serial = serial}) = last (calls_at (refl, tt) (λ us xs s count. came_back_at setting ts (f ∷ fs) to from serial us xs s (λ v w e. loading e)))
+forms_alike setting ts ss to from x y (loading {f = f} {fs = fs} {serial = serial} {v = v} {w = w} s) = loading_alike setting ts (f ∷ fs) to from (Tells serial) tells v w s
+forms_alike setting ts ss to from x y (tells {f = f} {fs = fs}) = loads refl (λ v w s. puts_alike setting ts (f ∷ fs) to from Ends ends v w s)
 forms_alike setting ts ss to from x y ends = last (returns_at tt)
 
 enters_alike : (setting : Setting) (ts : List Joined) (ss : List Apart) (f : Joined) (g : Apart) → Made ts ss f g → (n : ℕ) (vs ws : List Value) → AllSame (Rel setting ts ss) vs ws → AtIf (Rel setting ts ss) (λ f g. SameStage ss) f g (enters f.cells.0 f.cells.1 n vs) (enters g.first g.second n ws)
@@ -266,7 +267,7 @@ joins_keep setting ts ss l = moved_keeps joined apart setting (joins setting.lay
 
 joins_pay : (setting : Setting) (ts : List Joined) (ss : List Apart) → Pays (Rel setting ts ss)
 joins_pay setting ts ss = record {
-  prices = (λ a. (record { least = omega arith; most = omega arith }, tt), omega arith, λ f. let one : IsPrice 1 = record { least = omega arith; most = omega arith } in (one, (one, (one, (one, (one, (one, (one, tt))))))));
+  prices = (λ a. (record { least = omega arith; most = omega arith }, tt), omega arith, λ f. let one : IsPrice 1 = record { least = omega arith; most = omega arith } in (one, (one, (one, (one, (one, (one, (one, (one, tt)))))))));
   waits = omega arith;
 }
 
@@ -281,4 +282,4 @@ joins_passes setting ts ss h d edge l =
     }
 
 pub apart_prices : IsTariff apart.tariff
-apart_prices = (λ a. (record { least = omega arith; most = omega arith }, tt), omega arith, λ f. let two : IsPrice 2 = record { least = omega arith; most = omega arith } in (two, (two, (two, (two, (two, (two, (two, tt))))))))
+apart_prices = (λ a. (record { least = omega arith; most = omega arith }, tt), omega arith, λ f. let two : IsPrice 2 = record { least = omega arith; most = omega arith } in (two, (two, (two, (two, (two, (two, (two, (two, tt)))))))))

@@ -59,10 +59,10 @@ setting = record { edge = edge; words = words; layout = one_word_each; stack = r
 abbrev pub first_object : ℕ → Object
 first_object w = record { owner = Inside; kind = I32; size = 1; contents = Some (Some w ∷ []) }
 
--- the outside enters, and gets the place after the variable whose word is 3. It leaves 9 there, and comes back with its place: 9 is put out
+-- the outside enters, and gets the place after the variable whose word is 3. It leaves 9 there, and comes back with its place: 9 is put out, and then the second variable's 7
 abbrev pub labels : List RunLabel
 labels =
-    Out 9 ∷ Back (record { values = Place 0 0 ∷ []; share = []; objects = first_object 9 ∷ [] }) ∷ Call show_name (record { values = Place 0 1 ∷ []; share = []; objects = first_object 3 ∷ [] }) ∷ Unlock 0 (3 ∷ [])
+    Out 7 ∷ Out 9 ∷ Back (record { values = Place 0 0 ∷ []; share = []; objects = first_object 9 ∷ [] }) ∷ Call show_name (record { values = Place 0 1 ∷ []; share = []; objects = first_object 3 ∷ [] }) ∷ Unlock 0 (3 ∷ [])
     ∷ Lock 0 (5 ∷ []) ∷ Enter main_name (record { values = []; share = []; objects = [] }) ∷ []
 
 -- the program with the variables 3 and 7

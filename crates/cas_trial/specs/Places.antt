@@ -5,7 +5,7 @@ use Rattle.cas_runs.specs.Naming.{Value, Part, Layout}
 use Rattle.cas_runs.specs.Placing.{Spot, Placing, SameMoved, moved_part}
 use Rattle.cas_trial.specs.declared.joining.Apart.{Apart}
 use Rattle.cas_trial.specs.declared.joining.Joined.{Joined}
-use Rattle.cas_trial.specs.Stages.{main_name, Stage, Begins, Locks, Holds, Unlocks, Shows, Loading, Ends}
+use Rattle.cas_trial.specs.Stages.{main_name, Stage, Begins, Locks, Holds, Unlocks, Shows, Loading, Tells, Ends}
 
 -- the joined program has the values of the other
 pub record IsJoined (to : Joined) (from : Apart) : Type 0 where
@@ -45,5 +45,6 @@ pub data SameStage : List Apart → Stage → Stage → Type 0 where
   holds : {f : Apart} {fs : List Apart} {first serial : ℕ} → SameStage (f ∷ fs) (Holds first serial) (Holds first serial)
   unlocks : {f : Apart} {fs : List Apart} {serial : ℕ} → SameStage (f ∷ fs) (Unlocks serial) (Unlocks serial)
   shows : {f : Apart} {fs : List Apart} {serial : ℕ} → SameStage (f ∷ fs) (Shows serial) (Shows serial)
-  loading : {f : Apart} {fs : List Apart} {v w : Value} → SameMoved (places (f ∷ fs)) v w → SameStage (f ∷ fs) (Loading v) (Loading w)
+  loading : {f : Apart} {fs : List Apart} {serial : ℕ} {v w : Value} → SameMoved (places (f ∷ fs)) v w → SameStage (f ∷ fs) (Loading serial v) (Loading serial w)
+  tells : {f : Apart} {fs : List Apart} {serial : ℕ} → SameStage (f ∷ fs) (Tells serial) (Tells serial)
   ends : {f : Apart} {fs : List Apart} → SameStage (f ∷ fs) Ends Ends

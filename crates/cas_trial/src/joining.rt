@@ -19,7 +19,8 @@ use cas_runs::{FunctionPass, functions_refine, threads_refine, units_refine};
 use std::alloc::Global;
 
 /// A program of two variables, each in a block of its own. It stores the first in a word behind a lock,
-/// shows the place after it to a function outside, and puts out what stands at the place that comes back.
+/// shows the place after it to a function outside, and puts out what stands at the place that comes back, and
+/// then the second variable.
 #[derive(Clone, Copy, Debug, PartialEq, Eq)]
 pub struct Apart {
     pub first: u32,

@@ -20,7 +20,7 @@ pub fn a_unit_fits()
 {}
 
 /// There its machine has a run in which a pointer crosses and comes back: what the outside left at its place
-/// is put out.
+/// is put out, and then the other variable.
 #[tactic(auto, using(crate::proofs::Fits::comes_back))]
 pub fn pointer_comes_back()
     ensures { HasRun edge ((language apart).unit setting (program ∷ [])) labels }
