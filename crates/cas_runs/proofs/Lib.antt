@@ -11,6 +11,7 @@ pub mod Objects
 pub mod Outgoing
 pub mod Performing
 pub mod Placing
+pub mod Pointing
 pub mod Refining
 pub mod Ruling
 pub mod Sanity

@@ -23,26 +23,26 @@ quiet_paid edge t s h ls bs b x r has =
 
 -- A Bad step of the source's that comes before some label comes after its label, or earlier.
 
-record BadAt {S : Type 0} (edge : Edge) (s : Machine S) (ls : List RunLabel) : Type 0 where
-  blocks : List Block
-  block : Block
-  at : S
-  run : Run edge s ls blocks block at
-  bad : IsBad (s.act at)
+pub record BadAt {S : Type 0} (edge : Edge) (s : Machine S) (ls : List RunLabel) : Type 0 where
+  pub blocks : List Block
+  pub block : Block
+  pub at : S
+  pub run : Run edge s ls blocks block at
+  pub bad : IsBad (s.act at)
 
 module _ {S : Type 0} (edge : Edge) (s : Machine S) where
   bad_last_of : (l : RunLabel) (ls since before : List RunLabel) → l ∷ ls ≡ since ++ before → (cs : List Block) (c : Block) (y : S) → Run edge s before cs c y → IsBad (s.act y) → BadAt edge s (l ∷ ls) ⊎ BadBefore edge s ls
   bad_last_of l ls [] before e cs c y r b = inl (record { blocks = cs; block = c; at = y; run = subst (λ v. Run edge s v cs c y) (sym e) r; bad = b })
   bad_last_of l ls (k ∷ since) before e cs c y r b = inr (record { since = since; before = before; prefix = cc e; blocks = cs; block = c; at = y; run = r; bad = b })
 
-  bad_last : (l : RunLabel) (ls : List RunLabel) → BadBefore edge s (l ∷ ls) → BadAt edge s (l ∷ ls) ⊎ BadBefore edge s ls
+  pub bad_last : (l : RunLabel) (ls : List RunLabel) → BadBefore edge s (l ∷ ls) → BadAt edge s (l ∷ ls) ⊎ BadBefore edge s ls
   bad_last l ls b = bad_last_of l ls b.since b.before b.prefix b.blocks b.block b.at b.run b.bad
 
   bad_first_of : (since before : List RunLabel) → [] ≡ since ++ before → (cs : List Block) (c : Block) (y : S) → Run edge s before cs c y → IsBad (s.act y) → BadAt edge s []
   bad_first_of [] before e cs c y r b = record { blocks = cs; block = c; at = y; run = subst (λ v. Run edge s v cs c y) (sym e) r; bad = b }
   bad_first_of (k ∷ since) before e cs c y r b = absurd (cc e)
 
-  bad_first : BadBefore edge s [] → BadAt edge s []
+  pub bad_first : BadBefore edge s [] → BadAt edge s []
   bad_first b = bad_first_of b.since b.before b.prefix b.blocks b.block b.at b.run b.bad
 
   bad_not_quiet : (a : Act S) → IsBad a → IsQuiet a → ⊥
@@ -85,25 +85,25 @@ abbrev not_storing : List Instruction
 not_storing = Take ∷ Give ∷ []
 
 -- a run that stands at this state
-record Comes {S : Type 0} (edge : Edge) (m : Machine S) (ls : List RunLabel) (x : S) : Type 0 where
-  blocks : List Block
-  block : Block
-  run : Run edge m ls blocks block x
+pub record Comes {S : Type 0} (edge : Edge) (m : Machine S) (ls : List RunLabel) (x : S) : Type 0 where
+  pub blocks : List Block
+  pub block : Block
+  pub run : Run edge m ls blocks block x
 
 module _ {S : Type 0} (edge : Edge) (m : Machine S) where
-  comes_first : Comes edge m [] m.start
+  pub comes_first : Comes edge m [] m.start
   comes_first = record { blocks = []; block = begun m m.start; run = starts }
 
   comes_on : (ls : List RunLabel) (x y : S) → Comes edge m ls x → m.act x ≡ Quiet y → Comes edge m ls y
   comes_on ls x y c e = record { blocks = c.blocks; block = onward m c.block y; run = quiet y c.run e }
 
-  comes_by : (ls : List RunLabel) (l : RunLabel) (x y : S) → Comes edge m ls x → Leads edge ls (m.act x) l y → Comes edge m (l ∷ ls) y
+  pub comes_by : (ls : List RunLabel) (l : RunLabel) (x y : S) → Comes edge m ls x → Leads edge ls (m.act x) l y → Comes edge m (l ∷ ls) y
   comes_by ls l x y c e = record { blocks = c.block ∷ c.blocks; block = begun m y; run = labelled l y c.run e }
 
-  has_of : (ls : List RunLabel) (x : S) → Comes edge m ls x → HasRun edge m ls
+  pub has_of : (ls : List RunLabel) (x : S) → Comes edge m ls x → HasRun edge m ls
   has_of ls x c = record { blocks = c.blocks; block = c.block; at = x; run = c.run }
 
-  not_bad : (ls : List RunLabel) (y : S) → Comes edge m ls y → (IsQuiet (m.act y) → ⊥) → (IsBad (m.act y) → ⊥) → BadAt edge m ls → ⊥
+  pub not_bad : (ls : List RunLabel) (y : S) → Comes edge m ls y → (IsQuiet (m.act y) → ⊥) → (IsBad (m.act y) → ⊥) → BadAt edge m ls → ⊥
   not_bad ls y c n b h = not_bad_at edge m ls c.blocks c.block y c.run n b h
 
   no_label : (ls : List RunLabel) (y : S) → Comes edge m ls y → (IsQuiet (m.act y) → ⊥) → (l : RunLabel) → ((z : S) → Leads edge ls (m.act y) l z → ⊥) → HasRun edge m (l ∷ ls) → ⊥

@@ -12,6 +12,7 @@ pub mod Naming
 pub mod Outside
 pub mod Passing
 pub mod Placing
+pub mod Pointing
 pub mod Refines
 pub mod Rules
 pub mod Sections

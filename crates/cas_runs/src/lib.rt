@@ -18,6 +18,7 @@ pub use layer::{FunctionPass, functions_refine, threads_refine, units_refine};
 pub use pass::{Pass, run_pass, steps_refine};
 pub use refused::{
     dropped_store_refused, endless_loop_refused, kept_word_refused, self_lock_refused,
+    wrong_place_refused,
 };
 pub use rules::{
     functions_keep_rules, sections_keep_kinds, sections_keep_rules, threads_keep_rules,

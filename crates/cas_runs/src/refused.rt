@@ -1,4 +1,5 @@
 ghost use Rattle.std.specs.Prelude.{ℕ, List, [], ◌∷◌};
+ghost use Rattle.cas_runs.specs.Pointing.{edge, shows};
 ghost use Rattle.cas_runs.specs.Refines.{Refines};
 ghost use Rattle.cas_runs.specs.Sections.{Take, Give, Load, Store, Print, Spin, one_lock, sections};
 
@@ -24,4 +25,10 @@ pub fn kept_word_refused()
 #[tactic(auto, using(crate::proofs::Sanity::self_lock))]
 pub fn self_lock_refused()
     ensures { (p q : ℕ) → Refines one_lock (sections q (Take ∷ Take ∷ [])) (sections p (Take ∷ Give ∷ [])) → ⊥ }
+{}
+
+/// A unit that shows the beginning of its variable where the source shows its end doesn't refine.
+#[tactic(auto, using(crate::proofs::Pointing::wrong_place))]
+pub fn wrong_place_refused()
+    ensures { Refines edge (shows 0) (shows 1) → ⊥ }
 {}
