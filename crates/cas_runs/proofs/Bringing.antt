@@ -2,12 +2,12 @@
 use Rattle.std.proofs.Common.{◌≡◌, ℕ, zero, suc, ◌+◌, ◌<◌, ◌≤◌, List, [], ◌∷◌, Option, Some, None, Bool, true, false, if◌then◌else◌, length, slice_get, slice_set, nat_eq, nat_lt, inl, inr, refl, sym, ap, ◌∙◌, subst, ⊎_elim, arith, eqb-true}
 use Rattle.std.proofs.lemmas.Option.{slice_get_within}
 use Rattle.cas_runs.specs.Label.{NameBytes, Shown, Word, Place, Object, Crossing}
-use Rattle.cas_runs.specs.Naming.{Home, Own, Theirs, Value, Number, Pointer, Part, Layout, parts_at, some_reaches, Named, Naming, Memory, and_then, all_named_by, reaches, reached_in, can_show, can_show_all, same_home, objects_of, same_objects, value_at, taken, all_taken, written, with_block, left_in, new_block, Crossed, brought}
+use Rattle.cas_runs.specs.Naming.{Home, Own, Theirs, Value, Number, Pointer, Hidden, Part, Layout, parts_at, some_reaches, Named, Naming, Memory, and_then, all_named_by, reaches, reached_in, can_show, can_show_all, same_home, objects_of, same_objects, value_at, taken, all_taken, written, with_block, left_in, new_block, Crossed, brought}
 use Rattle.cas_runs.specs.Machine.{Block}
 use Rattle.cas_runs.specs.Access.{Holding, with_lock, without_lock, value_in, length_of}
 use Rattle.cas_runs.specs.Forms.{LengthsAlike, Stored, MemoryKeeps}
 use Rattle.cas_runs.specs.Unit.{Setting}
-use Rattle.cas_runs.specs.Calls.{Activations, Past, fresh, gone, without_own, with_share, same_share, if_shown, crosses_as, with_naming}
+use Rattle.cas_runs.specs.Calls.{Activations, Past, set_blocks, fresh, gone, without_own, with_share, same_share, if_shown, crosses_as, with_naming}
 use Rattle.cas_runs.specs.Passing.{Relation, AllSame, SameIf, brought_in, Keeps}
 use Rattle.cas_runs.specs.Placing.{Spot, Placing, pointer_in, SameMoved, AllMoved, CellsMoved, BlockMoved, ObjectMoved, MemoryMoved, moved_part, NamedMoved, NamingMoved, AlikeMoved, IsPlacing, moves_blocks}
 use Rattle.cas_runs.proofs.Showing.{part_reached, reached_by}
@@ -131,6 +131,7 @@ module _ {F A G B : Type 0} (target : Activations F A) (source : Activations G B
 
   shows_too : (begun : ℕ) (ms ns : Naming) → NamingMoved place sizes ms ns → (v w : Value) → SameMoved place v w → can_show (parts_at layout begun) ns w ≡ true → can_show (parts_at placed begun) ms v ≡ true
   shows_too begun ms ns e v (Number u) s h = ap (λ o. can_show (parts_at placed begun) ms o) (let same : v ≡ Number u = sym (let there : Number u ≡ v = cc s in there) in same)
+  shows_too begun ms ns e v (Hidden what) s h = absurd (cc h)
   shows_too begun ms ns e v (Pointer (Theirs k) at) s h = subst (λ o. can_show (parts_at placed begun) ms o ≡ true) (let same : Pointer (Theirs k) at ≡ v = cc s in same) (reached_too ms ns e k at (slice_get ns k) refl h)
   shows_too begun ms ns e v (Pointer (Own f a b) at) s h = by (place f b) refl s
     where
@@ -225,7 +226,7 @@ module _ {F A G B : Type 0} (target : Activations F A) (source : Activations G B
     locks = λ n p q h k a lock words g. record { alike = with_memory p q h k (with_share h (with_lock h.share lock words)) (with_share k (with_lock k.share lock words)) a (ap (λ v. with_lock v lock words) a.share) a.memory; later = tt };
     unlocks = λ n p q h k a lock. record { alike = with_memory p q h k (with_share h (without_lock h.share lock)) (with_share k (without_lock k.share lock)) a (ap (λ v. without_lock v lock) a.share) a.memory; later = tt };
     begins = λ f g m p q h k a. record {
-      alike = record { begun = ap (λ n. n + 1) a.begun; share = a.share; memory = blocks_moved target source made place sizes placed setting.layout is fresh begin f g m p.begun q.begun a.begun h.memory k.memory a.memory; naming = a.naming };
+      alike = record { begun = ap (λ n. n + 1) a.begun; share = a.share; memory = subst (λ v. MemoryMoved place sizes (set_blocks (fresh v) h.memory (target.name f) p.begun 0 (target.blocks f)) (set_blocks (fresh source.first_word) k.memory (source.name g) q.begun 0 (source.blocks g))) (sym is.first_words) (blocks_moved target source made place sizes placed setting.layout is (fresh source.first_word) begin f g m p.begun q.begun a.begun h.memory k.memory a.memory); naming = a.naming };
       later = tt;
     };
     ends = λ n f g m p q h k a. record {

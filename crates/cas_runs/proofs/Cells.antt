@@ -1,7 +1,7 @@
 -- The cells of blocks.
 use Rattle.std.proofs.Common.{◌≡◌, ℕ, zero, suc, ◌+◌, ◌<◌, ◌≤◌, List, [], ◌∷◌, ◌⊎◌, Option, Some, None, length, slice_get, slice_set, inl, inr, refl, sym, ap, ◌∙◌, subst, ⊎_elim, arith}
 use Rattle.cas_runs.specs.Naming.{Value, Number, cells, content, contents, refilled, overwritten, written, filled}
-use Rattle.cas_runs.specs.Calls.{zeros}
+use Rattle.cas_runs.specs.Calls.{so_many}
 
 pub set_same : {X : Type 0} (xs : List X) (i : ℕ) (x : X) → i < length xs → slice_get (slice_set xs i x) i ≡ Some x
 set_same [] i x h = absurd (omega (arith, h))
@@ -26,14 +26,14 @@ get_inside [] i h = absurd (omega (arith, h))
 get_inside (x ∷ xs) zero h = (x, refl)
 get_inside (x ∷ xs) (suc i) h = get_inside xs i (omega (arith, h))
 
-pub zeros_length : (n : ℕ) → length (zeros n) ≡ n
-zeros_length zero = refl
-zeros_length (suc n) = ap suc (zeros_length n)
+pub so_many_length : (word : Value) (n : ℕ) → length (so_many word n) ≡ n
+so_many_length word zero = refl
+so_many_length word (suc n) = ap suc (so_many_length word n)
 
-pub zeros_get : (n i : ℕ) → i < n → slice_get (zeros n) i ≡ Some (Number 0)
-zeros_get zero i h = absurd (omega (arith, h))
-zeros_get (suc n) zero h = refl
-zeros_get (suc n) (suc i) h = zeros_get n i (omega (arith, h))
+pub so_many_get : (word : Value) (n i : ℕ) → i < n → slice_get (so_many word n) i ≡ Some word
+so_many_get word zero i h = absurd (omega (arith, h))
+so_many_get word (suc n) zero h = refl
+so_many_get word (suc n) (suc i) h = so_many_get word n i (omega (arith, h))
 
 -- What is written.
 

@@ -3,9 +3,9 @@ use Rattle.std.proofs.Common.{◌≡◌, ℕ, zero, suc, ◌+◌, ◌<◌, ◌�
 use Rattle.cas_runs.specs.Label.{NameBytes, Shown, Word, Place, Owner, Inside, Object}
 use Rattle.cas_runs.specs.Outside.{ChangesTo, Changes, Continues}
 use Rattle.cas_runs.specs.Rules.{LeavesContents, OwnContents, IsOwn, AreOwn, LeavesAll}
-use Rattle.cas_runs.specs.Naming.{Home, Own, Theirs, Value, Number, Pointer, Part, Layout, ArePlaced, parts_at, Named, Naming, Memory, same_home, is_place, part_by, number_of, again, if_new, first_time, named_by, and_then, all_named_by, cells, contents, contents_in, owner_of, object_of, objects_of, with_block, left_in, written, filled, new_block, Crossed, brought}
-use Rattle.cas_runs.specs.Calls.{zeros, set_blocks, fresh, gone}
-use Rattle.cas_runs.proofs.Cells.{zeros_length, written_length, filled_length}
+use Rattle.cas_runs.specs.Naming.{Home, Own, Theirs, Value, Number, Pointer, Hidden, Part, Layout, ArePlaced, parts_at, Named, Naming, Memory, same_home, is_place, part_by, number_of, again, if_new, first_time, named_by, and_then, all_named_by, cells, contents, contents_in, owner_of, object_of, objects_of, with_block, left_in, written, filled, new_block, Crossed, brought}
+use Rattle.cas_runs.specs.Calls.{so_many, set_blocks, fresh, gone}
+use Rattle.cas_runs.proofs.Cells.{so_many_length, written_length, filled_length}
 use Rattle.cas_runs.proofs.Placing.{with_here, with_elsewhere, same_or_not, set_elsewhere}
 use Rattle.cas_runs.proofs.Shares.{SameLength, SameLengths, same_length_both}
 
@@ -188,41 +188,41 @@ module _ (layout : Layout) where
   pub gone_sound : (n : ℕ) (m : Memory) (name : NameBytes) (serial : ℕ) (sizes : List ℕ) → SoundMemory n m → SoundMemory n (set_blocks gone m name serial 0 sizes)
   gone_sound n m name serial sizes s = λ f a b ws e. ⊎_elim (λ none. absurd (cc (none, e))) (λ same. s f a b ws (sym same ∙ e)) (gone_or_same m name serial 0 sizes (Own f a b))
 
-  older_same : (m : Memory) (name : NameBytes) (serial : ℕ) (sizes : List ℕ) (f : NameBytes) (a b : ℕ) → (a ≡ serial → ⊥) → set_blocks fresh m name serial 0 sizes (Own f a b) ≡ m (Own f a b)
-  older_same m name serial sizes f a b h = set_elsewhere fresh m name serial 0 sizes (Own f a b) (λ j less e. h (cc e))
+  older_same : (word : Value) (m : Memory) (name : NameBytes) (serial : ℕ) (sizes : List ℕ) (f : NameBytes) (a b : ℕ) → (a ≡ serial → ⊥) → set_blocks (fresh word) m name serial 0 sizes (Own f a b) ≡ m (Own f a b)
+  older_same word m name serial sizes f a b h = set_elsewhere (fresh word) m name serial 0 sizes (Own f a b) (λ j less e. h (cc e))
 
-  pub fresh_step : (n : ℕ) (m : Memory) (name : NameBytes) (sizes : List ℕ) → MemoryStep n m (set_blocks fresh m name n 0 sizes)
-  fresh_step n m name sizes = record {
-    own = λ f a b less. subst (λ o. StepOwn (m (Own f a b)) o) (sym (older_same m name n sizes f a b (λ same. omega (arith, less, same)))) (step_self (m (Own f a b)));
-    theirs_stay = λ k. subst (λ o. SameLength (m (Theirs k)) o) (sym (theirs_set fresh m name n 0 sizes k)) (length_self (m (Theirs k)));
+  pub fresh_step : (word : Value) (n : ℕ) (m : Memory) (name : NameBytes) (sizes : List ℕ) → MemoryStep n m (set_blocks (fresh word) m name n 0 sizes)
+  fresh_step word n m name sizes = record {
+    own = λ f a b less. subst (λ o. StepOwn (m (Own f a b)) o) (sym (older_same word m name n sizes f a b (λ same. omega (arith, less, same)))) (step_self (m (Own f a b)));
+    theirs_stay = λ k. subst (λ o. SameLength (m (Theirs k)) o) (sym (theirs_set (fresh word) m name n 0 sizes k)) (length_self (m (Theirs k)));
   }
 
   -- a new block, or one that was there
-  fresh_or_same : (m : Memory) (name : NameBytes) (serial k : ℕ) (sizes : List ℕ) (home : Home) → ((j size : ℕ) × (slice_get sizes j ≡ Some size) × (home ≡ Own name serial (k + j)) × (set_blocks fresh m name serial k sizes home ≡ Some (zeros size))) ⊎ (set_blocks fresh m name serial k sizes home ≡ m home)
-  fresh_or_same m name serial k [] home = inr refl
-  fresh_or_same m name serial k (size ∷ sizes) home =
-      let m' = with_block m (Own name serial k) (fresh size) in
+  fresh_or_same : (word : Value) (m : Memory) (name : NameBytes) (serial k : ℕ) (sizes : List ℕ) (home : Home) → ((j size : ℕ) × (slice_get sizes j ≡ Some size) × (home ≡ Own name serial (k + j)) × (set_blocks (fresh word) m name serial k sizes home ≡ Some (so_many word size))) ⊎ (set_blocks (fresh word) m name serial k sizes home ≡ m home)
+  fresh_or_same word m name serial k [] home = inr refl
+  fresh_or_same word m name serial k (size ∷ sizes) home =
+      let m' = with_block m (Own name serial k) (fresh word size) in
       ⊎_elim
-      (λ (h : (j size : ℕ) × (slice_get sizes j ≡ Some size) × (home ≡ Own name serial (k + 1 + j)) × (set_blocks fresh m' name serial (k + 1) sizes home ≡ Some (zeros size))).
+      (λ (h : (j size : ℕ) × (slice_get sizes j ≡ Some size) × (home ≡ Own name serial (k + 1 + j)) × (set_blocks (fresh word) m' name serial (k + 1) sizes home ≡ Some (so_many word size))).
       let next : k + 1 + h.0 ≡ k + suc h.0 = omega arith in
       inl (suc h.0, h.1, h.2, h.3 ∙ ap (λ i. Own name serial i) next, h.4))
       (λ e. ⊎_elim
       (λ (same : home ≡ Own name serial k).
       let here : k ≡ k + 0 = omega arith in
-      inl (0, size, refl, same ∙ ap (λ i. Own name serial i) here, e ∙ ap (λ v. m' v) same ∙ with_here m (Own name serial k) (fresh size)))
-      (λ differ. inr (e ∙ with_elsewhere m (Own name serial k) home (fresh size) differ))
+      inl (0, size, refl, same ∙ ap (λ i. Own name serial i) here, e ∙ ap (λ v. m' v) same ∙ with_here m (Own name serial k) (fresh word size)))
+      (λ differ. inr (e ∙ with_elsewhere m (Own name serial k) home (fresh word size) differ))
       (same_or_not home (Own name serial k)))
-      (fresh_or_same m' name serial (k + 1) sizes home)
+      (fresh_or_same word m' name serial (k + 1) sizes home)
 
-  pub fresh_sound : (n : ℕ) (m : Memory) (name : NameBytes) (sizes : List ℕ) → ((j size : ℕ) → slice_get sizes j ≡ Some size → ArePlaced 0 size (layout name j)) → SoundMemory n m → SoundMemory (n + 1) (set_blocks fresh m name n 0 sizes)
-  fresh_sound n m name sizes laid s = λ f a b ws e. ⊎_elim
-      (λ (h : (j size : ℕ) × (slice_get sizes j ≡ Some size) × (Own f a b ≡ Own name n (0 + j)) × (set_blocks fresh m name n 0 sizes (Own f a b) ≡ Some (zeros size))).
+  pub fresh_sound : (word : Value) (n : ℕ) (m : Memory) (name : NameBytes) (sizes : List ℕ) → ((j size : ℕ) → slice_get sizes j ≡ Some size → ArePlaced 0 size (layout name j)) → SoundMemory n m → SoundMemory (n + 1) (set_blocks (fresh word) m name n 0 sizes)
+  fresh_sound word n m name sizes laid s = λ f a b ws e. ⊎_elim
+      (λ (h : (j size : ℕ) × (slice_get sizes j ≡ Some size) × (Own f a b ≡ Own name n (0 + j)) × (set_blocks (fresh word) m name n 0 sizes (Own f a b) ≡ Some (so_many word size))).
       let names : f ≡ name = cc h.3 in
       let serial : a ≡ n = cc h.3 in
       let block : b ≡ 0 + h.0 = cc h.3 in
       let block_is : b ≡ h.0 = omega (arith, block) in
-      let words : zeros h.1 ≡ ws = let there = h.4 in cc (there, e) in
-      let count : length ws ≡ h.1 = ap length (sym words) ∙ zeros_length h.1 in (
+      let words : so_many word h.1 ≡ ws = let there = h.4 in cc (there, e) in
+      let count : length ws ≡ h.1 = ap length (sym words) ∙ so_many_length word h.1 in (
         omega (arith, serial),
         λ at pl p g.
             let there : part_by (layout name h.0) at pl ≡ Some p = subst (λ i. part_by (layout name i) at pl ≡ Some p) block_is (subst (λ v. part_by (layout v b) at pl ≡ Some p) names g) in
@@ -231,7 +231,7 @@ module _ (layout : Layout) where
             omega (arith, end, count),
       ))
       (λ same. let old = s f a b ws (sym same ∙ e) in let less = old.0 in (omega (arith, less), old.1))
-      (fresh_or_same m name n 0 sizes (Own f a b))
+      (fresh_or_same word m name n 0 sizes (Own f a b))
 
   -- How a naming grows.
 
@@ -282,6 +282,8 @@ module _ (layout : Layout) where
       by true g = grown_same n m ns ms s (cc g)
       by false g = absurd (cc g)
   grown_by n m ns s (Number v) (Place k pl) ms e = absurd (cc e)
+  grown_by n m ns s (Hidden what) (Word w) ms e = absurd (cc e)
+  grown_by n m ns s (Hidden what) (Place k pl) ms e = absurd (cc e)
   grown_by n m ns s (Pointer home at) (Word w) ms e = absurd (cc e)
   grown_by n m ns s (Pointer home at) (Place k pl) ms e = by (nat_lt k (length ns)) (nat_eq k (length ns)) e
     where

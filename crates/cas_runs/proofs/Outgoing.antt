@@ -3,7 +3,7 @@ use Rattle.std.proofs.Common.{◌≡◌, ℕ, ◌+◌, List, [], ◌∷◌, ◌+
 use Rattle.cas_runs.specs.Label.{NameBytes, same_name, Shown, Word, Place, Object, Crossing, RunLabel, Call}
 use Rattle.cas_runs.specs.Edge.{Edge, Signature, signature_of}
 use Rattle.cas_runs.specs.Outside.{numbered}
-use Rattle.cas_runs.specs.Naming.{Home, Own, Theirs, Value, Number, Pointer, Part, Layout, Named, Naming, Memory, number_of, is_place, part_by, again, if_new, first_time, named_by, and_then, all_named_by, same_home, object_of, objects_of}
+use Rattle.cas_runs.specs.Naming.{Home, Own, Theirs, Value, Number, Pointer, Hidden, Part, Layout, Named, Naming, Memory, number_of, is_place, part_by, again, if_new, first_time, named_by, and_then, all_named_by, same_home, object_of, objects_of}
 use Rattle.cas_runs.specs.Machine.{Act, Quiet, Says, Crosses, Locks, Hears, Bad, Stops, Machine, Block, Run}
 use Rattle.cas_runs.specs.Rules.{CallsOut}
 use Rattle.cas_runs.specs.Access.{Holding, words_in, with_lock, without_lock}
@@ -44,6 +44,8 @@ one_count parts ns (Number v) (Word w) ms xs e = by (nat_eq v w) e
     by false g = absurd (cc g)
 one_count parts ns (Number v) (Place k pl) ms xs e = absurd (cc e)
 one_count parts ns (Pointer home at) (Word w) ms xs e = absurd (cc e)
+one_count parts ns (Hidden what) (Word w) ms xs e = absurd (cc e)
+one_count parts ns (Hidden what) (Place k pl) ms xs e = absurd (cc e)
 one_count parts ns (Pointer home at) (Place k pl) ms xs e = by (nat_lt k (length ns)) (nat_eq k (length ns)) e
   where
     by : (s t : Bool) → (if s then again (slice_get ns k) ns home at pl else if t then first_time (part_by (parts home) at pl) ns home else None) ≡ Some ms → (if s then numbered (length ns) xs else if t then numbered (length ns + 1) xs else None) ≡ numbered (length ms) xs

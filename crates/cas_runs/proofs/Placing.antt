@@ -2,11 +2,11 @@
 use Rattle.std.proofs.Common.{◌≡◌, ℕ, zero, suc, ◌+◌, ◌-◌, ◌<◌, ◌≤◌, List, [], ◌∷◌, ◌++◌, ◌⊎◌, Option, Some, None, Bool, true, false, ◌&&◌, if◌then◌else◌, length, slice_get, nat_eq, nat_lt, nat_le, inl, inr, refl, sym, ap, ◌∙◌, subst, ⊎_elim, arith, eqb-true, leb-true, ltb-true, ltb-false, leb-false}
 use Rattle.std.proofs.lemmas.Option.{slice_get_within}
 use Rattle.cas_runs.specs.Label.{NameBytes, Shown, Word, Place, Inside, Outside}
-use Rattle.cas_runs.specs.Naming.{Home, Own, Theirs, Value, Number, Pointer, Part, Layout, Named, Naming, Memory, parts_at, same_home, same_part, is_it, one_later, number_of, is_place, part_by, again, if_new, first_time, named_by, and_then, all_named_by, cells, content, contents, contents_in, object_of, objects_of, refilled, overwritten, written, with_block, filled, new_block}
-use Rattle.cas_runs.specs.Calls.{Activations, zeros, set_blocks, fresh, gone}
+use Rattle.cas_runs.specs.Naming.{Home, Own, Theirs, Value, Number, Pointer, Hidden, Part, Layout, Named, Naming, Memory, parts_at, same_home, same_part, is_it, one_later, number_of, is_place, part_by, again, if_new, first_time, named_by, and_then, all_named_by, cells, content, contents, contents_in, object_of, objects_of, refilled, overwritten, written, with_block, filled, new_block}
+use Rattle.cas_runs.specs.Calls.{Activations, so_many, set_blocks, fresh, gone}
 use Rattle.cas_runs.specs.Placing.{Spot, Placing, pointer_in, moved, SameMoved, AllMoved, CellsMoved, BlockMoved, ObjectMoved, MemoryMoved, moved_part, NamedMoved, NamingMoved, IsPlacing}
 use Rattle.cas_runs.proofs.Tests.{and_both, both_true, eq_self, same_home_self, same_home_from}
-use Rattle.cas_runs.proofs.Cells.{get_inside, zeros_length, zeros_get, cell_after, written_length, written_in, written_out, same_contents_of}
+use Rattle.cas_runs.proofs.Cells.{get_inside, so_many_length, so_many_get, cell_after, written_length, written_in, written_out, same_contents_of}
 
 -- The memory with another block.
 
@@ -38,6 +38,7 @@ moved_pointer place f a b at s e = ap (λ o. pointer_in f a o at) e
 -- the contents are the same
 pub moved_content : (place : Placing) (v w : Value) → SameMoved place v w → content v ≡ content w
 moved_content place v (Number w) e = let same : Number w ≡ v = cc e in ap content (sym same)
+moved_content place v (Hidden what) e = let same : Hidden what ≡ v = cc e in ap content (sym same)
 moved_content place v (Pointer (Theirs k) at) e = let same : Pointer (Theirs k) at ≡ v = cc e in ap content (sym same)
 moved_content place v (Pointer (Own f a b) at) e = by (place f b) e
   where
@@ -148,12 +149,12 @@ set_there words m name serial k (x ∷ sizes) zero i size e f =
     ∙ ap (λ n. with_block m (Own name serial k) (words x) (Own name serial n)) here ∙ with_here m (Own name serial k) (words x) ∙ ap words same
 set_there words m name serial k (x ∷ sizes) (suc j) i size e f = set_there words (with_block m (Own name serial k) (words x)) name serial (k + 1) sizes j i size e (omega (arith, f))
 
-zeros_moved : (place : Placing) (offset size total : ℕ) → offset + size ≤ total → CellsMoved place offset (zeros total) (zeros size)
-zeros_moved place offset size total le i w e =
-    let less : i < size = subst (λ n. i < n) (zeros_length size) (slice_get_within (zeros size) i w e) in
-    let there = zeros_get size i less in
-    let same : Number 0 ≡ w = cc (there, e) in
-    (Number 0, zeros_get total (offset + i) (omega (arith, le, less)), subst (λ u. SameMoved place (Number 0) u) same refl)
+so_many_moved : (place : Placing) (word : Value) → SameMoved place word word → (offset size total : ℕ) → offset + size ≤ total → CellsMoved place offset (so_many word total) (so_many word size)
+so_many_moved place word moves offset size total le i w e =
+    let less : i < size = subst (λ n. i < n) (so_many_length word size) (slice_get_within (so_many word size) i w e) in
+    let there = so_many_get word size i less in
+    let same : word ≡ w = cc (there, e) in
+    (word, so_many_get word total (offset + i) (omega (arith, le, less)), subst (λ u. SameMoved place word u) same moves)
 
 -- both blocks are these
 pub block_is : (place : Placing) (offset : ℕ) (o o' x x' : Option (List Value)) → o ≡ x → o' ≡ x' → BlockMoved place offset x x' → BlockMoved place offset o o'
@@ -267,15 +268,15 @@ module _ {F A G B : Type 0} (target : Activations F A) (source : Activations G B
 
   -- the words of the blocks, where an activation begins or has returned
   pub data Blocks : (ℕ → Option (List Value)) → Type 0 where
-    begin : Blocks fresh
+    begin : Blocks (fresh source.first_word)
     end : Blocks gone
 
   block_moved : {words : ℕ → Option (List Value)} → Blocks words → (offset size total : ℕ) → offset + size ≤ total → BlockMoved place offset (words total) (words size)
-  block_moved begin offset size total le = zeros_moved place offset size total le
+  block_moved begin offset size total le = so_many_moved place source.first_word is.first_same offset size total le
   block_moved end offset size total le = refl
 
   block_size : {words : ℕ → Option (List Value)} → Blocks words → (size : ℕ) (ws : List Value) → words size ≡ Some ws → length ws ≡ size
-  block_size begin size ws e = let same : zeros size ≡ ws = cc e in ap length (sym same) ∙ zeros_length size
+  block_size begin size ws e = let same : so_many source.first_word size ≡ ws = cc e in ap length (sym same) ∙ so_many_length source.first_word size
   block_size end size ws e = absurd (cc e)
 
   pub blocks_moved : (words : ℕ → Option (List Value)) → Blocks words → (f : F) (g : G) → made f g → (n m : ℕ) → n ≡ m → (t s : Memory) → Mem t s → Mem (set_blocks words t (target.name f) n 0 (target.blocks f)) (set_blocks words s (source.name g) m 0 (source.blocks g))
@@ -518,6 +519,8 @@ module _ {F A G B : Type 0} (target : Activations F A) (source : Activations G B
       by false i false j g = absurd (cc g)
 
   names_too : (begun : ℕ) (ms ns : Naming) → NamingMoved place sizes ms ns → (v w : Value) → SameMoved place v w → (x : Shown) (ns' : Naming) → named_by (parts_at layout begun) ns w x ≡ Some ns' → NamesToo begun ms v x ns'
+  names_too begun ms ns e v (Hidden what) s (Place k pl) ns' h = absurd (cc h)
+  names_too begun ms ns e v (Hidden what) s (Word y) ns' h = absurd (cc h)
   names_too begun ms ns e v (Number u) s (Place k pl) ns' h = absurd (cc h)
   names_too begun ms ns e v (Number u) s (Word y) ns' h = subst (λ o. NamesToo begun ms o (Word y) ns') (let same : Number u ≡ v = cc s in same) (by (nat_eq u y) refl h)
     where

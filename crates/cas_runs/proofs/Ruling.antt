@@ -107,8 +107,8 @@ module _ {F A : Type 0} (l : Activations F A) (setting : Setting) (scene : Scene
 
   begins_common : (ls : List RunLabel) (p : Past) (h : Holding) (f : F) → Common ls p h → Laid f → Common ls (one_begun l p) (with_own l f p.begun h)
   begins_common ls p h f c k =
-      common_step ls ls p h (with_own l f p.begun h) (p.begun + 1) c (omega arith) (fresh_step setting.layout p.begun h.memory (l.name f) (l.blocks f))
-      (fresh_sound setting.layout p.begun h.memory (l.name f) (l.blocks f) (λ j size e. laid_blocks (l.blocks f) 0 (setting.layout (l.name f)) k j j size (omega arith) e) c.memory) refl c.ordered c.locks
+      common_step ls ls p h (with_own l f p.begun h) (p.begun + 1) c (omega arith) (fresh_step setting.layout l.first_word p.begun h.memory (l.name f) (l.blocks f))
+      (fresh_sound setting.layout l.first_word p.begun h.memory (l.name f) (l.blocks f) (λ j size e. laid_blocks (l.blocks f) 0 (setting.layout (l.name f)) k j j size (omega arith) e) c.memory) refl c.ordered c.locks
 
   ends_common : (ls : List RunLabel) (p : Past) (h : Holding) (f : F) (n : ℕ) → Common ls p h → Common ls p (without_own l f n h)
   ends_common ls p h f n c =

@@ -3,7 +3,7 @@ use Rattle.std.proofs.Common.{◌≡◌, ℕ, zero, suc, ◌+◌, ◌-◌, ◌�
 use Rattle.std.proofs.lemmas.Bool.Decides.{nat_tests}
 use Rattle.std.proofs.lemmas.Option.{slice_get_within}
 use Rattle.cas_runs.specs.Label.{NameBytes, Shown, Word, Place, Crossing}
-use Rattle.cas_runs.specs.Naming.{Home, Own, Theirs, Value, Number, Pointer, Part, Layout, parts_at, Named, Naming, same_home, same_part, is_it, one_later, number_of, is_place, part_by, again, if_new, first_time, named_by, and_then, all_named_by, reaches, some_reaches, reached_in, can_show, can_show_all, objects_of, same_objects}
+use Rattle.cas_runs.specs.Naming.{Home, Own, Theirs, Value, Number, Pointer, Hidden, Part, Layout, parts_at, Named, Naming, same_home, same_part, is_it, one_later, number_of, is_place, part_by, again, if_new, first_time, named_by, and_then, all_named_by, reaches, some_reaches, reached_in, can_show, can_show_all, objects_of, same_objects}
 use Rattle.cas_runs.specs.Access.{Holding}
 use Rattle.cas_runs.specs.Calls.{Past, if_shown, can_cross, crosses_as}
 use Rattle.cas_runs.proofs.Tests.{and_both, both_true, eq_self, same_objects_self, same_share_self}
@@ -128,6 +128,7 @@ shown_theirs parts ns k at (Some n) e f =
 
 shown_as : (parts : Home → List Part) (ns : Naming) (v : Value) → can_show parts ns v ≡ true → ShownAs parts ns v
 shown_as parts ns (Number w) e = record { shown = Word w; naming = ns; named = ap (λ (t : Bool). if t then Some ns else None) (eq_self w) }
+shown_as parts ns (Hidden what) e = absurd (cc e)
 shown_as parts ns (Pointer (Own f a b) at) e = let p = part_reached (parts (Own f a b)) at e in shown_part parts ns f a b at p.place p.part p.found p.is (number_of ns (Own f a b) p.part) refl
 shown_as parts ns (Pointer (Theirs k) at) e = shown_theirs parts ns k at (slice_get ns k) refl e
 
@@ -172,6 +173,8 @@ grows parts ns (Number v) (Word w) ms e = by (nat_eq v w) e
     by false f = absurd (cc f)
 grows parts ns (Number v) (Place k place) ms e = absurd (cc e)
 grows parts ns (Pointer home at) (Word w) ms e = absurd (cc e)
+grows parts ns (Hidden what) (Word w) ms e = absurd (cc e)
+grows parts ns (Hidden what) (Place k place) ms e = absurd (cc e)
 grows parts ns (Pointer home at) (Place k place) ms e = by (nat_lt k (length ns)) (nat_eq k (length ns)) e
   where
     by : (t u : Bool) → (if t then again (slice_get ns k) ns home at place else (if u then first_time (part_by (parts home) at place) ns home else None)) ≡ Some ms → Grows ns ms
@@ -187,6 +190,7 @@ reached_longer (n ∷ ns) f a b part (suc i) k at = reached_longer ns f a b part
 
 shows_longer : (parts : Home → List Part) (ns : Naming) (w : Value) {ms : Naming} → Grows ns ms → can_show parts ms w ≡ can_show parts ns w
 shows_longer parts ns (Number w) g = refl
+shows_longer parts ns (Hidden what) g = refl
 shows_longer parts ns (Pointer (Own f a b) at) g = refl
 shows_longer parts ns (Pointer (Theirs k) at) same = refl
 shows_longer parts ns (Pointer (Theirs k) at) (own f a b part) = reached_longer ns f a b part k k at

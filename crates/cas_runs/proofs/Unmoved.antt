@@ -10,7 +10,7 @@ use Rattle.cas_runs.specs.Passing.{Relation, AllSame, SameIf, brought_in, heard,
 use Rattle.cas_runs.specs.Unmoved.{keeps_values}
 use Rattle.cas_runs.specs.Forms.{LengthsAlike, Stored, MemoryKeeps}
 
-module _ {F A G B : Type 0} (target : Activations F A) (source : Activations G B) (setting : Setting) (ts : List F) (ss : List G) (made : F → G → Type 0) (match : F → G → ℕ → A → Holding → Block → B → Holding → Block → Type 0) (names : (f : F) (g : G) → made f g → target.name f ≡ source.name g) (blocks : (f : F) (g : G) → made f g → target.blocks f ≡ source.blocks g) where
+module _ {F A G B : Type 0} (target : Activations F A) (source : Activations G B) (setting : Setting) (ts : List F) (ss : List G) (made : F → G → Type 0) (match : F → G → ℕ → A → Holding → Block → B → Holding → Block → Type 0) (names : (f : F) (g : G) → made f g → target.name f ≡ source.name g) (blocks : (f : F) (g : G) → made f g → target.blocks f ≡ source.blocks g) (first_words : target.first_word ≡ source.first_word) where
   abbrev R : Relation F A G B
   R = keeps_values target source setting ts ss made match
 
@@ -55,7 +55,7 @@ module _ {F A G B : Type 0} (target : Activations F A) (source : Activations G B
     fewer = λ m n h k h' k' le l. tt;
     locks = λ n p q h k a lock words g. record { alike = record { past = a.past; holding = ap (λ (v : Holding). with_share v (with_lock v.share lock words)) a.holding }; later = tt };
     unlocks = λ n p q h k a lock. record { alike = record { past = a.past; holding = ap (λ (v : Holding). with_share v (without_lock v.share lock)) a.holding }; later = tt };
-    begins = λ f g m p q h k a. record { alike = record { past = ap (λ v. one_begun target v) a.past; holding = set_equal fresh f g m p.begun q.begun (ap (λ (v : Past). v.begun) a.past) h k a.holding }; later = tt };
+    begins = λ f g m p q h k a. record { alike = record { past = ap (λ v. one_begun target v) a.past; holding = ap (λ v. with_set (fresh v) (target.name f) p.begun (target.blocks f) h) first_words ∙ set_equal (fresh source.first_word) f g m p.begun q.begun (ap (λ (v : Past). v.begun) a.past) h k a.holding }; later = tt };
     ends = λ n f g m p q h k a. record { alike = record { past = a.past; holding = set_equal gone f g m n n refl h k a.holding }; later = tt };
     shows = λ p q h k a vs ws s e.
         let past : p ≡ q = a.past in

@@ -23,6 +23,8 @@ pub data Last (A : Type 0) : Type 0 where
 pub record Activations (F A : Type 0) : Type 0 where
   pub name : F → NameBytes
   pub blocks : F → List ℕ
+  -- what each word of a block is where the activation begins: 0, or in a language with frames no value
+  pub first_word : Value
   pub enter : F → (serial : ℕ) → List Value → Option A
   pub form : A → Accesses (Last A)
   pub tariff : Tariff F A
@@ -57,19 +59,19 @@ pub data Thread (F A : Type 0) : Type 0 where
 
 -- The memory.
 
--- so many words 0
-abbrev pub zeros : ℕ → List Value
-zeros zero = []
-zeros (suc n) = Number 0 ∷ zeros n
+-- so many words, all this one
+abbrev pub so_many : Value → ℕ → List Value
+so_many word zero = []
+so_many word (suc n) = word ∷ so_many word n
 
 -- the memory with other blocks of an activation, from the k-th on
 abbrev pub set_blocks : (ℕ → Option (List Value)) → Memory → NameBytes → (serial k : ℕ) → List ℕ → Memory
 set_blocks words memory name serial k [] = memory
 set_blocks words memory name serial k (size ∷ sizes) = set_blocks words (with_block memory (Own name serial k) (words size)) name serial (k + 1) sizes
 
--- each word of a block is 0 where the activation begins
-abbrev pub fresh : ℕ → Option (List Value)
-fresh size = Some (zeros size)
+-- each word of a block is this one where the activation begins
+abbrev pub fresh : Value → ℕ → Option (List Value)
+fresh word size = Some (so_many word size)
 
 -- and when it has returned it is no more
 abbrev pub gone : ℕ → Option (List Value)
@@ -215,7 +217,7 @@ module _ {F A : Type 0} (l : Activations F A) where
 
   -- what is held when an activation of the function begins, and when it has returned
   abbrev pub with_own : F → (serial : ℕ) → Holding → Holding
-  with_own f serial h = record { share = h.share; memory = set_blocks fresh h.memory (l.name f) serial 0 (l.blocks f) }
+  with_own f serial h = record { share = h.share; memory = set_blocks (fresh l.first_word) h.memory (l.name f) serial 0 (l.blocks f) }
 
   abbrev pub without_own : F → (serial : ℕ) → Holding → Holding
   without_own f serial h = record { share = h.share; memory = set_blocks gone h.memory (l.name f) serial 0 (l.blocks f) }

@@ -2,6 +2,7 @@
 use Rattle.std.specs.Prelude.{ℕ, zero, suc, ◌+◌, ◌≤◌, nat_eq, nat_lt, nat_le, Bool, true, false, ◌&&◌, List, [], ◌∷◌, ◌++◌, length, Option, Some, None, slice_get, if◌then◌else◌}
 use Rattle.cas_base.specs.declared.kind.Kind.{Kind}
 use Rattle.cas_base.specs.declared.kind.Kind.TheVariants.{I8, U8, I16, U16, I32, U32}
+use Rattle.cas_base.specs.declared.reg.Reg.{Reg}
 use Rattle.cas_runs.specs.Label.{NameBytes, same_name, Shown, Word, Place, Owner, Inside, Outside, Object}
 
 -- a block of memory: of an activation of this function, by its serial number and the place of the block among the function's, or an object of the
@@ -10,10 +11,16 @@ pub data Home : Type 0 where
   Own : (function : NameBytes) (activation block : ℕ) → Home
   Theirs : (object : ℕ) → Home
 
--- a value of a language between: a word, or a place in a block
+-- what a cell or a register holds where no step may look into it: no value at all, or what the caller had in a register
+pub data Unseen : Type 0 where
+  Unset : Unseen
+  Callers : (register : Reg) → Unseen
+
+-- a value of a language between: a word, or a place in a block; or what may only be kept and put back
 pub data Value : Type 0 where
   Number : (word : ℕ) → Value
   Pointer : (home : Home) (place : ℕ) → Value
+  Hidden : (what : Unseen) → Value
 
 -- a stretch of a block that is one object, with the kind of its cells
 pub record Part : Type 0 where
@@ -108,6 +115,8 @@ abbrev pub named_by : (Home → List Part) → Naming → Value → Shown → Op
 named_by parts ns (Number v) (Word w) = if nat_eq v w then Some ns else None
 named_by parts ns (Number v) (Place object place) = None
 named_by parts ns (Pointer home at) (Word w) = None
+named_by parts ns (Hidden what) (Word w) = None
+named_by parts ns (Hidden what) (Place object place) = None
 named_by parts ns (Pointer home at) (Place object place) =
     if nat_lt object (length ns) then again (slice_get ns object) ns home at place else if nat_eq object (length ns) then first_time (part_by (parts home) at place) ns home else None
 
@@ -142,10 +151,11 @@ abbrev pub can_point : (Home → List Part) → Naming → Home → (at : ℕ) �
 can_point parts ns (Own function activation block) at = some_reaches (parts (Own function activation block)) at
 can_point parts ns (Theirs object) at = reached_in (slice_get ns object) (Theirs object) at
 
--- a word can always be shown
+-- a word can always be shown, and what is hidden never
 abbrev pub can_show : (Home → List Part) → Naming → Value → Bool
 can_show parts ns (Number w) = true
 can_show parts ns (Pointer home at) = can_point parts ns home at
+can_show parts ns (Hidden what) = false
 
 abbrev pub can_show_all : (Home → List Part) → Naming → List Value → Bool
 can_show_all parts ns [] = true
@@ -166,6 +176,7 @@ cells (v ∷ vs) (suc from) (suc n) = cells vs from (suc n)
 abbrev pub content : Value → Option ℕ
 content (Number w) = Some w
 content (Pointer home place) = None
+content (Hidden what) = None
 
 -- the words of the cells
 abbrev pub contents : List Value → List (Option ℕ)

@@ -1,7 +1,7 @@
 -- Passes that put the blocks of an activation elsewhere: each block of the source is a stretch of one of the target's.
 use Rattle.std.specs.Prelude.{◌≡◌, ℕ, ◌+◌, ◌≤◌, List, [], ◌∷◌, length, Option, Some, None, slice_get, ◌⊎◌}
 use Rattle.cas_runs.specs.Label.{NameBytes}
-use Rattle.cas_runs.specs.Naming.{Home, Own, Theirs, Value, Number, Pointer, Part, Layout, Named, Naming, Memory, part_by}
+use Rattle.cas_runs.specs.Naming.{Home, Own, Theirs, Value, Number, Pointer, Hidden, Part, Layout, Named, Naming, Memory, part_by}
 use Rattle.cas_runs.specs.Machine.{Block}
 use Rattle.cas_runs.specs.Access.{Holding}
 use Rattle.cas_runs.specs.Unit.{Setting}
@@ -25,6 +25,7 @@ abbrev pub moved : Placing → Value → Option Value
 moved place (Number w) = Some (Number w)
 moved place (Pointer (Own function activation block) at) = pointer_in function activation (place function block) at
 moved place (Pointer (Theirs object) at) = Some (Pointer (Theirs object) at)
+moved place (Hidden what) = Some (Hidden what)
 
 -- the target's value is the source's, moved
 abbrev pub SameMoved : Placing → Value → Value → Type 0
@@ -82,6 +83,8 @@ pub record AlikeMoved (place : Placing) (sizes : NameBytes → ℕ → ℕ) (p :
 -- the blocks of a function lie in those of the other without overlap, and the objects of a block go with it
 pub record IsPlacing {F A G B : Type 0} (target : Activations F A) (source : Activations G B) (made : F → G → Type 0) (place : Placing) (sizes : NameBytes → ℕ → ℕ) (placed layout : Layout) : Type 0 where
   pub names : (f : F) (g : G) → made f g → target.name f ≡ source.name g
+  pub first_words : target.first_word ≡ source.first_word
+  pub first_same : SameMoved place source.first_word source.first_word
   pub known : (f : F) (g : G) → made f g → (block size : ℕ) → slice_get (source.blocks g) block ≡ Some size → size ≡ sizes (source.name g) block
   pub room : (f : F) (g : G) → made f g → (block : ℕ) (s : Spot) → place (source.name g) block ≡ Some s → (size total : ℕ) × (slice_get (source.blocks g) block ≡ Some size) × (slice_get (target.blocks f) s.block ≡ Some total) × (s.offset + size ≤ total)
   pub apart : (function : NameBytes) (b c : ℕ) (s t : Spot) → place function b ≡ Some s → place function c ≡ Some t → s.block ≡ t.block → (b ≡ c) ⊎ (s.offset + sizes function b ≤ t.offset) ⊎ (t.offset + sizes function c ≤ s.offset)

@@ -5,7 +5,7 @@ use Rattle.cas_base.specs.declared.kind.Kind.TheVariants.{I32}
 use Rattle.cas_base.specs.declared.kind.Ty.TheVariants.{Void, Ptr}
 use Rattle.cas_runs.specs.Label.{NameBytes}
 use Rattle.cas_runs.specs.Edge.{Edge}
-use Rattle.cas_runs.specs.Naming.{Own, Value, Pointer, Part}
+use Rattle.cas_runs.specs.Naming.{Own, Value, Number, Pointer, Part}
 use Rattle.cas_runs.specs.Machine.{Machine}
 use Rattle.cas_runs.specs.Bounds.{ByForms}
 use Rattle.cas_runs.specs.Access.{Accesses, Then}
@@ -34,6 +34,7 @@ abbrev pub pointing : Activations ℕ Pointing
 pointing = record {
   name = λ place. main_name;
   blocks = λ place. 1 ∷ [];
+  first_word = Number 0;
   enter = enters;
   form = form;
   tariff = ByForms (λ a. 1) (λ a. []) 0 (λ f. 0) (λ f. 0) (λ f. 1 ∷ []);

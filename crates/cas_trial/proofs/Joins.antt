@@ -2,7 +2,7 @@
 use Rattle.std.proofs.Common.{◌≡◌, ℕ, zero, suc, ◌+◌, ◌≤◌, List, [], ◌∷◌, ◌++◌, ◌⊎◌, Option, Some, None, Bool, true, false, ◌&&◌, if◌then◌else◌, slice_get, nat_eq, nat_le, inl, inr, refl, sym, ap, ◌∙◌, subst, arith, eqb-true}
 use Rattle.std.proofs.lemmas.Bool.Decides.{nat_tests}
 use Rattle.cas_runs.specs.Label.{NameBytes, same_name}
-use Rattle.cas_runs.specs.Naming.{Home, Own, Theirs, Value, Number, Pointer, Part, Layout, ArePlaced, is_place, part_by}
+use Rattle.cas_runs.specs.Naming.{Home, Own, Theirs, Value, Number, Pointer, Hidden, Part, Layout, ArePlaced, is_place, part_by}
 use Rattle.cas_runs.specs.Bounds.{IsPrice, IsTariff}
 use Rattle.cas_runs.specs.Access.{Accesses}
 use Rattle.cas_runs.specs.Unit.{Setting, AreDistinct, IsEdge, IsLayout}
@@ -180,6 +180,8 @@ main_parts layout block to go function e at pl p h =
 joins_place : (setting : Setting) (ts : List Joined) (ss : List Apart) → IsLayout (language apart) ss setting.layout → IsPlacing joined apart (Made ts ss) (places ss) one_word (joins setting.layout) setting.layout
 joins_place setting ts ss l = record {
   names = λ f g m. refl;
+  first_words = refl;
+  first_same = refl;
   known = λ f g m block size e. one_size block size e;
   room = λ f g m block to e. let p = placed_as ss main_name block to e in room_of block to p.spot;
   apart = λ function b c s t e d same. let p = placed_as ss function b s e in let q = placed_as ss function c t d in spots_apart b c s t p.spot q.spot;
@@ -203,10 +205,12 @@ module _ (setting : Setting) (ts : List Joined) (ss : List Apart) (f : Joined) (
 
   puts_alike : (next : Stage) → SameStage ss next next → (v w : Value) → SameMoved (places ss) v w → Forms (puts next v) (puts next w)
   puts_alike next at v (Pointer home place) s = never
+  puts_alike next at v (Hidden what) s = never
   puts_alike next at v (Number n) s = subst (λ u. Forms (puts next u) (puts next (Number n))) (let same : Number n ≡ v = cc s in same) (last (puts_at at))
 
   loading_alike : (next : Stage) → SameStage ss next next → (v w : Value) → SameMoved (places ss) v w → Forms (puts_loaded next v) (puts_loaded next w)
   loading_alike next at v (Number n) s = never
+  loading_alike next at v (Hidden what) s = never
   loading_alike next at (Number n) (Pointer home place) s = absurd (number_differs home place s)
     where
       number_differs : (home : Home) (place : ℕ) → moved (places ss) (Pointer home place) ≡ Some (Number n) → ⊥
@@ -214,6 +218,15 @@ module _ (setting : Setting) (ts : List Joined) (ss : List Apart) (f : Joined) (
       number_differs (Own f a b) place e = by (places ss f b) e
         where
           by : (o : Option Spot) → pointer_in f a o place ≡ Some (Number n) → ⊥
+          by None g = cc g
+          by (Some to) g = cc g
+  loading_alike next at (Hidden what) (Pointer home place) s = absurd (hidden_differs home place s)
+    where
+      hidden_differs : (home : Home) (place : ℕ) → moved (places ss) (Pointer home place) ≡ Some (Hidden what) → ⊥
+      hidden_differs (Theirs k) place e = cc e
+      hidden_differs (Own f a b) place e = by (places ss f b) e
+        where
+          by : (o : Option Spot) → pointer_in f a o place ≡ Some (Hidden what) → ⊥
           by None g = cc g
           by (Some to) g = cc g
   loading_alike next at (Pointer home' place') (Pointer home place) s = loads s (puts_alike next at)

@@ -32,11 +32,11 @@ module _ (setting : Setting) (ts : List Relaying) (ss : List Relaying) where
   R0 = Bare setting ts ss
 
   result_at : (f g : Relaying) (us xs : List Value) → AllSame R0 us xs → AtIf R0 (λ f g. AtStep) f g (with_result us) (with_result xs)
-  result_at f g us xs s = subst (λ v. AtStep (Hands us) (Hands v)) (to_equal slow fast setting ts ss (MadeAmong IsSame ts ss) (λ f g n x h b y k c. Unit {0}) (λ f g m. refl) (λ f g m. refl) us xs s) returns
+  result_at f g us xs s = subst (λ v. AtStep (Hands us) (Hands v)) (to_equal slow fast setting ts ss (MadeAmong IsSame ts ss) (λ f g n x h b y k c. Unit {0}) (λ f g m. refl) (λ f g m. refl) refl us xs s) returns
 
   forms : (f g : Relaying) (x y : Pace) → AtStep x y → (credit : ℕ) × (1 + credit ≤ 2) × Leads R0 (λ f g. AtStep) SameSize f g credit (slow_form x) (fast_form y)
   forms f g x y (begins {word = word}) = (1, omega arith, onward (Calling word) 0 (omega arith) (at_last (last (calls_at (refl, tt) (λ us xs s count. result_at f g us xs s)))))
-  forms f g x y (returns {values = values}) = (1, omega arith, at_last (last (returns_at (all_equal slow fast setting ts ss (MadeAmong IsSame ts ss) (λ f g n x h b y k c. Unit {0}) (λ f g m. refl) (λ f g m. refl) values))))
+  forms f g x y (returns {values = values}) = (1, omega arith, at_last (last (returns_at (all_equal slow fast setting ts ss (MadeAmong IsSame ts ss) (λ f g n x h b y k c. Unit {0}) (λ f g m. refl) (λ f g m. refl) refl values))))
 
   enters : (f g : Relaying) (v w : ℕ) → v ≡ w → (vs ws : List Value) → AllSame R0 vs ws → AtIf R0 (λ f g. AtStep) f g (enters_at v vs) (enters_at w ws)
   enters f g v w e [] [] s = subst (λ u. AtStep (Begins v) (Begins u)) e begins
@@ -56,7 +56,7 @@ module _ (setting : Setting) (ts : List Relaying) (ss : List Relaying) where
   }
 
   keeps : Keeps (Rel setting ts ss)
-  keeps = equal_keeps slow fast setting ts ss (MadeAmong IsSame ts ss) (Midway R0 (λ f g. AtStep) SameSize) (λ f g m. refl) (λ f g m. refl)
+  keeps = equal_keeps slow fast setting ts ss (MadeAmong IsSame ts ss) (Midway R0 (λ f g. AtStep) SameSize) (λ f g m. refl) (λ f g m. refl) refl
 
 each_laid_out : (ts ss : List Relaying) → AllMade IsSame ts ss → (layout : Layout) → IsLayout (language fast) ss layout → IsLayout (language slow) ts layout
 each_laid_out [] ss h layout l = tt

@@ -32,7 +32,7 @@ module _ (setting : Setting) (ts : List Relayed) (ss : List Relaying) where
   R = Rel setting ts ss
 
   keeps : Keeps R
-  keeps = equal_keeps tailing calling setting ts ss (MadeAmong IsTailing ts ss) (λ f g. AtCall) (λ f g m. refl) (λ f g m. refl)
+  keeps = equal_keeps tailing calling setting ts ss (MadeAmong IsTailing ts ss) (λ f g. AtCall) (λ f g m. refl) (λ f g m. refl) refl
 
   enters_ready : (f : Relayed) (g : Relaying) (n : ℕ) (p q : Past) (h k : Holding) → R.alike p h q k → (v w : ℕ) → v ≡ w → (vs ws : List Value) → AllSame R vs ws → ReadyIf R f g n p q (enters v vs) 8 h (enters w ws) 8 k
   enters_ready f g n p q h k a v w e [] [] s =

@@ -37,6 +37,7 @@ abbrev pub fast : Activations Relaying Pace
 fast = record {
   name = λ f. main_name;
   blocks = λ f. [];
+  first_word = Number 0;
   enter = λ f serial values. enters_at f.word values;
   form = fast_form;
   tariff = ByForms (λ a. 2) (λ a. []) 1 (λ f. 0) (λ f. 0) (λ f. 2 ∷ 2 ∷ []);
@@ -46,6 +47,7 @@ abbrev pub slow : Activations Relaying Pace
 slow = record {
   name = λ f. main_name;
   blocks = λ f. [];
+  first_word = Number 0;
   enter = λ f serial values. enters_at f.word values;
   form = slow_form;
   tariff = ByForms (λ a. 1) (λ a. []) 1 (λ f. 0) (λ f. 0) (λ f. 1 ∷ 1 ∷ 1 ∷ []);

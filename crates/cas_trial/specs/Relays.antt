@@ -36,6 +36,7 @@ abbrev pub calling : Activations Relaying Relay
 calling = record {
   name = λ f. main_name;
   blocks = λ f. [];
+  first_word = Number 0;
   enter = λ f serial values. enters f.word values;
   form = calling_form;
   tariff = ByForms (λ a. 2) (λ a. []) 1 (λ f. 0) (λ f. 0) (λ f. 2 ∷ 2 ∷ []);
@@ -46,6 +47,7 @@ abbrev pub tailing : Activations Relayed Relay
 tailing = record {
   name = λ f. main_name;
   blocks = λ f. [];
+  first_word = Number 0;
   enter = λ f serial values. enters f.word values;
   form = tailing_form;
   tariff = ByForms (λ a. 2) (λ a. []) 1 (λ f. 0) (λ f. 0) (λ f. 2 ∷ []);

@@ -2,7 +2,7 @@
 -- it to the outside, and puts out what stands at the place that comes back, and then the second variable. Its variables are blocks of their own, or one block.
 use Rattle.std.specs.Prelude.{ℕ, List, [], ◌∷◌, Option, Some, None}
 use Rattle.cas_runs.specs.Label.{NameBytes}
-use Rattle.cas_runs.specs.Naming.{Own, Value, Number, Pointer}
+use Rattle.cas_runs.specs.Naming.{Own, Value, Number, Pointer, Hidden}
 use Rattle.cas_runs.specs.Bounds.{ByForms}
 use Rattle.cas_runs.specs.Access.{Accesses, Writes, Loads, Stores, Then, Fails}
 use Rattle.cas_runs.specs.Calls.{Last, Goes, Takes, Gives, Puts, Calls, Returns, Activations}
@@ -37,9 +37,11 @@ pub data Stage : Type 0 where
 abbrev pub puts : Stage → Value → Accesses (Last Stage)
 puts next (Number w) = Then (Puts w next)
 puts next (Pointer home at) = Fails
+puts next (Hidden what) = Fails
 
 abbrev pub puts_at : Stage → Value → Accesses (Last Stage)
 puts_at next (Number w) = Fails
+puts_at next (Hidden what) = Fails
 puts_at next (Pointer home at) = Loads home at (puts next)
 
 abbrev pub came_back : (serial : ℕ) → List Value → Option Stage
@@ -71,6 +73,7 @@ abbrev pub apart : Activations Apart Stage
 apart = record {
   name = λ f. main_name;
   blocks = λ f. 1 ∷ 1 ∷ [];
+  first_word = Number 0;
   enter = λ f serial values. enters f.first f.second serial values;
   form = form 1 0;
   tariff = ByForms (λ a. 2) (λ a. []) 1 (λ f. 0) (λ f. 0) (λ f. eight 2);
@@ -81,6 +84,7 @@ abbrev pub joined : Activations Joined Stage
 joined = record {
   name = λ f. main_name;
   blocks = λ f. 2 ∷ [];
+  first_word = Number 0;
   enter = λ f serial values. enters f.cells.0 f.cells.1 serial values;
   form = form 0 1;
   tariff = ByForms (λ a. 1) (λ a. []) 1 (λ f. 0) (λ f. 0) (λ f. eight 1);
