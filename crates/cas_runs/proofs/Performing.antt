@@ -6,7 +6,7 @@ use Rattle.cas_runs.specs.Outside.{IsAmong, first, later}
 use Rattle.cas_runs.specs.Naming.{Home, Value, Pointer, Memory}
 use Rattle.cas_runs.specs.Machine.{Footprint}
 use Rattle.cas_runs.specs.Access.{Words, Accesses, words_in, with_words, place_among, word_in, Doing, has_read, has_written, has_stored, Performed, failed, reads_as, reads_cell, writes_in, writes_cell, number_in, reads_word, writes_word, value_in, loads_as, stores_in, length_of, performed}
-use Rattle.cas_runs.specs.Forms.{FormAlike, reads, writes, loads, stores, looks, last, never, LengthsAlike, MemoryKeeps, PerformAlike, FootIn}
+use Rattle.cas_runs.specs.Forms.{FormAlike, reads, writes, loads, stores, looks, drops_read, drops_load, drops_look, last, never, LengthsAlike, MemoryKeeps, PerformAlike, FootIn}
 
 pub foot_same : (f : Footprint) → FootIn f f
 foot_same f = record { writes = λ w h. h; reads = λ w h. inl h }
@@ -60,6 +60,29 @@ module _ {L M : Type 0} (same : Value → Value → Type 0) (same_size : ℕ →
       by : (o : Option ℕ) → Both (reads_as o word d go) (reads_as o word e go')
       by None = bad _ _ refl
       by (Some v) = more v (has_read d word) (has_read e word) (both_read d e h word)
+
+  -- a word that the source alone reads
+  read_alone : (d e : Doing) → DoingAlike alike d e → (word : ℕ) → DoingAlike alike d (has_read e word)
+  read_alone d e h word = record { share = h.share; memory = h.memory; footprint = record { writes = h.footprint.writes; reads = λ v m. ⊎_elim (λ u. inl (later u)) inr (h.footprint.reads v m) } }
+
+  reads_dropped : (d e : Doing) → DoingAlike alike d e → (p : Performed L) (go' : ℕ → Doing → Performed M) → ((v : ℕ) (e' : Doing) → DoingAlike alike d e' → Both p (go' v e')) → (o : Option Cell) (word : ℕ) → Both p (reads_cell cells o word e go')
+  reads_dropped d e h p go' more None word = bad _ _ refl
+  reads_dropped d e h p go' more (Some LockWord) word = bad _ _ refl
+  reads_dropped d e h p go' more (Some (TableWord value)) word = more value e h
+  reads_dropped d e h p go' more (Some (SharedWord kind None initial)) word = bad _ _ refl
+  reads_dropped d e h p go' more (Some (SharedWord kind (Some guard) initial)) word = by (word_in (words_in e.holding.share guard) (place_among cells guard word))
+    where
+      by : (o : Option ℕ) → Both p (reads_as o word e go')
+      by None = bad _ _ refl
+      by (Some v) = more v (has_read e word) (read_alone d e h word)
+
+  pub words_dropped : (d e : Doing) → DoingAlike alike d e → (p : Performed L) (go' : ℕ → Doing → Performed M) → ((v : ℕ) (e' : Doing) → DoingAlike alike d e' → Both p (go' v e')) → (o : Option ℕ) → Both p (reads_word cells o e go')
+  words_dropped d e h p go' more None = bad _ _ refl
+  words_dropped d e h p go' more (Some word) = reads_dropped d e h p go' more (slice_get cells word) word
+
+  pub loads_dropped : (e : Doing) (p : Performed L) (go' : Value → Performed M) → ((w : Value) → Both p (go' w)) → (o : Option Value) → Both p (loads_as o e go')
+  loads_dropped e p go' more None = bad _ _ refl
+  loads_dropped e p go' more (Some w) = more w
 
   pub writes_too : (d e : Doing) → DoingAlike alike d e → (go : Doing → Performed L) (go' : Doing → Performed M) → ((d' e' : Doing) → DoingAlike alike d' e' → Both (go d') (go' e')) → (o : Option Cell) (word value : ℕ) → Both (writes_cell cells o word value d go) (writes_cell cells o word value e go')
   writes_too d e h go go' more None word value = bad _ _ refl
@@ -132,5 +155,8 @@ module _ {L M : Type 0} (same : Value → Value → Type 0) (same_size : ℕ →
       by None (Some m) f g l = absurd l
       by (Some n) None f g l = absurd l
       by (Some n) (Some m) f g l = g n m l
+  performed_alike {x = x} (drops_read {global = global} {offset = offset} f) d e h = words_dropped same same_size alike keeps cells words Both bad d e h (performed cells words x d) _ (λ v e' h'. performed_alike (f v) d e' h') (number_in (words global) offset)
+  performed_alike {x = x} (drops_load {home = home} {at = at} f) d e h = loads_dropped same same_size alike keeps cells words Both bad e (performed cells words x d) _ (λ w. performed_alike (f w) d e h) (value_in (e.holding.memory home) at)
+  performed_alike (drops_look {home = home} f) d e h = performed_alike (f (length_of (e.holding.memory home))) d e h
   performed_alike (last {l = l} {m = m} s) d e h = inr (record { t_last = l; s_last = m; t_does = refl; s_does = refl; lasts = s; share = h.share; memory = h.memory; footprint = h.footprint })
   performed_alike never d e h = inl refl

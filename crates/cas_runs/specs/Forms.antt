@@ -1,4 +1,5 @@
--- Forms that do the same: their accesses are to the same words and to blocks that are the same, and what they do at last is the same.
+-- Forms that do the same: their accesses are to the same words and to blocks that are the same, but for what the target has no need to read, and what
+-- they do at last is the same.
 use Rattle.std.specs.Prelude.{◌≡◌, ℕ, ◌<◌, List, Option, Some, None, length, slice_set, ◌⊎◌}
 use Rattle.cas_runs.specs.Label.{NameBytes}
 use Rattle.cas_runs.specs.Naming.{Home, Value, Pointer, Memory, with_block}
@@ -13,6 +14,10 @@ pub data FormAlike {L M : Type 0} (same : Value → Value → Type 0) (same_size
   loads : {home home' : Home} {at at' : ℕ} {next : Value → Accesses L} {next' : Value → Accesses M} → same (Pointer home at) (Pointer home' at') → ((v w : Value) → same v w → FormAlike same same_size same_last (next v) (next' w)) → FormAlike same same_size same_last (Loads home at next) (Loads home' at' next')
   stores : {home home' : Home} {at at' : ℕ} {v w : Value} {next : Accesses L} {next' : Accesses M} → same (Pointer home at) (Pointer home' at') → same v w → FormAlike same same_size same_last next next' → FormAlike same same_size same_last (Stores home at v next) (Stores home' at' w next')
   looks : {home home' : Home} (at at' : ℕ) {next : Option ℕ → Accesses L} {next' : Option ℕ → Accesses M} → same (Pointer home at) (Pointer home' at') → FormAlike same same_size same_last (next None) (next' None) → ((n m : ℕ) → same_size n m → FormAlike same same_size same_last (next (Some n)) (next' (Some m))) → FormAlike same same_size same_last (Looks home next) (Looks home' next')
+  -- the target has no need of what the source reads, loads or looks at
+  drops_read : {global : NameBytes} {offset : ℕ} {x : Accesses L} {next' : ℕ → Accesses M} → ((v : ℕ) → FormAlike same same_size same_last x (next' v)) → FormAlike same same_size same_last x (Reads global offset next')
+  drops_load : {home : Home} {at : ℕ} {x : Accesses L} {next' : Value → Accesses M} → ((w : Value) → FormAlike same same_size same_last x (next' w)) → FormAlike same same_size same_last x (Loads home at next')
+  drops_look : {home : Home} {x : Accesses L} {next' : Option ℕ → Accesses M} → ((o : Option ℕ) → FormAlike same same_size same_last x (next' o)) → FormAlike same same_size same_last x (Looks home next')
   last : {l : L} {m : M} → same_last l m → FormAlike same same_size same_last (Then l) (Then m)
   never : {x : Accesses L} → FormAlike same same_size same_last x Fails
 
