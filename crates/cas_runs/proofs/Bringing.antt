@@ -5,15 +5,15 @@ use Rattle.cas_runs.specs.Label.{NameBytes, Shown, Word, Place, Object, Crossing
 use Rattle.cas_runs.specs.Naming.{Home, Own, Theirs, Value, Number, Pointer, Hidden, Part, Layout, parts_at, some_reaches, Named, Naming, Memory, and_then, all_named_by, reaches, reached_in, can_show, can_show_all, same_home, objects_of, same_objects, value_at, taken, all_taken, written, with_block, left_in, new_block, Crossed, brought}
 use Rattle.cas_runs.specs.Machine.{Block}
 use Rattle.cas_runs.specs.Access.{Holding, with_lock, without_lock, value_in, length_of}
-use Rattle.cas_runs.specs.Forms.{LengthsAlike, Stored, MemoryKeeps}
+use Rattle.cas_runs.specs.Forms.{LengthsAlike, Stored, MemoryKeeps, AlikeSince}
 use Rattle.cas_runs.specs.Unit.{Setting}
 use Rattle.cas_runs.specs.Calls.{Activations, Past, set_blocks, fresh, gone, without_own, with_share, same_share, if_shown, crosses_as, with_naming}
 use Rattle.cas_runs.specs.Passing.{Relation, AllSame, SameIf, brought_in, Keeps}
-use Rattle.cas_runs.specs.Placing.{Spot, Placing, pointer_in, SameMoved, AllMoved, CellsMoved, BlockMoved, ObjectMoved, MemoryMoved, moved_part, NamedMoved, NamingMoved, AlikeMoved, IsPlacing, moves_blocks}
+use Rattle.cas_runs.specs.Placing.{Spot, Placing, pointer_in, SameMoved, AllMoved, CellsMoved, BlockMoved, ObjectMoved, MemoryMoved, moved_part, NamedMoved, NamingMoved, AlikeMoved, UnplacedKept, IsPlacing, moves_blocks}
 use Rattle.cas_runs.proofs.Showing.{part_reached, reached_by}
 use Rattle.cas_runs.proofs.Tests.{and_both, eq_self, same_home_from}
 use Rattle.cas_runs.proofs.Cells.{set_same, set_other, set_length, get_inside, written_length, written_out}
-use Rattle.cas_runs.proofs.Placing.{with_here, with_elsewhere, same_or_not, moved_pointer, all_moved_get, all_moved_length, moved_written, moved_new, cells_after, block_is, theirs_block, own_block, begin, end, blocks_moved, all_shown_same, naming_get, all_names_too}
+use Rattle.cas_runs.proofs.Placing.{with_here, with_elsewhere, same_or_not, moved_pointer, all_moved_get, all_moved_length, moved_written, moved_new, cells_after, block_is, theirs_block, own_block, begin, end, other_home, blocks_moved, all_shown_same, naming_get, all_names_too}
 
 -- the memory with the block that it has
 unchanged : (m : Memory) (home : Home) (x : Option (List Value)) → m home ≡ x → (other : Home) → with_block m home x other ≡ m other
@@ -210,6 +210,23 @@ module _ {F A G B : Type 0} (target : Activations F A) (source : Activations G B
   same_if None (Some ws) h = absurd h
   same_if (Some vs) (Some ws) h = from_moved vs ws h
 
+  -- the outside changes no block that the target doesn't have
+  not_named : (m : Named) (home : Home) (part : Part) → NamedMoved place sizes m home part → (f : NameBytes) (a b : ℕ) → place f b ≡ None → Own f a b ≡ home → ⊥
+  not_named m (Theirs k) part e f a b none same = cc same
+  not_named m (Own g c d) part e f a b none same =
+      let names : f ≡ g = cc same in
+      let blocks : b ≡ d = cc same in
+      let there : place f b ≡ Some e.0 = subst (λ v. place v b ≡ Some e.0) (sym names) (subst (λ v. place g v ≡ Some e.0) (sym blocks) e.1) in
+      cc (none, there)
+
+  unplaced_stay : (os : List Object) (s : Memory) (ms ns : Naming) → NamingMoved place sizes ms ns → (k : ℕ) (f : NameBytes) (a b : ℕ) → place f b ≡ None → (brought s ns k os).memory (Own f a b) ≡ s (Own f a b)
+  unplaced_stay [] s ms ns e k f a b none = refl
+  unplaced_stay (o ∷ os) s [] [] e k f a b none = unplaced_stay os (with_block s (Theirs k) (new_block o.size o.contents)) [] [] tt (k + 1) f a b none ∙ with_elsewhere s (Theirs k) (Own f a b) (new_block o.size o.contents) (λ same. cc same)
+  unplaced_stay (o ∷ os) s [] (n ∷ ns) e k f a b none = absurd e
+  unplaced_stay (o ∷ os) s (m ∷ ms) [] e k f a b none = absurd e
+  unplaced_stay (o ∷ os) s (m ∷ ms) (n ∷ ns) e k f a b none =
+      unplaced_stay os (with_block s n.home (left_in n (s n.home) o.contents)) ms ns e.1 (k + 1) f a b none ∙ with_elsewhere s n.home (Own f a b) (left_in n (s n.home) o.contents) (λ same. not_named m n.home n.part e.0 f a b none same)
+
   with_memory : (p q : Past) (h k h' k' : Holding) → AlikeMoved place sizes p h q k → h'.share ≡ k'.share → MemoryMoved place sizes h'.memory k'.memory → AlikeMoved place sizes p h' q k'
   with_memory p q h k h' k' a share memory = record { begun = a.begun; share = share; memory = memory; naming = a.naming }
 
@@ -220,24 +237,24 @@ module _ {F A G B : Type 0} (target : Activations F A) (source : Activations G B
     first = record { begun = refl; share = refl; memory = record { own = λ f a b to e. refl; theirs = λ k. tt; have_sizes = λ f a b ws e. absurd (cc e) }; naming = tt };
     begun = λ p q h k a. a.begun;
     shares = λ p q h k a. a.share;
-    at_once = λ n h k. tt;
-    then_later = λ n h k h' k' h'' k'' l m. tt;
-    fewer = λ m n h k h' k' le l. tt;
-    locks = λ n p q h k a lock words g. record { alike = with_memory p q h k (with_share h (with_lock h.share lock words)) (with_share k (with_lock k.share lock words)) a (ap (λ v. with_lock v lock words) a.share) a.memory; later = tt };
-    unlocks = λ n p q h k a lock. record { alike = with_memory p q h k (with_share h (without_lock h.share lock)) (with_share k (without_lock k.share lock)) a (ap (λ v. without_lock v lock) a.share) a.memory; later = tt };
+    at_once = λ n h k f a b less none. refl;
+    then_later = λ n h k h' k' h'' k'' l m f a b less none. m f a b less none ∙ l f a b less none;
+    fewer = λ m n h k h' k' le l f a b less none. l f a b (omega (arith, le, less)) none;
+    locks = λ n p q h k a lock words g. record { alike = with_memory p q h k (with_share h (with_lock h.share lock words)) (with_share k (with_lock k.share lock words)) a (ap (λ v. with_lock v lock words) a.share) a.memory; later = λ f a b less none. refl };
+    unlocks = λ n p q h k a lock. record { alike = with_memory p q h k (with_share h (without_lock h.share lock)) (with_share k (without_lock k.share lock)) a (ap (λ v. without_lock v lock) a.share) a.memory; later = λ f a b less none. refl };
     begins = λ f g m p q h k a. record {
       alike = record { begun = ap (λ n. n + 1) a.begun; share = a.share; memory = subst (λ v. MemoryMoved place sizes (set_blocks (fresh v) h.memory (target.name f) p.begun 0 (target.blocks f)) (set_blocks (fresh source.first_word) k.memory (source.name g) q.begun 0 (source.blocks g))) (sym is.first_words) (blocks_moved target source made place sizes placed setting.layout is (fresh source.first_word) begin f g m p.begun q.begun a.begun h.memory k.memory a.memory); naming = a.naming };
-      later = tt;
+      later = λ f' a' b' less none. other_home target source made place sizes placed setting.layout is (fresh source.first_word) k.memory (source.name g) q.begun (source.blocks g) f' a' (λ d b'' e. let same : a' ≡ q.begun = cc e in let begun = a.begun in omega (arith, same, begun, less)) b';
     };
     ends = λ n f g m p q h k a. record {
       alike = with_memory p q h k (without_own target f n h) (without_own source g n k) a a.share (blocks_moved target source made place sizes placed setting.layout is gone end f g m n n refl h.memory k.memory a.memory);
-      later = tt;
+      later = λ f' a' b' less none. other_home target source made place sizes placed setting.layout is gone k.memory (source.name g) n (source.blocks g) f' a' (λ d b'' e. let same : a' ≡ n = cc e in omega (arith, same, less)) b';
     };
     shows = λ p q h k a vs ws s e. subst (λ n. can_show_all (parts_at placed n) p.naming vs ≡ true) (sym a.begun) (all_show_too target source made place sizes placed setting.layout is q.begun p.naming q.naming a.naming vs ws (to_moved vs ws s) e);
     crosses = λ p q h k a vs ws s crossing ns e. crosses_moved target source made place sizes placed setting.layout is p q h k a vs ws (to_moved vs ws s) crossing ns e;
     hears = λ n p q h k a before types crossing brings typed.
         let both = left target source made place sizes placed setting.layout is crossing.objects h.memory k.memory a.memory p.naming q.naming a.naming 0 in (
-          record { alike = record { begun = a.begun; share = refl; memory = both.memory; naming = both.naming }; later = tt },
+          record { alike = record { begun = a.begun; share = refl; memory = both.memory; naming = both.naming }; later = λ f a' b less none. unplaced_stay crossing.objects k.memory p.naming q.naming a.naming 0 f a' b none },
           same_if (all_taken (brought_in R p h crossing).naming crossing.values) (all_taken (brought_in R q k crossing).naming crossing.values)
               (all_taken_too target source made place sizes placed setting.layout is (brought_in R p h crossing).naming (brought_in R q k crossing).naming both.naming crossing.values),
         );
@@ -368,6 +385,27 @@ module _ {F A G B : Type 0} (target : Activations F A) (source : Activations G B
           let homes : Own f a to.block ≡ home = cc j in
           subst (λ v. LengthsAlike AnySize (length_of (t v)) (length_of (s (Own f a b)))) homes (own_lengths to.offset (t (Own f a to.block)) (s (Own f a b)) (h.own f a b to i))
 
-  -- loads and stores keep the memories alike
-  pub memory_keeps : MemoryKeeps (SameMoved place) AnySize (MemoryMoved place sizes)
-  memory_keeps = record { loads = loads_moved; stores = stores_moved; lengths = lengths_moved }
+  -- a pointer to what the target has is to no other block
+  placed_elsewhere : (home home' : Home) (at at' : ℕ) → SameMoved place (Pointer home at) (Pointer home' at') → (f : NameBytes) (a b : ℕ) → place f b ≡ None → Own f a b ≡ home' → ⊥
+  placed_elsewhere home (Theirs k) at at' p f a b none same = cc same
+  placed_elsewhere home (Own g c d) at at' p f a b none same =
+      let names : f ≡ g = cc same in
+      let blocks : b ≡ d = cc same in
+      let nowhere : place g d ≡ None = subst (λ v. place v d ≡ None) names (subst (λ v. place f v ≡ None) blocks none) in
+      let gone : None ≡ Some (Pointer home at) = subst (λ o. pointer_in g c o at' ≡ Some (Pointer home at)) nowhere p in
+      cc gone
+
+  -- loads and stores keep the memories alike, and the blocks that the target doesn't have as they were
+  pub memory_keeps_since : (before : Memory) → MemoryKeeps (SameMoved place) AnySize (AlikeSince (MemoryMoved place sizes) (UnplacedKept place) before)
+  memory_keeps_since before = record {
+    loads = λ t s a home home' at at' p w g. loads_moved t s a.0 home home' at at' p w g;
+    stores = λ t s a home home' at at' p v w same ws g less.
+        let stored = stores_moved t s a.0 home home' at at' p v w same ws g less in
+        record {
+          block = stored.block;
+          there = stored.there;
+          within = stored.within;
+          after = (stored.after, λ f c b none. with_elsewhere s home' (Own f c b) (Some (slice_set ws at' w)) (placed_elsewhere home home' at at' p f c b none) ∙ a.1 f c b none);
+        };
+    lengths = λ t s a home home' at at' p. lengths_moved t s a.0 home home' at at' p;
+  }

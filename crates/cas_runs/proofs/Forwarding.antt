@@ -8,7 +8,7 @@ use Rattle.cas_runs.specs.Machine.{Footprint, Block, and_step}
 use Rattle.cas_runs.specs.Refines.{Within, Subsequence, done, skip}
 use Rattle.cas_runs.specs.Bounds.{step_price, first_price}
 use Rattle.cas_runs.specs.Access.{Words, Accesses, Reads, Writes, Loads, Stores, Looks, Then, Fails, Holding, with_lock, without_lock, words_in, place_among, word_in, Doing, has_read, has_written, has_stored, Performed, failed, reads_as, reads_cell, writes_in, writes_cell, number_in, reads_word, writes_word, value_in, loads_as, stores_in, length_of, performed}
-use Rattle.cas_runs.specs.Forms.{MemoryKeeps, BothPerform, FootIn}
+use Rattle.cas_runs.specs.Forms.{MemoryKeeps, AlikeSince, BothPerform, FootIn}
 use Rattle.cas_runs.specs.Calls.{Last, Goes, Takes, Gives, Puts, Calls, Tails, Returns, Past, with_share, with_own, one_begun, called, nothing_touched}
 use Rattle.cas_runs.specs.Passing.{Relation, t_step, s_step, t_on, s_on, Going, matched, fails, goes, Ready, ReadyIf, TailAlike, tail, meets, fails_first, FailsSoon, fails_now, Does, FineAt, Passes, Keeps}
 use Rattle.cas_runs.specs.Stepwise.{AtIf, LastAt, goes_at, takes_at, gives_at, puts_at, calls_at, tails_at, returns_at, HoldsPlainly}
@@ -173,14 +173,27 @@ module _ {F A G B : Type 0} (r : Relation F A G B) (At : F → G → A → B →
     front (at_last f) d e h = ⊎_elim failing ending (performed_alike r.same same_size (LastAt r At to from) memory_alike keeps_memory C W f d e h)
     front fails_too d e h = failing refl
 
-  nothing_in : (f : Footprint) → FootIn nothing_touched f
-  nothing_in f = record { writes = λ w h. elim h [ ]; reads = λ w h. elim h [ ] }
+nothing_in : (f : Footprint) → FootIn nothing_touched f
+nothing_in f = record { writes = λ w h. elim h [ ]; reads = λ w h. elim h [ ] }
+
+module _ {F A G B : Type 0} (r : Relation F A G B) (At : F → G → A → B → Type 0) (same_size : ℕ → ℕ → Type 0) (memory_alike kept : Memory → Memory → Type 0) (keeps_memory : (before : Memory) → MemoryKeeps r.same same_size (AlikeSince memory_alike kept before)) where
+  abbrev since : Memory → Memory → Memory → Type 0
+  since before = AlikeSince memory_alike kept before
+
+  abbrev cells : List Cell
+  cells = r.setting.edge.cells
+
+  abbrev words : Words
+  words = r.setting.words
+
+  abbrev FrontAt : F → G → Memory → Doing → Doing → ℕ → Performed (Last A) → Performed (Last B) → Type 0
+  FrontAt to from before d e credit p q = Front r At same_size (since before) (keeps_memory before) to from d e credit p q
 
   -- the relation in which activations match midway
   abbrev pub R' : Relation F A G B
   R' = record r { match = λ f g n x h b y k c. Midway r At same_size f g n x h b y k c }
 
-  module _ (plain : HoldsPlainly r memory_alike) (is : Forward r At same_size) (keeps : Keeps R') where
+  module _ (plain : HoldsPlainly r memory_alike kept) (is : Forward r At same_size) (keeps : Keeps R') where
     does_failing : (n : ℕ) (p q : Past) (h k : Holding) (f : F) (g : G) (o : Option (Last A)) (h' : Holding) (b : Block) (y : B) (c : Block) → (s_step R' y k).last ≡ None → Does R' n p q h k f g o h' b y c
     does_failing n p q h k f g None h' b y c e = fails_now e
     does_failing n p q h k f g (Some (Goes x)) h' b y c e = fails e
@@ -192,41 +205,41 @@ module _ {F A G B : Type 0} (r : Relation F A G B) (At : F → G → A → B →
     does_failing n p q h k f g (Some (Returns vs)) h' b y c e = fails_first e
 
     module _ (to : F) (from : G) (made : r.made to from) where
-      at_start : (p q : Past) (h k : Holding) → r.alike p h q k → (e : Doing) → e.holding ≡ k → DoingAlike memory_alike (record { holding = h; footprint = nothing_touched }) e
+      at_start : (p q : Past) (h k : Holding) → r.alike p h q k → (e : Doing) → e.holding ≡ k → DoingAlike (since k.memory) (record { holding = h; footprint = nothing_touched }) e
       at_start p q h k a e same = record {
         share = plain.shares p q h k a ∙ ap (λ (v : Holding). v.share) (sym same);
-        memory = subst (λ (v : Holding). memory_alike h.memory v.memory) (sym same) (plain.memories p q h k a);
+        memory = (subst (λ (v : Holding). memory_alike h.memory v.memory) (sym same) (plain.memories p q h k a), subst (λ (v : Holding). kept k.memory v.memory) (sym same) (plain.itself k.memory));
         footprint = nothing_in e.footprint;
       }
 
       -- the footprint of the target's step is in that of the source's, unless that fails
-      step_in : (p q : Past) (h k : Holding) → r.alike p h q k → (x : A) (y : B) (z : Accesses (Last B)) (e : Doing) (credit : ℕ) → s_step R' y k ≡ performed C W z e → e.holding ≡ k → Leads r At same_size to from credit (r.target.form x) z → ((s_step R' y k).last ≡ None) ⊎ FootIn (t_step R' x h).footprint (s_step R' y k).footprint
-      step_in p q h k a x y z e credit so_far same leads = by (front to from leads (record { holding = h; footprint = nothing_touched }) e (at_start p q h k a e same))
+      step_in : (p q : Past) (h k : Holding) → r.alike p h q k → (x : A) (y : B) (z : Accesses (Last B)) (e : Doing) (credit : ℕ) → s_step R' y k ≡ performed cells words z e → e.holding ≡ k → Leads r At same_size to from credit (r.target.form x) z → ((s_step R' y k).last ≡ None) ⊎ FootIn (t_step R' x h).footprint (s_step R' y k).footprint
+      step_in p q h k a x y z e credit so_far same leads = by (front r At same_size (since k.memory) (keeps_memory k.memory) to from leads (record { holding = h; footprint = nothing_touched }) e (at_start p q h k a e same))
         where
-          by : Front to from (record { holding = h; footprint = nothing_touched }) e credit (t_step R' x h) (performed C W z e) → ((s_step R' y k).last ≡ None) ⊎ FootIn (t_step R' x h).footprint (s_step R' y k).footprint
+          by : FrontAt to from k.memory (record { holding = h; footprint = nothing_touched }) e credit (t_step R' x h) (performed cells words z e) → ((s_step R' y k).last ≡ None) ⊎ FootIn (t_step R' x h).footprint (s_step R' y k).footprint
           by (failing g) = inl (ap (λ (v : Performed (Last B)). v.last) so_far ∙ g)
           by (ending g) = inr (subst (λ (v : Performed (Last B)). FootIn (t_step R' x h).footprint v.footprint) (sym so_far) g.footprint)
           by (moving g) = inr (subst (λ (v : Performed (Last B)). FootIn (t_step R' x h).footprint v.footprint) (sym so_far) g.footprint)
 
-      stand : (n : ℕ) (p q : Past) (h0 k0 h k : Holding) → r.alike p h q k → (x : A) (y : B) (z : Accesses (Last B)) (e : Doing) (credit : ℕ) → s_step R' y k ≡ performed C W z e → e.holding ≡ k → Leads r At same_size to from credit (r.target.form x) z → (b c : Block) → b.price + credit ≤ c.price → (FootIn (t_step R' x h).footprint (s_step R' y k).footprint → Within b c) → FootIn (s_step R' y k).footprint (record { reads = c.reads; writes = c.writes }) → Going R' to from n p q h0 k0 x h b y k c
-      stand n p q h0 k0 h k a x y z e credit so_far same leads b c price within touches =
+      stand : (n : ℕ) (p q : Past) (h0 k0 h k : Holding) → r.later n h0 k0 h k → r.alike p h q k → (x : A) (y : B) (z : Accesses (Last B)) (e : Doing) (credit : ℕ) → s_step R' y k ≡ performed cells words z e → e.holding ≡ k → Leads r At same_size to from credit (r.target.form x) z → (b c : Block) → b.price + credit ≤ c.price → (FootIn (t_step R' x h).footprint (s_step R' y k).footprint → Within b c) → FootIn (s_step R' y k).footprint (record { reads = c.reads; writes = c.writes }) → Going R' to from n p q h0 k0 x h b y k c
+      stand n p q h0 k0 h k l a x y z e credit so_far same leads b c price within touches =
           ⊎_elim (λ bad. fails bad)
-          (λ foot. matched ((record { left = z; done = e; credit = credit; so_far = so_far; unchanged = same; leads = leads; price = price; within = within foot; touches = touches })) (record { alike = a; later = plain.later n h0 k0 h k }))
+          (λ foot. matched ((record { left = z; done = e; credit = credit; so_far = so_far; unchanged = same; leads = leads; price = price; within = within foot; touches = touches })) (record { alike = a; later = l }))
           (step_in p q h k a x y z e credit so_far same leads)
 
       in_block : (c : Block) (m : ℕ) (f : Footprint) → FootIn f (record { reads = (and_step c m f).reads; writes = (and_step c m f).writes })
       in_block c m f = record { writes = λ w h. among_back w c.writes f.writes h; reads = λ w h. inl (among_back w c.reads f.reads h) }
 
-      reach : (n : ℕ) (p q : Past) (h0 k0 h k : Holding) → r.alike p h q k → (x : A) (y : B) → At to from x y → (b c : Block) → Within b c → (e m : ℕ) → e ≤ m → Going R' to from n p q h0 k0 x h (t_on R' b x e h) y k (s_on R' c y m k)
-      reach n p q h0 k0 h k a x y at b c w e m le =
+      reach : (n : ℕ) (p q : Past) (h0 k0 h k : Holding) → r.later n h0 k0 h k → r.alike p h q k → (x : A) (y : B) → At to from x y → (b c : Block) → Within b c → (e m : ℕ) → e ≤ m → Going R' to from n p q h0 k0 x h (t_on R' b x e h) y k (s_on R' c y m k)
+      reach n p q h0 k0 h k l a x y at b c w e m le =
           let forms = is.forms to from made x y at in
           let cost = forms.1 in
           let old = w.price in
-          stand n p q h0 k0 h k a x y (r.source.form y) (record { holding = k; footprint = nothing_touched }) forms.0 refl refl forms.2 (t_on R' b x e h) (s_on R' c y m k) (omega (arith, cost, old, le))
+          stand n p q h0 k0 h k l a x y (r.source.form y) (record { holding = k; footprint = nothing_touched }) forms.0 refl refl forms.2 (t_on R' b x e h) (s_on R' c y m k) (omega (arith, cost, old, le))
           (λ foot. within_step b c _ _ _ _ w (omega (arith, cost, le)) foot) (in_block c (step_price r.source.tariff r.sources y + m) (s_step R' y k).footprint)
 
       ready : (n : ℕ) (p q : Past) (h k : Holding) → r.alike p h q k → (x : A) (y : B) → At to from x y → (e m : ℕ) → e ≤ m → Ready R' to from n p q x e h y m k
-      ready n p q h k a x y at e m le = λ b c w. reach n p q h k h k a x y at b c w e m le
+      ready n p q h k a x y at e m le = λ b c w. reach n p q h k h k (keeps.at_once n h k) a x y at b c w e m le
 
       ready_if : (n : ℕ) (p q : Past) (h k : Holding) → r.alike p h q k → (o : Option A) (o' : Option B) → AtIf r At to from o o' → (e m : ℕ) → e ≤ m → ReadyIf R' to from n p q o e h o' m k
       ready_if n p q h k a (Some x) (Some y) at e m le = ready n p q h k a x y at e m le
@@ -239,16 +252,16 @@ module _ {F A G B : Type 0} (r : Relation F A G B) (At : F → G → A → B →
 
       -- A step of the target.
 
-      does_last : (n : ℕ) (p q : Past) (h k : Holding) (h' : Holding) (b : Block) (y : B) (c : Block) → r.alike p h' q (s_step R' y k).holding → Within b c → {l : Last A} {m : Last B} → LastAt r At to from l m → (s_step R' y k).last ≡ Some m → Does R' n p q h k to from (Some l) h' b y c
-      does_last n p q h k h' b y c a w (goes_at {x = x} {y = y'} at) e = goes y' e (reach n p q h k h' (s_step R' y k).holding a x y' at b c w 0 0 (omega arith))
-      does_last n p q h k h' b y c a w (takes_at {x = x} {y = y'} at) e = meets (y', e, record { alike = a; later = plain.later n h k h' (s_step R' y k).holding }, λ num words named guarded. shared_ready n p q h' (s_step R' y k).holding a x y' at (λ share. with_lock share num words))
-      does_last n p q h k h' b y c a w (gives_at {x = x} {y = y'} at) e = meets (y', e, record { alike = a; later = plain.later n h k h' (s_step R' y k).holding }, λ num named. shared_ready n p q h' (s_step R' y k).holding a x y' at (λ share. without_lock share num))
-      does_last n p q h k h' b y c a w (puts_at {x = x} {y = y'} at) e = meets (y', e, record { alike = a; later = plain.later n h k h' (s_step R' y k).holding }, ready n p q h' (s_step R' y k).holding a x y' at 0 0 (omega arith))
-      does_last n p q h k h' b y c a w (calls_at {ws = ws} {next = next} {next' = next'} s conts) e =
-          meets (ws, next', e, s, record { alike = a; later = plain.later n h k h' (s_step R' y k).holding }, λ p' q' h'' k'' l a'' us xs same count. ready_if n p' q' h'' k'' a'' (next us) (next' xs) (conts us xs same count) 0 0 (omega arith))
-      does_last n p q h k h' b y c a w (tails_at {function = function} {vs = vs} {ws = ws} s) e =
-          meets (subst (λ o. TailAlike R' n p q h k to from function vs h' (s_step R' y k).holding o) (sym e) (tail ws s (record { alike = a; later = plain.later n h k h' (s_step R' y k).holding })))
-      does_last n p q h k h' b y c a w (returns_at {ws = ws} s) e = meets (ws, e, s, record { alike = a; later = plain.later n h k h' (s_step R' y k).holding })
+      does_last : (n : ℕ) (p q : Past) (h k : Holding) (h' : Holding) (b : Block) (y : B) (c : Block) → r.later n h k h' (s_step R' y k).holding → r.alike p h' q (s_step R' y k).holding → Within b c → {l : Last A} {m : Last B} → LastAt r At to from l m → (s_step R' y k).last ≡ Some m → Does R' n p q h k to from (Some l) h' b y c
+      does_last n p q h k h' b y c l a w (goes_at {x = x} {y = y'} at) e = goes y' e (reach n p q h k h' (s_step R' y k).holding l a x y' at b c w 0 0 (omega arith))
+      does_last n p q h k h' b y c l a w (takes_at {x = x} {y = y'} at) e = meets (y', e, record { alike = a; later = l }, λ num words named guarded. shared_ready n p q h' (s_step R' y k).holding a x y' at (λ share. with_lock share num words))
+      does_last n p q h k h' b y c l a w (gives_at {x = x} {y = y'} at) e = meets (y', e, record { alike = a; later = l }, λ num named. shared_ready n p q h' (s_step R' y k).holding a x y' at (λ share. without_lock share num))
+      does_last n p q h k h' b y c l a w (puts_at {x = x} {y = y'} at) e = meets (y', e, record { alike = a; later = l }, ready n p q h' (s_step R' y k).holding a x y' at 0 0 (omega arith))
+      does_last n p q h k h' b y c l a w (calls_at {ws = ws} {next = next} {next' = next'} s conts) e =
+          meets (ws, next', e, s, record { alike = a; later = l }, λ p' q' h'' k'' l' a'' us xs same count. ready_if n p' q' h'' k'' a'' (next us) (next' xs) (conts us xs same count) 0 0 (omega arith))
+      does_last n p q h k h' b y c l a w (tails_at {function = function} {vs = vs} {ws = ws} s) e =
+          meets (subst (λ o. TailAlike R' n p q h k to from function vs h' (s_step R' y k).holding o) (sym e) (tail ws s (record { alike = a; later = l })))
+      does_last n p q h k h' b y c l a w (returns_at {ws = ws} s) e = meets (ws, e, s, record { alike = a; later = l })
 
       -- one step more on the way
       block_in : (b c : Block) (m : ℕ) (f g : Footprint) → Within b c → b.price + m ≤ c.price → FootIn f g → FootIn g (record { reads = c.reads; writes = c.writes }) → Within (and_step b m f) c
@@ -258,26 +271,26 @@ module _ {F A G B : Type 0} (r : Relation F A G B) (At : F → G → A → B →
         reads = λ v h. ⊎_elim (λ u. w.reads v u) (λ u. ⊎_elim (touches.reads v) (λ t. inr (touches.writes v t)) (foot.reads v u)) (among_either v b.reads f.reads h);
       }
 
-      does_moving : (n : ℕ) (p q : Past) (x : A) (h : Holding) (b : Block) (y : B) (k : Holding) (c : Block) → r.alike p h q k → (m : Midway r At same_size to from n x h b y k c) → (g : Moves to from (record { holding = h; footprint = nothing_touched }) m.done m.credit (t_step R' x h) (performed C W m.left m.done)) → Going R' to from n p q h k g.next (t_step R' x h).holding (t_on R' b g.next 0 (t_step R' x h).holding) y k c
+      does_moving : (n : ℕ) (p q : Past) (x : A) (h : Holding) (b : Block) (y : B) (k : Holding) (c : Block) → r.alike p h q k → (m : Midway r At same_size to from n x h b y k c) → (g : Moves r At same_size (since k.memory) (keeps_memory k.memory) to from (record { holding = h; footprint = nothing_touched }) m.done m.credit (t_step R' x h) (performed cells words m.left m.done)) → Going R' to from n p q h k g.next (t_step R' x h).holding (t_on R' b g.next 0 (t_step R' x h).holding) y k c
       does_moving n p q x h b y k c a m g =
           let cost = g.price in
           let old = m.price in
           subst (λ v. Going R' to from n p q h k g.next v (t_on R' b g.next 0 v) y k c) (sym g.holding)
-          (stand n p q h k h k a g.next y g.left g.now g.rest (m.so_far ∙ g.so_far) (g.unchanged ∙ m.unchanged) g.leads (t_on R' b g.next 0 h) c (omega (arith, cost, old))
+          (stand n p q h k h k (keeps.at_once n h k) a g.next y g.left g.now g.rest (m.so_far ∙ g.so_far) (g.unchanged ∙ m.unchanged) g.leads (t_on R' b g.next 0 h) c (omega (arith, cost, old))
           (λ foot. block_in b c _ _ _ m.within (omega (arith, cost, old)) foot m.touches) m.touches)
 
       does_at : (n : ℕ) (p q : Past) (x : A) (h : Holding) (b : Block) (y : B) (k : Holding) (c : Block) → r.alike p h q k → Midway r At same_size to from n x h b y k c → Does R' n p q h k to from (t_step R' x h).last (t_step R' x h).holding b y c
-      does_at n p q x h b y k c a m = by (front to from m.leads (record { holding = h; footprint = nothing_touched }) m.done (at_start p q h k a m.done m.unchanged))
+      does_at n p q x h b y k c a m = by (front r At same_size (since k.memory) (keeps_memory k.memory) to from m.leads (record { holding = h; footprint = nothing_touched }) m.done (at_start p q h k a m.done m.unchanged))
         where
-          ended : (v : Performed (Last B)) → v ≡ s_step R' y k → BothPerform memory_alike (LastAt r At to from) (t_step R' x h) v → BothPerform memory_alike (LastAt r At to from) (t_step R' x h) (s_step R' y k)
-          ended v e u = subst (λ w. BothPerform memory_alike (LastAt r At to from) (t_step R' x h) w) e u
+          ended : (v : Performed (Last B)) → v ≡ s_step R' y k → BothPerform (since k.memory) (LastAt r At to from) (t_step R' x h) v → BothPerform (since k.memory) (LastAt r At to from) (t_step R' x h) (s_step R' y k)
+          ended v e u = subst (λ w. BothPerform (since k.memory) (LastAt r At to from) (t_step R' x h) w) e u
 
-          by : Front to from (record { holding = h; footprint = nothing_touched }) m.done m.credit (t_step R' x h) (performed C W m.left m.done) → Does R' n p q h k to from (t_step R' x h).last (t_step R' x h).holding b y c
+          by : FrontAt to from k.memory (record { holding = h; footprint = nothing_touched }) m.done m.credit (t_step R' x h) (performed cells words m.left m.done) → Does R' n p q h k to from (t_step R' x h).last (t_step R' x h).holding b y c
           by (failing u) = does_failing n p q h k to from (t_step R' x h).last (t_step R' x h).holding b y c (ap (λ (v : Performed (Last B)). v.last) m.so_far ∙ u)
           by (ending u) =
-              let both = ended (performed C W m.left m.done) (sym m.so_far) u in
+              let both = ended (performed cells words m.left m.done) (sym m.so_far) u in
               subst (λ o. Does R' n p q h k to from o (t_step R' x h).holding b y c) (sym both.t_does)
-              (does_last n p q h k (t_step R' x h).holding b y c (plain.again p q h k (t_step R' x h).holding (s_step R' y k).holding a both.share both.memory) m.within both.lasts both.s_does)
+              (does_last n p q h k (t_step R' x h).holding b y c (plain.later n h k (t_step R' x h).holding (s_step R' y k).holding both.memory.1) (plain.again p q h k (t_step R' x h).holding (s_step R' y k).holding a both.share both.memory.0) m.within both.lasts both.s_does)
           by (moving u) = subst (λ o. Does R' n p q h k to from o (t_step R' x h).holding b y c) (sym u.does) (does_moving n p q x h b y k c a m u)
 
       none_called : (o : Option (Last B)) → Subsequence [] (called o)
@@ -300,9 +313,9 @@ module _ {F A G B : Type 0} (r : Relation F A G B) (At : F → G → A → B →
       called_same (returns_at s) = refl
 
       fine_at : (n : ℕ) (p q : Past) (x : A) (h : Holding) (b : Block) (y : B) (k : Holding) (c : Block) → Midway r At same_size to from n x h b y k c → r.alike p h q k → FailsSoon R' y k ⊎ FineAt R' x h b y k c
-      fine_at n p q x h b y k c m a = by m (front to from m.leads (record { holding = h; footprint = nothing_touched }) m.done (at_start p q h k a m.done m.unchanged))
+      fine_at n p q x h b y k c m a = by m (front r At same_size (since k.memory) (keeps_memory k.memory) to from m.leads (record { holding = h; footprint = nothing_touched }) m.done (at_start p q h k a m.done m.unchanged))
         where
-          by : (m : Midway r At same_size to from n x h b y k c) → Front to from (record { holding = h; footprint = nothing_touched }) m.done m.credit (t_step R' x h) (performed C W m.left m.done) → FailsSoon R' y k ⊎ FineAt R' x h b y k c
+          by : (m : Midway r At same_size to from n x h b y k c) → FrontAt to from k.memory (record { holding = h; footprint = nothing_touched }) m.done m.credit (t_step R' x h) (performed cells words m.left m.done) → FailsSoon R' y k ⊎ FineAt R' x h b y k c
           by m (failing u) = inl (fails_now (ap (λ (v : Performed (Last B)). v.last) m.so_far ∙ u))
           by m (ending u) =
               let s_does : (s_step R' y k).last ≡ Some u.s_last = ap (λ (v : Performed (Last B)). v.last) m.so_far ∙ u.s_does in

@@ -6,7 +6,7 @@ use Rattle.cas_runs.specs.Outside.{IsAmong, first, later}
 use Rattle.cas_runs.specs.Naming.{Home, Value, Pointer, Memory}
 use Rattle.cas_runs.specs.Machine.{Footprint}
 use Rattle.cas_runs.specs.Access.{Words, Accesses, words_in, with_words, place_among, word_in, Doing, has_read, has_written, has_stored, Performed, failed, reads_as, reads_cell, writes_in, writes_cell, number_in, reads_word, writes_word, value_in, loads_as, stores_in, length_of, performed}
-use Rattle.cas_runs.specs.Forms.{FormAlike, reads, writes, loads, stores, looks, drops_read, drops_load, drops_look, last, never, LengthsAlike, MemoryKeeps, PerformAlike, FootIn}
+use Rattle.cas_runs.specs.Forms.{FormAlike, reads, writes, loads, stores, looks, drops_read, drops_load, drops_look, last, never, LengthsAlike, MemoryKeeps, AlikeSince, PerformAlike, FootIn}
 
 pub foot_same : (f : Footprint) → FootIn f f
 foot_same f = record { writes = λ w h. h; reads = λ w h. inl h }
@@ -160,3 +160,13 @@ module _ {L M : Type 0} (same : Value → Value → Type 0) (same_size : ℕ →
   performed_alike (drops_look {home = home} f) d e h = performed_alike (f (length_of (e.holding.memory home))) d e h
   performed_alike (last {l = l} {m = m} s) d e h = inr (record { t_last = l; s_last = m; t_does = refl; s_does = refl; lasts = s; share = h.share; memory = h.memory; footprint = h.footprint })
   performed_alike never d e h = inl refl
+
+-- where nothing is kept for itself
+pub keeps_nothing : {same : Value → Value → Type 0} {same_size : ℕ → ℕ → Type 0} {alike : Memory → Memory → Type 0} → MemoryKeeps same same_size alike → (before : Memory) → MemoryKeeps same same_size (AlikeSince alike (λ t s. Unit {0}) before)
+keeps_nothing keeps before = record {
+  loads = λ t s a home home' at at' p w g. keeps.loads t s a.0 home home' at at' p w g;
+  stores = λ t s a home home' at at' p v w same ws g less.
+      let stored = keeps.stores t s a.0 home home' at at' p v w same ws g less in
+      record { block = stored.block; there = stored.there; within = stored.within; after = (stored.after, tt) };
+  lengths = λ t s a home home' at at' p. keeps.lengths t s a.0 home home' at at' p;
+}

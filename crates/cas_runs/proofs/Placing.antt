@@ -248,7 +248,7 @@ module _ {F A G B : Type 0} (target : Activations F A) (source : Activations G B
       (λ differ. inr (λ d b e. let names : g ≡ name = cc e in let serials : c ≡ serial = cc e in differ (cc (names, serials))))
       (same_or_not (Own g c 0) (Own name serial 0))
 
-  other_home : (words : ℕ → Option (List Value)) (m : Memory) (name : NameBytes) (serial : ℕ) (blocks : List ℕ) (g : NameBytes) (c : ℕ) → ((d b : ℕ) → Own g c d ≡ Own name serial b → ⊥) → (d : ℕ) → set_blocks words m name serial 0 blocks (Own g c d) ≡ m (Own g c d)
+  pub other_home : (words : ℕ → Option (List Value)) (m : Memory) (name : NameBytes) (serial : ℕ) (blocks : List ℕ) (g : NameBytes) (c : ℕ) → ((d b : ℕ) → Own g c d ≡ Own name serial b → ⊥) → (d : ℕ) → set_blocks words m name serial 0 blocks (Own g c d) ≡ m (Own g c d)
   other_home words m name serial blocks g c h d = set_elsewhere words m name serial 0 blocks (Own g c d) (λ j less e. h d (0 + j) e)
 
   outside_home : (words : ℕ → Option (List Value)) (m : Memory) (name : NameBytes) (serial : ℕ) (blocks : List ℕ) (k : ℕ) → set_blocks words m name serial 0 blocks (Theirs k) ≡ m (Theirs k)

@@ -41,6 +41,10 @@ pub record MemoryKeeps (same : Value → Value → Type 0) (same_size : ℕ → 
   pub stores : (t s : Memory) → alike t s → (home home' : Home) (at at' : ℕ) → same (Pointer home at) (Pointer home' at') → (v w : Value) → same v w → (ws : List Value) → s home' ≡ Some ws → at' < length ws → Stored alike t s home at v home' at' w ws
   pub lengths : (t s : Memory) → alike t s → (home home' : Home) (at at' : ℕ) → same (Pointer home at) (Pointer home' at') → LengthsAlike same_size (length_of (t home)) (length_of (s home'))
 
+-- memories that are alike, where the source's has kept since this moment what the target doesn't have
+abbrev pub AlikeSince : (alike kept : Memory → Memory → Type 0) → Memory → Memory → Memory → Type 0
+AlikeSince alike kept before t s = alike t s × kept before s
+
 -- a footprint within another, as of blocks
 pub record FootIn (f g : Footprint) : Type 0 where
   pub writes : (w : ℕ) → IsAmong w f.writes → IsAmong w g.writes

@@ -80,6 +80,14 @@ pub record AlikeMoved (place : Placing) (sizes : NameBytes → ℕ → ℕ) (p :
   pub memory : MemoryMoved place sizes h.memory k.memory
   pub naming : NamingMoved place sizes p.naming q.naming
 
+-- the blocks of the source that the target doesn't have are as they were, of the activations with smaller serial numbers than this
+abbrev pub KeepsUnplaced : Placing → ℕ → Holding → Holding → Holding → Holding → Type 0
+KeepsUnplaced place n h k h' k' = (function : NameBytes) (activation block : ℕ) → activation + 1 ≤ n → place function block ≡ None → k'.memory (Own function activation block) ≡ k.memory (Own function activation block)
+
+-- and of all activations
+abbrev pub UnplacedKept : Placing → Memory → Memory → Type 0
+UnplacedKept place before s = (function : NameBytes) (activation block : ℕ) → place function block ≡ None → s (Own function activation block) ≡ before (Own function activation block)
+
 -- the blocks of a function lie in those of the other without overlap, and the objects of a block go with it
 pub record IsPlacing {F A G B : Type 0} (target : Activations F A) (source : Activations G B) (made : F → G → Type 0) (place : Placing) (sizes : NameBytes → ℕ → ℕ) (placed layout : Layout) : Type 0 where
   pub names : (f : F) (g : G) → made f g → target.name f ≡ source.name g
@@ -102,6 +110,6 @@ moves_blocks target source setting placed ts ss made place sizes match = record 
   made = made;
   same = SameMoved place;
   alike = AlikeMoved place sizes;
-  later = λ n h k h' k'. Unit {0};
+  later = KeepsUnplaced place;
   match = match;
 }

@@ -37,9 +37,11 @@ module _ {F A G B : Type 0} (r : Relation F A G B) (At : F → G → A → B →
     pub enters : (f : F) (g : G) → r.made f g → (n : ℕ) (vs ws : List Value) → AllSame r vs ws → AtIf f g (r.target.enter f n vs) (r.source.enter g n ws)
     pub entries : (f : F) (g : G) → r.made f g → first_price r.target.tariff r.target.blocks f ≤ first_price r.source.tariff r.source.blocks g
 
--- what threads hold is alike where shares are equal and memories are alike, and nothing is asked of what activations have for themselves
-pub record HoldsPlainly {F A G B : Type 0} (r : Relation F A G B) (memory_alike : Memory → Memory → Type 0) : Type 0 where
+-- what threads hold is alike where shares are equal and memories are alike; and where a step has kept what the target doesn't have of the source's memory,
+-- nothing has touched what activations have for themselves
+pub record HoldsPlainly {F A G B : Type 0} (r : Relation F A G B) (memory_alike kept : Memory → Memory → Type 0) : Type 0 where
   pub memories : (p q : Past) (h k : Holding) → r.alike p h q k → memory_alike h.memory k.memory
   pub shares : (p q : Past) (h k : Holding) → r.alike p h q k → h.share ≡ k.share
   pub again : (p q : Past) (h k h' k' : Holding) → r.alike p h q k → h'.share ≡ k'.share → memory_alike h'.memory k'.memory → r.alike p h' q k'
-  pub later : (n : ℕ) (h k h' k' : Holding) → r.later n h k h' k'
+  pub itself : (s : Memory) → kept s s
+  pub later : (n : ℕ) (h k h' k' : Holding) → kept k.memory k'.memory → r.later n h k h' k'

@@ -9,10 +9,10 @@ use Rattle.cas_runs.specs.Unit.{Setting, AreDistinct, IsEdge, IsLayout}
 use Rattle.cas_runs.specs.Calls.{Last, language}
 use Rattle.cas_runs.specs.Forms.{FormAlike, writes, loads, stores, last, never}
 use Rattle.cas_runs.specs.Passing.{Relation, AllSame, IsPass, AllMade, MadeAmong, relation, Keeps, Pays}
-use Rattle.cas_runs.specs.Placing.{Spot, SameMoved, moved, moved_part, MemoryMoved, AlikeMoved, IsPlacing, pointer_in}
+use Rattle.cas_runs.specs.Placing.{Spot, SameMoved, moved, moved_part, MemoryMoved, AlikeMoved, KeepsUnplaced, UnplacedKept, IsPlacing, pointer_in}
 use Rattle.cas_runs.specs.Stepwise.{match_at, AtIf, LastAt, goes_at, takes_at, gives_at, puts_at, calls_at, returns_at, Stepwise, HoldsPlainly}
 use Rattle.cas_runs.proofs.Tests.{and_both, same_name_from}
-use Rattle.cas_runs.proofs.Bringing.{moved_keeps, memory_keeps}
+use Rattle.cas_runs.proofs.Bringing.{moved_keeps, memory_keeps_since}
 use Rattle.cas_runs.proofs.Stepping.{stepwise_passes}
 use Rattle.cas_trial.specs.declared.joining.Apart.{Apart}
 use Rattle.cas_trial.specs.declared.joining.Joined.{Joined}
@@ -194,7 +194,7 @@ joins_place setting ts ss l = record {
 -- The steps.
 
 abbrev Rel : Setting → List Joined → List Apart → Relation Joined Stage Apart Stage
-Rel setting ts ss = relation joined apart IsJoined (λ us layout. joins layout) (λ setting ts ss. SameMoved (places ss)) (λ setting ts ss. AlikeMoved (places ss) one_word) (λ setting ts ss n h k u v. Unit {0}) (λ setting ts ss. match_at (λ f g. SameStage ss)) ts ss setting
+Rel setting ts ss = relation joined apart IsJoined (λ us layout. joins layout) (λ setting ts ss. SameMoved (places ss)) (λ setting ts ss. AlikeMoved (places ss) one_word) (λ setting ts ss. KeepsUnplaced (places ss)) (λ setting ts ss. match_at (λ f g. SameStage ss)) ts ss setting
 
 module _ (setting : Setting) (ts : List Joined) (ss : List Apart) (f : Joined) (g : Apart) where
   abbrev R : Relation Joined Stage Apart Stage
@@ -267,12 +267,13 @@ steps_alike setting ts ss = record {
   entries = λ f g m. omega arith;
 }
 
-held_plainly : (setting : Setting) (ts : List Joined) (ss : List Apart) → HoldsPlainly (Rel setting ts ss) (MemoryMoved (places ss) one_word)
+held_plainly : (setting : Setting) (ts : List Joined) (ss : List Apart) → HoldsPlainly (Rel setting ts ss) (MemoryMoved (places ss) one_word) (UnplacedKept (places ss))
 held_plainly setting ts ss = record {
   memories = λ p q h k a. a.memory;
   shares = λ p q h k a. a.share;
   again = λ p q h k h' k' a share memory. record { begun = a.begun; share = share; memory = memory; naming = a.naming };
-  later = λ n h k h' k'. tt;
+  itself = λ s f a b none. refl;
+  later = λ n h k h' k' kept f a b less none. kept f a b none;
 }
 
 joins_keep : (setting : Setting) (ts : List Joined) (ss : List Apart) → IsLayout (language apart) ss setting.layout → Keeps (Rel setting ts ss)
@@ -291,7 +292,7 @@ joins_passes setting ts ss h d edge l =
     record {
       keeps = keeps;
       pays = joins_pay setting ts ss;
-      passes = stepwise_passes (Rel setting ts ss) (λ f g. SameStage ss) (λ n m. Unit {0}) (MemoryMoved (places ss) one_word) (memory_keeps joined apart setting (joins setting.layout) ts ss (Made ts ss) (places ss) one_word (match_at (λ f g. SameStage ss)) (joins_place setting ts ss l)) (held_plainly setting ts ss) (steps_alike setting ts ss) keeps (λ f g n x h' b y k c m. m) (λ f g n x h' b y k c m. m);
+      passes = stepwise_passes (Rel setting ts ss) (λ f g. SameStage ss) (λ n m. Unit {0}) (MemoryMoved (places ss) one_word) (UnplacedKept (places ss)) (memory_keeps_since joined apart setting (joins setting.layout) ts ss (Made ts ss) (places ss) one_word (match_at (λ f g. SameStage ss)) (joins_place setting ts ss l)) (held_plainly setting ts ss) (steps_alike setting ts ss) keeps (λ f g n x h' b y k c m. m) (λ f g n x h' b y k c m. m);
     }
 
 pub apart_prices : IsTariff apart.tariff

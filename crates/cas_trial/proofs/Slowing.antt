@@ -12,6 +12,7 @@ use Rattle.cas_runs.specs.Unmoved.{Equal}
 use Rattle.cas_runs.specs.Stepwise.{AtIf, calls_at, returns_at, HoldsPlainly}
 use Rattle.cas_runs.specs.Forward.{Leads, onward, at_last, Midway, Forward}
 use Rattle.cas_runs.proofs.Unmoved.{equal_keeps, to_equal, all_equal, memory_equal}
+use Rattle.cas_runs.proofs.Performing.{keeps_nothing}
 use Rattle.cas_runs.proofs.Forwarding.{forward_passes}
 use Rattle.cas_runs.proofs.Lifted.{units_pass}
 use Rattle.cas_trial.specs.declared.tailing.Relaying.{Relaying}
@@ -47,12 +48,13 @@ module _ (setting : Setting) (ts : List Relaying) (ss : List Relaying) where
   steps : Forward R0 (λ f g. AtStep) SameSize
   steps = record { forms = λ f g made x y at. forms f g x y at; enters = λ f g m n vs ws s. enters f g f.word g.word m.0 vs ws s; entries = λ f g m. omega arith }
 
-  plainly : HoldsPlainly R0 (λ t s. t ≡ s)
+  plainly : HoldsPlainly R0 (λ t s. t ≡ s) (λ t s. Unit {0})
   plainly = record {
     memories = λ p q h k a. ap (λ (v : Holding). v.memory) a.holding;
     shares = λ p q h k a. ap (λ (v : Holding). v.share) a.holding;
     again = λ p q h k h' k' a share memory. record { past = a.past; holding = ap (λ v. record { share = v; memory = h'.memory }) share ∙ ap (λ (v : Memory). record { share = k'.share; memory = v }) memory };
-    later = λ n h k h' k'. tt;
+    itself = λ s. tt;
+    later = λ n h k h' k' kept. tt;
   }
 
   keeps : Keeps (Rel setting ts ss)
@@ -70,7 +72,7 @@ slow_pass : (setting : Setting) (ts ss : List Relaying) → AllMade IsSame ts ss
 slow_pass setting ts ss h d edge l = record {
   keeps = keeps setting ts ss;
   pays = record { prices = (λ a. (record { least = omega arith; most = omega arith }, tt), omega arith, λ f. let one : IsPrice 1 = record { least = omega arith; most = omega arith } in (one, (one, (one, tt)))); waits = omega arith };
-  passes = forward_passes (Bare setting ts ss) (λ f g. AtStep) SameSize (λ t s. t ≡ s) memory_equal (plainly setting ts ss) (steps setting ts ss) (keeps setting ts ss);
+  passes = forward_passes (Bare setting ts ss) (λ f g. AtStep) SameSize (λ t s. t ≡ s) (λ t s. Unit {0}) (keeps_nothing memory_equal) (plainly setting ts ss) (steps setting ts ss) (keeps setting ts ss);
 }
 
 -- units of the same programs

@@ -8,7 +8,7 @@ ghost use Rattle.cas_runs.specs.Calls.{language};
 ghost use Rattle.cas_runs.specs.Edge.{Edge, IsOfKind};
 ghost use Rattle.cas_runs.specs.Label.{NameBytes};
 ghost use Rattle.cas_runs.specs.Passing.{AllMade};
-ghost use Rattle.cas_runs.specs.Placing.{AlikeMoved, SameMoved};
+ghost use Rattle.cas_runs.specs.Placing.{AlikeMoved, KeepsUnplaced, SameMoved};
 ghost use Rattle.cas_runs.specs.Stepwise.{match_at};
 ghost use Rattle.cas_runs.specs.Unit.{AreDistinct, FunctionRefines, IsEdge, ThreadRefines, UnitRefines};
 ghost use Rattle.cas_trial.specs.Places.{IsJoined, SameStage, joins, one_word, places};
@@ -58,7 +58,7 @@ impl FunctionPass for Joining {
 
     ghost alike = { λ setting ts ss. AlikeMoved (places ss) one_word };
 
-    ghost later = { λ setting ts ss n h k u v. Unit {0} };
+    ghost later = { λ setting ts ss. KeepsUnplaced (places ss) };
 
     ghost matches = { λ setting ts ss. match_at (λ f g. SameStage ss) };
 
