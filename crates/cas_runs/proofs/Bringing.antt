@@ -235,6 +235,7 @@ module _ {F A G B : Type 0} (target : Activations F A) (source : Activations G B
     names = λ f g m. is.names f g m;
     numbers = λ w word. refl;
     first = record { begun = refl; share = refl; memory = record { own = λ f a b to e. refl; theirs = λ k. tt; have_sizes = λ f a b ws e. absurd (cc e) }; naming = tt };
+    alikes = λ p q h k a. a;
     begun = λ p q h k a. a.begun;
     shares = λ p q h k a. a.share;
     at_once = λ n h k f a b less none. refl;
@@ -247,14 +248,14 @@ module _ {F A G B : Type 0} (target : Activations F A) (source : Activations G B
       later = λ f' a' b' less none. other_home target source made place sizes placed setting.layout is (fresh source.first_word) k.memory (source.name g) q.begun (source.blocks g) f' a' (λ d b'' e. let same : a' ≡ q.begun = cc e in let begun = a.begun in omega (arith, same, begun, less)) b';
     };
     ends = λ n f g m p q h k a. record {
-      alike = with_memory p q h k (without_own target f n h) (without_own source g n k) a a.share (blocks_moved target source made place sizes placed setting.layout is gone end f g m n n refl h.memory k.memory a.memory);
+      settled = with_memory p q h k (without_own target f n h) (without_own source g n k) a a.share (blocks_moved target source made place sizes placed setting.layout is gone end f g m n n refl h.memory k.memory a.memory);
       later = λ f' a' b' less none. other_home target source made place sizes placed setting.layout is gone k.memory (source.name g) n (source.blocks g) f' a' (λ d b'' e. let same : a' ≡ n = cc e in omega (arith, same, less)) b';
     };
     shows = λ p q h k a vs ws s e. subst (λ n. can_show_all (parts_at placed n) p.naming vs ≡ true) (sym a.begun) (all_show_too target source made place sizes placed setting.layout is q.begun p.naming q.naming a.naming vs ws (to_moved vs ws s) e);
     crosses = λ p q h k a vs ws s crossing ns e. crosses_moved target source made place sizes placed setting.layout is p q h k a vs ws (to_moved vs ws s) crossing ns e;
     hears = λ n p q h k a before types crossing brings typed.
         let both = left target source made place sizes placed setting.layout is crossing.objects h.memory k.memory a.memory p.naming q.naming a.naming 0 in (
-          record { alike = record { begun = a.begun; share = refl; memory = both.memory; naming = both.naming }; later = λ f a' b less none. unplaced_stay crossing.objects k.memory p.naming q.naming a.naming 0 f a' b none },
+          record { settled = record { begun = a.begun; share = refl; memory = both.memory; naming = both.naming }; later = λ f a' b less none. unplaced_stay crossing.objects k.memory p.naming q.naming a.naming 0 f a' b none },
           same_if (all_taken (brought_in R p h crossing).naming crossing.values) (all_taken (brought_in R q k crossing).naming crossing.values)
               (all_taken_too target source made place sizes placed setting.layout is (brought_in R p h crossing).naming (brought_in R q k crossing).naming both.naming crossing.values),
         );

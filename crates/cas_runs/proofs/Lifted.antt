@@ -42,10 +42,10 @@ all_among made ts ss (f ∷ fs) (g ∷ gs) t s h = ((h.0, t f (inl refl), s g (i
 among_all : {F G : Type 0} (made : F → G → Type 0) (ts : List F) (ss : List G) → AllMade made ts ss → AllMade (MadeAmong made ts ss) ts ss
 among_all made ts ss h = all_among made ts ss ts ss (λ f m. m) (λ g m. m) h
 
-module _ {F A G B : Type 0} (target : Activations F A) (source : Activations G B) (made : F → G → Type 0) (naming : List G → Layout → Layout) (same : Setting → List F → List G → Value → Value → Type 0) (alike : Setting → List F → List G → Past → Holding → Past → Holding → Type 0) (later : Setting → List F → List G → ℕ → Holding → Holding → Holding → Holding → Type 0) (match : Setting → List F → List G → F → G → ℕ → A → Holding → Block → B → Holding → Block → Type 0)
+module _ {F A G B : Type 0} (target : Activations F A) (source : Activations G B) (made : F → G → Type 0) (naming : List G → Layout → Layout) (same : Setting → List F → List G → Value → Value → Type 0) (alike : Setting → List F → List G → Past → Holding → Past → Holding → Type 0) (settled : Setting → List F → List G → Past → Holding → Past → Holding → Type 0) (later : Setting → List F → List G → ℕ → Holding → Holding → Holding → Holding → Type 0) (match : Setting → List F → List G → F → G → ℕ → A → Holding → Block → B → Holding → Block → Type 0)
     (names : (f : F) (g : G) → made f g → target.name f ≡ source.name g)
     (laid_out_too : (ts : List F) (ss : List G) → AllMade made ts ss → AreDistinct (language source) ss → (layout : Layout) → IsLayout (language source) ss layout → IsLayout (language target) ts (naming ss layout))
-    (passes : (setting : Setting) (ts : List F) (ss : List G) → AllMade made ts ss → AreDistinct (language source) ss → IsEdge setting.edge → IsLayout (language source) ss setting.layout → IsPass (relation target source made naming same alike later match ts ss setting)) where
+    (passes : (setting : Setting) (ts : List F) (ss : List G) → AllMade made ts ss → AreDistinct (language source) ss → IsEdge setting.edge → IsLayout (language source) ss setting.layout → IsPass (relation target source made naming same alike settled later match ts ss setting)) where
   names_made : (ts : List F) (ss : List G) → AllMade made ts ss → names_of (language target) ts ≡ names_of (language source) ss
   names_made [] [] h = refl
   names_made [] (g ∷ gs) h = absurd h
@@ -64,7 +64,7 @@ module _ {F A G B : Type 0} (target : Activations F A) (source : Activations G B
     names = names_made t.funs s.funs all;
     naming = naming s.funs;
     laid_out_too = laid_out_too t.funs s.funs all distinct;
-    refines = λ setting fits laid. outward_refines (relation target source made naming same alike later match t.funs s.funs setting) (passes setting t.funs s.funs all distinct fits.edge_is laid) (among_all made t.funs s.funs all) t.funs s.funs (among_all made t.funs s.funs all);
+    refines = λ setting fits laid. outward_refines (relation target source made naming same alike settled later match t.funs s.funs setting) (passes setting t.funs s.funs all distinct fits.edge_is laid) (among_all made t.funs s.funs all) t.funs s.funs (among_all made t.funs s.funs all);
   }
 
   pub functions_pass : (decl : Decl) (f : F) (g : G) → target.name f ≡ decl.name → source.name g ≡ decl.name → made f g → FunctionRefines (language target) (language source) decl f g
@@ -73,7 +73,7 @@ module _ {F A G B : Type 0} (target : Activations F A) (source : Activations G B
     source_name = m;
     naming = naming (g ∷ []);
     laid_out_too = laid_out_too (f ∷ []) (g ∷ []) (h, tt) (one_distinct g);
-    refines = λ setting fits laid. outward_refines (relation target source made naming same alike later match (f ∷ []) (g ∷ []) setting) (passes setting (f ∷ []) (g ∷ []) (h, tt) (one_distinct g) fits.edge_is laid) (among_all made (f ∷ []) (g ∷ []) (h, tt)) [] [] tt;
+    refines = λ setting fits laid. outward_refines (relation target source made naming same alike settled later match (f ∷ []) (g ∷ []) setting) (passes setting (f ∷ []) (g ∷ []) (h, tt) (one_distinct g) fits.edge_is laid) (among_all made (f ∷ []) (g ∷ []) (h, tt)) [] [] tt;
   }
 
   pub threads_pass : (edge : Edge) (words : Words) (ts : List F) (ss : List G) (entry : NameBytes) (thread : ℕ) → IsEdge edge → IsOfKind thread U32 → AllMade made ts ss → AreDistinct (language source) ss → ThreadRefines (language target) (language source) edge words ts ss entry thread
@@ -82,5 +82,5 @@ module _ {F A G B : Type 0} (target : Activations F A) (source : Activations G B
     laid_out_too = laid_out_too ts ss all distinct;
     refines = λ layout stack unknown laid.
         let setting : Setting = record { edge = edge; words = words; layout = layout; stack = stack; unknown = unknown } in
-        thread_refines (relation target source made naming same alike later match ts ss setting) (passes setting ts ss all distinct is_edge laid) (among_all made ts ss all) entry thread word;
+        thread_refines (relation target source made naming same alike settled later match ts ss setting) (passes setting ts ss all distinct is_edge laid) (among_all made ts ss all) entry thread word;
   }

@@ -11,7 +11,7 @@ use Rattle.cas_runs.specs.Bounds.{IsTariff, Tariff, BySize, ByForms, step_price,
 use Rattle.cas_runs.specs.Access.{Holding, Then, Fails, words_in, with_lock, without_lock, performed}
 use Rattle.cas_runs.specs.Unit.{Setting, laid_out, guard_of}
 use Rattle.cas_runs.specs.Calls.{Last, Goes, Takes, Gives, Puts, Calls, Tails, Returns, Scene, Frame, Waits, Outer, Past, Thread, Away, Runs, Leaves, Over, nothing_touched, can_cross, crosses_as, with_naming, to_outside, calls_by, leaves_by, crosses_if, leaves, first_values, kept_results, leaves_with, leaves_later, goes_back, returns, resumes, comes_back, with_share, takes_lock, takes, gives_lock, gives, find, with_own, without_own, set_blocks, gone, one_begun, begins, calls_in, enters_at, enters, below, called, calls_out, calls, acts, hears, machine}
-use Rattle.cas_runs.specs.Passing.{Relation, AllSame, t_step, s_step, Stands, Going, matched, fails, goes, Ready, ReadyIf, WaitAlike, PassesOn, cannot_go_on, fails_then, returns_first, OnlyPasses, TailAlike, tail, passing, LastAlike, Meets, meets, fails_first, goes_first, FailsSoon, fails_now, goes_on, Does, Passes, SameIf, brought_in, heard, Keeps, Pays, AllMade}
+use Rattle.cas_runs.specs.Passing.{Relation, AllSame, t_step, s_step, Settles, Going, matched, fails, goes, Ready, ReadyIf, WaitAlike, PassesOn, cannot_go_on, fails_then, returns_first, OnlyPasses, TailAlike, tail, passing, LastAlike, Meets, meets, fails_first, goes_first, FailsSoon, fails_now, goes_on, Does, Passes, SameIf, brought_in, heard, Keeps, Pays, AllMade}
 use Rattle.cas_runs.proofs.Refining.{steps_refine, within_more}
 use Rattle.cas_runs.proofs.Showing.{some_crossing}
 use Rattle.cas_runs.proofs.Tests.{same_name_self}
@@ -80,9 +80,9 @@ module _ {F A G B : Type 0} (r : Relation F A G B) (is : Keeps r) (pays : Pays r
   frames_open (passed {g = g} only based fr) as' bs' s = frames_open fr as' (Open (r.source.name g) ∷ bs') (skip s)
 
   pub data Lifted : Thread F A → Block → Thread G B → Block → Type 0 where
-    away : {xs : List (Frame F A)} {ys : List (Frame G B)} {p q : Past} {h k : Holding} {b c : Block} → outward ≡ true → Within b c → r.alike p h q k → Frames h k p.begun xs ys → Lifted (Away xs p h) b (Away ys q k) c
+    away : {xs : List (Frame F A)} {ys : List (Frame G B)} {p q : Past} {h k : Holding} {b c : Block} → outward ≡ true → Within b c → r.settled p h q k → Frames h k p.begun xs ys → Lifted (Away xs p h) b (Away ys q k) c
     runs : {f : F} {g : G} {n n' e e' : ℕ} {x : A} {y : B} {xs : List (Frame F A)} {ys : List (Frame G B)} {p q : Past} {h k : Holding} {b c : Block} → r.made f g → n + 1 ≤ p.begun → n ≡ n' → r.match f g n x h b y k c → r.alike p h q k → Based outward xs → Frames h k n xs ys → Lifted (Runs f n x e xs p h) b (Runs g n' y e' ys q k) c
-    leaving : {z : Thread G B} {vs : List Value} {xs : List (Frame F A)} {p : Past} {h : Holding} {b c : Block} (ws : List Value) (ys : List (Frame G B)) (q : Past) (k : Holding) → outward ≡ true → S.act z ≡ leaves r.setting.layout ws ys q k → Subsequence (below r.target xs (Between ∷ [])) (S.open_functions z) → Within b c → AllSame r vs ws → r.alike p h q k → Frames h k p.begun xs ys → Lifted (Leaves vs xs p h) b z c
+    leaving : {z : Thread G B} {vs : List Value} {xs : List (Frame F A)} {p : Past} {h : Holding} {b c : Block} (ws : List Value) (ys : List (Frame G B)) (q : Past) (k : Holding) → outward ≡ true → S.act z ≡ leaves r.setting.layout ws ys q k → Subsequence (below r.target xs (Between ∷ [])) (S.open_functions z) → Within b c → AllSame r vs ws → r.settled p h q k → Frames h k p.begun xs ys → Lifted (Leaves vs xs p h) b z c
     over : {b c : Block} → Within b c → Lifted Over b Over c
     broken : {x : Thread F A} {z : Thread G B} {b c : Block} → IsBad (S.act z) → Lifted x b z c
 
@@ -194,7 +194,7 @@ module _ {F A G B : Type 0} (r : Relation F A G B) (is : Keeps r) (pays : Pays r
   pub waits_within : Within (and_step nothing (waiting_price r.target.tariff r.targets) nothing_touched) (and_step nothing (waiting_price r.source.tariff r.sources) nothing_touched)
   waits_within = let le = pays.waits in waiting_within _ (omega (arith, le))
 
-  module _ (ls : List RunLabel) (p q : Past) (h k : Holding) (alike : r.alike p h q k) (vs ws : List Value) (same : AllSame r vs ws) (xs : List (Frame F A)) (ys : List (Frame G B)) (fr : Frames h k p.begun xs ys) (out : outward ≡ true) where
+  module _ (ls : List RunLabel) (p q : Past) (h k : Holding) (alike : r.settled p h q k) (vs ws : List Value) (same : AllSame r vs ws) (xs : List (Frame F A)) (ys : List (Frame G B)) (fr : Frames h k p.begun xs ys) (out : outward ≡ true) where
     abbrev EachOut : RunLabel → Option (Thread F A) → Thread G B → Type 0
     EachOut l o y = (x : Thread F A) × (o ≡ Some x) × Fol (l ∷ ls) x (begun T x) y (begun S y)
 
@@ -242,7 +242,7 @@ module _ {F A G B : Type 0} (r : Relation F A G B) (is : Keeps r) (pays : Pays r
     leaves_too : (b d : Block) (z : Thread G B) → S.act z ≡ leaves r.setting.layout ws ys q k → Ans ls (leaves r.placed vs xs p h) b z d
     leaves_too b d z e = crosses_too (leaves_by r.placed vs xs p h) (leaves_by r.setting.layout ws ys q k) (λ crossing. Leave crossing) (λ crossing. tt) (λ crossing. refl) each_leave b d z (can_cross r.setting.layout q ws) refl e
 
-  each_calls : (ls : List RunLabel) (p q : Past) (h k : Holding) → r.alike p h q k → (vs ws : List Value) → AllSame r vs ws → (xs : List (Frame F A)) (ys : List (Frame G B)) → Frames h k p.begun xs ys → (function : NameBytes) (b d : Block) (z : Thread G B) → (o : Bool) → outward ≡ o → S.act z ≡ calls_out r.source r.setting scene_s o function ws ys q k → Ans ls (calls_out r.target there scene_t o function vs xs p h) b z d
+  each_calls : (ls : List RunLabel) (p q : Past) (h k : Holding) → r.settled p h q k → (vs ws : List Value) → AllSame r vs ws → (xs : List (Frame F A)) (ys : List (Frame G B)) → Frames h k p.begun xs ys → (function : NameBytes) (b d : Block) (z : Thread G B) → (o : Bool) → outward ≡ o → S.act z ≡ calls_out r.source r.setting scene_s o function ws ys q k → Ans ls (calls_out r.target there scene_t o function vs xs p h) b z d
   each_calls ls p q h k alike vs ws same xs ys fr function b d z false out e = now (subst (λ (v : Act (Thread G B)). IsBad v) (sym e) tt)
   each_calls ls p q h k alike vs ws same xs ys fr function b d z true out e =
       crosses_too ls p q h k alike vs ws same xs ys fr out (calls_by r.placed function vs xs p h) (calls_by r.setting.layout function ws ys q k) (λ crossing. Call function crossing) (λ crossing. tt)
@@ -269,20 +269,20 @@ module _ {F A G B : Type 0} (r : Relation F A G B) (is : Keeps r) (pays : Pays r
       either false made rest = rest
 
   -- an activation begins in both
-  begins_going : (ls : List RunLabel) (f : F) (g : G) → r.made f g → (p q : Past) (h k : Holding) → r.alike p h q k → (xs : List (Frame F A)) (ys : List (Frame G B)) → Based outward xs → Frames h k p.begun xs ys → (x : A) (y : B) (b d : Block) → Within b d → Ready r f g p.begun (one_begun r.target p) (one_begun r.source q) x (first_price r.target.tariff r.target.blocks f) (with_own r.target f p.begun h) y (first_price r.source.tariff r.source.blocks g) (with_own r.source g q.begun k) → Fol ls (begins r.target f x xs p h) (onward T b (begins r.target f x xs p h)) (begins r.source g y ys q k) (onward S d (begins r.source g y ys q k))
+  begins_going : (ls : List RunLabel) (f : F) (g : G) → r.made f g → (p q : Past) (h k : Holding) → r.settled p h q k → (xs : List (Frame F A)) (ys : List (Frame G B)) → Based outward xs → Frames h k p.begun xs ys → (x : A) (y : B) (b d : Block) → Within b d → Ready r f g p.begun (one_begun r.target p) (one_begun r.source q) x (first_price r.target.tariff r.target.blocks f) (with_own r.target f p.begun h) y (first_price r.source.tariff r.source.blocks g) (with_own r.source g q.begun k) → Fol ls (begins r.target f x xs p h) (onward T b (begins r.target f x xs p h)) (begins r.source g y ys q k) (onward S d (begins r.source g y ys q k))
   begins_going ls f g made p q h k alike xs ys based fr x y b d w ready =
       let h' = with_own r.target f p.begun h in
       let k' = with_own r.source g q.begun k in
-      going ls f g p.begun q.begun (first_price r.target.tariff r.target.blocks f) (one_begun r.target p) (one_begun r.source q) h' k' x h' (onward T b (begins r.target f x xs p h)) xs ys made (omega arith) (is.begun p q h k alike) based
+      going ls f g p.begun q.begun (first_price r.target.tariff r.target.blocks f) (one_begun r.target p) (one_begun r.source q) h' k' x h' (onward T b (begins r.target f x xs p h)) xs ys made (omega arith) (is.begun p q h k (is.alikes p q h k alike)) based
       (frames_later h k h' k' fr (is.begins f g made p q h k alike).later) (ready b d w)
 
-  begins_too : (ls : List RunLabel) (f : F) (g : G) → r.made f g → (p q : Past) (h k : Holding) → r.alike p h q k → (xs : List (Frame F A)) (ys : List (Frame G B)) → Based outward xs → Frames h k p.begun xs ys → (b d : Block) (z : Thread G B) → Within b d → (o : Option A) (o' : Option B) → ReadyIf r f g p.begun (one_begun r.target p) (one_begun r.source q) o (first_price r.target.tariff r.target.blocks f) (with_own r.target f p.begun h) o' (first_price r.source.tariff r.source.blocks g) (with_own r.source g q.begun k) → S.act z ≡ calls_in r.source g o' ys q k → Ans ls (calls_in r.target f o xs p h) b z d
+  begins_too : (ls : List RunLabel) (f : F) (g : G) → r.made f g → (p q : Past) (h k : Holding) → r.settled p h q k → (xs : List (Frame F A)) (ys : List (Frame G B)) → Based outward xs → Frames h k p.begun xs ys → (b d : Block) (z : Thread G B) → Within b d → (o : Option A) (o' : Option B) → ReadyIf r f g p.begun (one_begun r.target p) (one_begun r.source q) o (first_price r.target.tariff r.target.blocks f) (with_own r.target f p.begun h) o' (first_price r.source.tariff r.source.blocks g) (with_own r.source g q.begun k) → S.act z ≡ calls_in r.source g o' ys q k → Ans ls (calls_in r.target f o xs p h) b z d
   begins_too ls f g made p q h k alike xs ys based fr b d z w None None ready e = now (subst (λ (v : Act (Thread G B)). IsBad v) (sym e) tt)
   begins_too ls f g made p q h k alike xs ys based fr b d z w (Some x) None ready e = fails_follows (subst (λ (v : Act (Thread G B)). IsBad v) (sym e) tt)
   begins_too ls f g made p q h k alike xs ys based fr b d z w None (Some y) ready e = absurd ready
   begins_too ls f g made p q h k alike xs ys based fr b d z w (Some x) (Some y) ready e = step (begins r.source g y ys q k) e (begins_going ls f g made p q h k alike xs ys based fr x y b d w ready)
 
-  calls_too : (ls : List RunLabel) (p q : Past) (h k : Holding) → r.alike p h q k → (vs ws : List Value) → AllSame r vs ws → (xs : List (Frame F A)) (ys : List (Frame G B)) → Based outward xs → Frames h k p.begun xs ys → (function : NameBytes) (b d : Block) (z : Thread G B) → Within b d → (o : Option F) (o' : Option G) → FoundAlike o o' → S.act z ≡ calls r.source r.setting scene_s o' function ws ys q k → Ans ls (calls r.target there scene_t o function vs xs p h) b z d
+  calls_too : (ls : List RunLabel) (p q : Past) (h k : Holding) → r.settled p h q k → (vs ws : List Value) → AllSame r vs ws → (xs : List (Frame F A)) (ys : List (Frame G B)) → Based outward xs → Frames h k p.begun xs ys → (function : NameBytes) (b d : Block) (z : Thread G B) → Within b d → (o : Option F) (o' : Option G) → FoundAlike o o' → S.act z ≡ calls r.source r.setting scene_s o' function ws ys q k → Ans ls (calls r.target there scene_t o function vs xs p h) b z d
   calls_too ls p q h k alike vs ws same xs ys based fr function b d z w None None found e = each_calls ls p q h k alike vs ws same xs ys fr function b d z outward refl e
   calls_too ls p q h k alike vs ws same xs ys based fr function b d z w None (Some g) found e = absurd found
   calls_too ls p q h k alike vs ws same xs ys based fr function b d z w (Some f) None found e = absurd found
@@ -371,12 +371,12 @@ module _ {F A G B : Type 0} (r : Relation F A G B) (is : Keeps r) (pays : Pays r
   none_ready f g n p q (Some x) h k = tt
 
   -- both go on with what is kept
-  ready_kept : (f : F) (g : G) (n : ℕ) (p q : Past) (h k : Holding) → r.alike p h q k → (results : Option ℕ) (next : List Value → Option A) (next' : List Value → Option B) → WaitAlike r f g n h k results next next' → (o o' : Option (List Value)) → SameIf r o o' → ((us : List Value) → o' ≡ Some us → results ≡ Some (length us)) → ReadyIf r f g n p q (and_then o next) 0 h (and_then o' next') 0 k
+  ready_kept : (f : F) (g : G) (n : ℕ) (p q : Past) (h k : Holding) → r.settled p h q k → (results : Option ℕ) (next : List Value → Option A) (next' : List Value → Option B) → WaitAlike r f g n h k results next next' → (o o' : Option (List Value)) → SameIf r o o' → ((us : List Value) → o' ≡ Some us → results ≡ Some (length us)) → ReadyIf r f g n p q (and_then o next) 0 h (and_then o' next') 0 k
   ready_kept f g n p q h k alike results next next' wait o None same count = none_ready f g n p q (and_then o next) h k
   ready_kept f g n p q h k alike results next next' wait None (Some ws) same count = absurd same
   ready_kept f g n p q h k alike results next next' wait (Some vs) (Some ws) same count = wait p q h k (is.at_once (n + 1) h k) alike vs ws same (count ws refl)
 
-  waits_ready : (f : F) (g : G) (n : ℕ) (p q : Past) (h k : Holding) → r.alike p h q k → (results : Option ℕ) (next : List Value → Option A) (next' : List Value → Option B) → WaitAlike r f g n h k results next next' → (vs ws : List Value) → FirstSame vs ws → ReadyIf r f g n p q (and_then (kept_results results vs) next) 0 h (and_then (kept_results results ws) next') 0 k
+  waits_ready : (f : F) (g : G) (n : ℕ) (p q : Past) (h k : Holding) → r.settled p h q k → (results : Option ℕ) (next : List Value → Option A) (next' : List Value → Option B) → WaitAlike r f g n h k results next next' → (vs ws : List Value) → FirstSame vs ws → ReadyIf r f g n p q (and_then (kept_results results vs) next) 0 h (and_then (kept_results results ws) next') 0 k
   waits_ready f g n p q h k alike results next next' wait vs ws s = ready_kept f g n p q h k alike results next next' wait (kept_results results vs) (kept_results results ws) (kept_same results vs ws s) (λ us e. let kept = kept_of results ws us e in kept.count)
 
   -- the source's step fails at once
@@ -384,7 +384,7 @@ module _ {F A G B : Type 0} (r : Relation F A G B) (is : Keeps r) (pays : Pays r
   failing_form g n e ys q k y form =
       subst (λ (v : _). IsBad (s_acts (performed r.setting.edge.cells r.setting.words v (record { holding = k; footprint = nothing_touched })).last g n ys q (performed r.setting.edge.cells r.setting.words v (record { holding = k; footprint = nothing_touched })).holding)) (sym form) tt
 
-  module _ (ls : List RunLabel) (p q : Past) (h k : Holding) (alike : r.alike p h q k) (vs : List Value) (b : Block) where
+  module _ (ls : List RunLabel) (p q : Past) (h k : Holding) (alike : r.settled p h q k) (vs : List Value) (b : Block) where
     over_within : Within (begun T Over) (begun S Over)
     over_within = waits_within
 
@@ -423,55 +423,55 @@ module _ {F A G B : Type 0} (r : Relation F A G B) (is : Keeps r) (pays : Pays r
   module _ (all_t : AllMade r.made ins_t ins_s) where
     module _ (ls : List RunLabel) (b c : Block) (f : F) (g : G) (n n' e' : ℕ) (p q : Past) (xs : List (Frame F A)) (ys : List (Frame G B)) (made : r.made f g) (less : n + 1 ≤ p.begun) (same : n ≡ n') (based : Based outward xs) (h0 k0 : Holding) (alike : r.alike p h0 q k0) (fr : Frames h0 k0 n xs ys) (w : Within b c) where
       -- the moment at which the step's accesses are made
-      frames_now : (h k : Holding) → Stands r n p q h0 k0 h k → Frames h k n xs ys
-      frames_now h k s = frames_later h0 k0 h k fr s.later
+      frames_now : (h k : Holding) → r.later n h0 k0 h k → Frames h k n xs ys
+      frames_now h k l = frames_later h0 k0 h k fr l
 
       act_is : (y : B) (k : Holding) (e : ℕ) (last : Last B) → (s_step r y k).last ≡ Some last → S.act (Runs g n' y e ys q k) ≡ s_acts (Some last) g n' ys q (s_step r y k).holding
       act_is y k e last h = ap (λ (v : Option (Last B)). s_acts v g n' ys q (s_step r y k).holding) h
 
-      ends_stands : (h k : Holding) → r.alike p h q k → Stands r n p q h k (without_own r.target f n h) (without_own r.source g n' k)
-      ends_stands h k a = subst (λ v. Stands r n p q h k (without_own r.target f n h) (without_own r.source g v k)) same (is.ends n f g made p q h k a)
+      ends_stands : (h k : Holding) → r.settled p h q k → Settles r n p q h k (without_own r.target f n h) (without_own r.source g n' k)
+      ends_stands h k a = subst (λ v. Settles r n p q h k (without_own r.target f n h) (without_own r.source g v k)) same (is.ends n f g made p q h k a)
 
       at_takes : (lock : NameBytes) (x : A) (h : Holding) (y : B) (k : Holding) (e : ℕ) (d : Block) → Within b d → LastAlike r n p q h0 k0 f g (Takes lock x) h (s_step r y k).last (s_step r y k).holding → Ans ls (t_acts (Some (Takes lock x)) f n xs p h) b (Runs g n' y e ys q k) d
       at_takes lock x h y k e d v m =
           let k' = (s_step r y k).holding in
-          takes_too ls b d f g n n' p q xs ys made less same based h k' m.2.alike (frames_now h k' m.2) x m.0 (Runs g n' y e ys q k) lock m.3 (guard_of r.setting.edge r.setting.words lock) refl (act_is y k e (Takes lock m.0) m.1)
+          takes_too ls b d f g n n' p q xs ys made less same based h k' m.2.alike (frames_now h k' m.2.later) x m.0 (Runs g n' y e ys q k) lock m.3 (guard_of r.setting.edge r.setting.words lock) refl (act_is y k e (Takes lock m.0) m.1)
 
       at_gives : (lock : NameBytes) (x : A) (h : Holding) (y : B) (k : Holding) (e : ℕ) (d : Block) → Within b d → LastAlike r n p q h0 k0 f g (Gives lock x) h (s_step r y k).last (s_step r y k).holding → Ans ls (t_acts (Some (Gives lock x)) f n xs p h) b (Runs g n' y e ys q k) d
       at_gives lock x h y k e d v m =
           let k' = (s_step r y k).holding in
-          gives_too ls b d f g n n' p q xs ys made less same based h k' m.2.alike (frames_now h k' m.2) x m.0 (Runs g n' y e ys q k) lock m.3 (guard_of r.setting.edge r.setting.words lock) refl (act_is y k e (Gives lock m.0) m.1)
+          gives_too ls b d f g n n' p q xs ys made less same based h k' m.2.alike (frames_now h k' m.2.later) x m.0 (Runs g n' y e ys q k) lock m.3 (guard_of r.setting.edge r.setting.words lock) refl (act_is y k e (Gives lock m.0) m.1)
 
       at_puts : (word : ℕ) (x : A) (h : Holding) (y : B) (k : Holding) (e : ℕ) (d : Block) → Within b d → LastAlike r n p q h0 k0 f g (Puts word x) h (s_step r y k).last (s_step r y k).holding → Ans ls (t_acts (Some (Puts word x)) f n xs p h) b (Runs g n' y e ys q k) d
       at_puts word x h y k e d v m =
           let k' = (s_step r y k).holding in
-          puts_too ls b d f g n n' p q xs ys made less same based h k' m.2.alike (frames_now h k' m.2) x m.0 (Runs g n' y e ys q k) word m.3 (act_is y k e (Puts word m.0) m.1)
+          puts_too ls b d f g n n' p q xs ys made less same based h k' m.2.alike (frames_now h k' m.2.later) x m.0 (Runs g n' y e ys q k) word m.3 (act_is y k e (Puts word m.0) m.1)
 
       at_calls : (function : NameBytes) (vs : List Value) (next : List Value → Option A) (h : Holding) (y : B) (k : Holding) (e : ℕ) (d : Block) → Within b d → LastAlike r n p q h0 k0 f g (Calls function vs next) h (s_step r y k).last (s_step r y k).holding → Ans ls (t_acts (Some (Calls function vs next)) f n xs p h) b (Runs g n' y e ys q k) d
       at_calls function vs next h y k e d v m =
           let k' = (s_step r y k).holding in
-          calls_too ls p q h k' m.4.alike vs m.0 m.3 (Waits f n (results_of r.setting.edge function) next ∷ xs) (Waits g n' (results_of r.setting.edge function) m.1 ∷ ys) based (under less same made m.5 based (frames_now h k' m.4)) function b d (Runs g n' y e ys q k) v
+          calls_too ls p q h k' m.4.settled vs m.0 m.3 (Waits f n (results_of r.setting.edge function) next ∷ xs) (Waits g n' (results_of r.setting.edge function) m.1 ∷ ys) based (under less same made m.5 based (frames_now h k' m.4.later)) function b d (Runs g n' y e ys q k) v
           (find r.target ins_t function) (find r.source ins_s function) (find_alike function ins_t ins_s all_t) (act_is y k e (Calls function m.0 m.1) m.2)
 
       at_tail : (function : NameBytes) (vs : List Value) (h : Holding) (y : B) (k : Holding) (e : ℕ) (d : Block) → Within b d → (o : Option (Last B)) (k' : Holding) → S.act (Runs g n' y e ys q k) ≡ s_acts o g n' ys q k' → TailAlike r n p q h0 k0 f g function vs h k' o → Ans ls (t_acts (Some (Tails function vs)) f n xs p h) b (Runs g n' y e ys q k) d
       at_tail function vs h y k e d v o k' a (tail ws alike' s) =
-          let ends = ends_stands h k' s.alike in
+          let ends = ends_stands h k' s.settled in
           let h1 = without_own r.target f n h in
           let k1 = without_own r.source g n' k' in
-          calls_too ls p q h1 k1 ends.alike vs ws alike' xs ys based (frames_wider h1 k1 p.begun (omega (arith, less)) (frames_later h k' h1 k1 (frames_now h k' s) ends.later)) function b d (Runs g n' y e ys q k) v
+          calls_too ls p q h1 k1 ends.settled vs ws alike' xs ys based (frames_wider h1 k1 p.begun (omega (arith, less)) (frames_later h k' h1 k1 (frames_now h k' s.later) ends.later)) function b d (Runs g n' y e ys q k) v
           (find r.target ins_t function) (find r.source ins_s function) (find_alike function ins_t ins_s all_t) a
       at_tail function vs h y k e d v o k' a (passing ws next alike' s only) =
           let h1 = without_own r.target f n h in
-          calls_too ls p q h1 k' s.alike vs ws alike' xs (Waits g n' (results_of r.setting.edge function) next ∷ ys) based (passed only based (frames_wider h1 k' p.begun (omega (arith, less)) (frames_now h1 k' s))) function b d (Runs g n' y e ys q k) v
+          calls_too ls p q h1 k' s.settled vs ws alike' xs (Waits g n' (results_of r.setting.edge function) next ∷ ys) based (passed only based (frames_wider h1 k' p.begun (omega (arith, less)) (frames_now h1 k' s.later))) function b d (Runs g n' y e ys q k) v
           (find r.target ins_t function) (find r.source ins_s function) (find_alike function ins_t ins_s all_t) a
 
       at_returns : (vs : List Value) (h : Holding) (y : B) (k : Holding) (e : ℕ) (d : Block) → Within b d → LastAlike r n p q h0 k0 f g (Returns vs) h (s_step r y k).last (s_step r y k).holding → Ans ls (t_acts (Some (Returns vs)) f n xs p h) b (Runs g n' y e ys q k) d
       at_returns vs h y k e d v m =
           let k' = (s_step r y k).holding in
-          let ends = ends_stands h k' m.3.alike in
+          let ends = ends_stands h k' m.3.settled in
           let h1 = without_own r.target f n h in
           let k1 = without_own r.source g n' k' in
-          returns_too ls p q h1 k1 ends.alike vs b (frames_later h k' h1 k1 (frames_now h k' m.3) ends.later) (omega (arith, less)) based m.0 (all_first vs m.0 m.2) d (Runs g n' y e ys q k) v (act_is y k e (Returns m.0) m.1)
+          returns_too ls p q h1 k1 ends.settled vs b (frames_later h k' h1 k1 (frames_now h k' m.3.later) ends.later) (omega (arith, less)) based m.0 (all_first vs m.0 m.2) d (Runs g n' y e ys q k) v (act_is y k e (Returns m.0) m.1)
 
       at_last : (y : B) (o : Option (Last A)) (h : Holding) → Does r n p q h0 k0 f g o h b y c → Ans ls (t_acts o f n xs p h) b (Runs g n' y e' ys q k0) c
       at_last y None h m = fails_soon g n' ys q m
@@ -486,7 +486,7 @@ module _ {F A G B : Type 0} (r : Relation F A G B) (is : Keeps r) (pays : Pays r
 
   -- What the outside brings.
 
-  pub enters_too : (ls : List RunLabel) (p q : Past) (h k : Holding) → r.alike p h q k → (xs : List (Frame F A)) (ys : List (Frame G B)) → Based outward xs → Frames h k p.begun xs ys → (o : Option F) (o' : Option G) (vs ws : Option (List Value)) → FoundAlike o o' → SameIf r vs ws → Fol ls (enters r.target o vs xs p h) (begun T (enters r.target o vs xs p h)) (enters r.source o' ws ys q k) (begun S (enters r.source o' ws ys q k))
+  pub enters_too : (ls : List RunLabel) (p q : Past) (h k : Holding) → r.settled p h q k → (xs : List (Frame F A)) (ys : List (Frame G B)) → Based outward xs → Frames h k p.begun xs ys → (o : Option F) (o' : Option G) (vs ws : Option (List Value)) → FoundAlike o o' → SameIf r vs ws → Fol ls (enters r.target o vs xs p h) (begun T (enters r.target o vs xs p h)) (enters r.source o' ws ys q k) (begun S (enters r.source o' ws ys q k))
   enters_too ls p q h k alike xs ys based fr None None vs ws found same = related (broken tt)
   enters_too ls p q h k alike xs ys based fr None (Some g) vs ws found same = absurd found
   enters_too ls p q h k alike xs ys based fr (Some f) None vs ws found same = absurd found
@@ -500,7 +500,7 @@ module _ {F A G B : Type 0} (r : Relation F A G B) (is : Keeps r) (pays : Pays r
       at None (Some y) ready = absurd ready
       at (Some x) (Some y) ready = begins_going ls f g found p q h k alike xs ys based fr x y nothing nothing (nothing_under nothing) ready
 
-  module _ (ls : List RunLabel) (p q : Past) (h k : Holding) (alike : r.alike p h q k) (vs : List Value) (out : outward ≡ true) where
+  module _ (ls : List RunLabel) (p q : Past) (h k : Holding) (alike : r.settled p h q k) (vs : List Value) (out : outward ≡ true) where
     not_based : {X : Type 0} → Based outward [] → X
     not_based b = let no : ⊥ = subst (λ v. Based v []) out b in absurd no
 
@@ -572,20 +572,20 @@ module _ {F A G B : Type 0} (r : Relation F A G B) (is : Keeps r) (pays : Pays r
         by None i = related (broken tt)
         by (Some ws') i = let kept = kept_of results ws ws' i in on ws' (fewer_first vs ws' kept.more (subst (λ v. FirstSame vs v) kept.are s)) (next' ws') (only.1 ws' kept.count)
 
-  backs_too : (ls : List RunLabel) (p q : Past) (h k : Holding) → r.alike p h q k → outward ≡ true → (xs : List (Frame F A)) (ys : List (Frame G B)) → Frames h k p.begun xs ys → (vs ws : Option (List Value)) → SameIf r vs ws → Fol ls (comes_back vs xs p h) (begun T (comes_back vs xs p h)) (comes_back ws ys q k) (begun S (comes_back ws ys q k))
+  backs_too : (ls : List RunLabel) (p q : Past) (h k : Holding) → r.settled p h q k → outward ≡ true → (xs : List (Frame F A)) (ys : List (Frame G B)) → Frames h k p.begun xs ys → (vs ws : Option (List Value)) → SameIf r vs ws → Fol ls (comes_back vs xs p h) (begun T (comes_back vs xs p h)) (comes_back ws ys q k) (begun S (comes_back ws ys q k))
   backs_too ls p q h k alike out xs ys fr vs None same = related (broken tt)
   backs_too ls p q h k alike out xs ys fr None (Some ws) same = absurd same
   backs_too ls p q h k alike out xs ys fr (Some vs) (Some ws) same = back_too ls p q h k alike vs out fr (omega arith) ws (all_first vs ws same)
 
   module _ (all : AllMade r.made r.targets r.sources) (all_t : AllMade r.made ins_t ins_s) where
-    heard_too : (ls : List RunLabel) (p q : Past) (h k : Holding) → r.alike p h q k → outward ≡ true → (xs : List (Frame F A)) (ys : List (Frame G B)) → Frames h k p.begun xs ys → (l : RunLabel) → MayBring r.setting.edge ls l → Fol (l ∷ ls) (hears r.target there scene_t xs p h l) (begun T (hears r.target there scene_t xs p h l)) (hears r.source r.setting scene_s ys q k l) (begun S (hears r.source r.setting scene_s ys q k l))
+    heard_too : (ls : List RunLabel) (p q : Past) (h k : Holding) → r.settled p h q k → outward ≡ true → (xs : List (Frame F A)) (ys : List (Frame G B)) → Frames h k p.begun xs ys → (l : RunLabel) → MayBring r.setting.edge ls l → Fol (l ∷ ls) (hears r.target there scene_t xs p h l) (begun T (hears r.target there scene_t xs p h l)) (hears r.source r.setting scene_s ys q k l) (begun S (hears r.source r.setting scene_s ys q k l))
     heard_too ls p q h k alike out xs ys fr (Enter name crossing) m =
         let s = is.hears p.begun p q h k alike (crossed ls) m.signature.params crossing m.brings m.values in
         let p' = with_naming p (brought_in r p h crossing).naming in
         let q' = with_naming q (brought_in r q k crossing).naming in
         let h' = heard r p h crossing in
         let k' = heard r q k crossing in
-        (enters_too (Enter name crossing ∷ ls) p' q' h' k' s.0.alike (Outer (results_of r.setting.edge name) ∷ xs) (Outer (results_of r.setting.edge name) ∷ ys) outer_based (outer out (frames_later h k h' k' fr s.0.later)) (find r.target r.targets name) (find r.source r.sources name)
+        (enters_too (Enter name crossing ∷ ls) p' q' h' k' s.0.settled (Outer (results_of r.setting.edge name) ∷ xs) (Outer (results_of r.setting.edge name) ∷ ys) outer_based (outer out (frames_later h k h' k' fr s.0.later)) (find r.target r.targets name) (find r.source r.sources name)
         (all_taken (brought_in r p h crossing).naming crossing.values) (all_taken (brought_in r q k crossing).naming crossing.values) (find_alike name r.targets r.sources all) s.1)
       where
         outer_based : Based outward (Outer (results_of r.setting.edge name) ∷ xs)
@@ -600,7 +600,7 @@ module _ {F A G B : Type 0} (r : Relation F A G B) (is : Keeps r) (pays : Pays r
         let q' = with_naming q (brought_in r q k crossing).naming in
         let h' = heard r p h crossing in
         let k' = heard r q k crossing in
-        (backs_too (Back crossing ∷ ls) p' q' h' k' s.0.alike out xs ys (frames_later h k h' k' fr s.0.later)
+        (backs_too (Back crossing ∷ ls) p' q' h' k' s.0.settled out xs ys (frames_later h k h' k' fr s.0.later)
         (all_taken (brought_in r p h crossing).naming crossing.values) (all_taken (brought_in r q k crossing).naming crossing.values) s.1)
     heard_too ls p q h k alike out xs ys fr (Lock lock words) m = absurd m
     heard_too ls p q h k alike out xs ys fr (Unlock lock words) m = absurd m

@@ -78,10 +78,10 @@ module _ {F A G B : Type 0} (r : Relation F A G B) (At : F → G → A → B →
     does_last n p q h k a h' b y c l a' w (gives_at {x = x} {y = y'} at) e = meets (y', e, record { alike = a'; later = l }, λ num named. shared_ready n p q h' (s_step r y k).holding a' x y' at (λ share. without_lock share num))
     does_last n p q h k a h' b y c l a' w (puts_at {x = x} {y = y'} at) e = meets (y', e, record { alike = a'; later = l }, ready n p q h' (s_step r y k).holding a' x y' at 0 0 (omega arith))
     does_last n p q h k a h' b y c l a' w (calls_at {ws = ws} {next = next} {next' = next'} s conts) e =
-        meets (ws, next', e, s, record { alike = a'; later = l }, λ p' q' h'' k'' l' a'' us xs same count. ready_if n p' q' h'' k'' a'' (next us) (next' xs) (conts us xs same count) 0 0 (omega arith))
+        meets (ws, next', e, s, record { settled = plain.settles p q h' (s_step r y k).holding a'; later = l }, λ p' q' h'' k'' l' a'' us xs same count. ready_if n p' q' h'' k'' (keeps.alikes p' q' h'' k'' a'') (next us) (next' xs) (conts us xs same count) 0 0 (omega arith))
     does_last n p q h k a h' b y c l a' w (tails_at {function = function} {vs = vs} {ws = ws} s) e =
-        meets (subst (λ o. TailAlike r n p q h k f g function vs h' (s_step r y k).holding o) (sym e) (tail ws s (record { alike = a'; later = l })))
-    does_last n p q h k a h' b y c l a' w (returns_at {ws = ws} s) e = meets (ws, e, s, record { alike = a'; later = l })
+        meets (subst (λ o. TailAlike r n p q h k f g function vs h' (s_step r y k).holding o) (sym e) (tail ws s (record { settled = plain.settles p q h' (s_step r y k).holding a'; later = l })))
+    does_last n p q h k a h' b y c l a' w (returns_at {ws = ws} s) e = meets (ws, e, s, record { settled = plain.settles p q h' (s_step r y k).holding a'; later = l })
 
     does_at : (n : ℕ) (p q : Past) (x : A) (h : Holding) (b : Block) (y : B) (k : Holding) (c : Block) → At f g x y → Within b c → r.alike p h q k → Does r n p q h k f g (t_step r x h).last (t_step r x h).holding b y c
     does_at n p q x h b y k c at w a = ⊎_elim (λ bad. does_failing n p q h k f g (t_step r x h).last (t_step r x h).holding b y c bad)
@@ -115,7 +115,7 @@ module _ {F A G B : Type 0} (r : Relation F A G B) (At : F → G → A → B →
   stepwise_passes = record {
     enters = λ f g made p q h k a vs ws s.
         let begun = keeps.begins f g made p q h k a in
-        let same = keeps.begun p q h k a in
+        let same = keeps.begun p q h k (keeps.alikes p q h k a) in
         let ats = is.enters f g made p.begun vs ws s in
         ready_if f g made p.begun (one_begun r.target p) (one_begun r.source q) (with_own r.target f p.begun h) (with_own r.source g q.begun k) begun.alike (r.target.enter f p.begun vs) (r.source.enter g q.begun ws)
         (subst (λ m. AtIf r At f g (r.target.enter f p.begun vs) (r.source.enter g m ws)) same ats) (first_price r.target.tariff r.target.blocks f) (first_price r.source.tariff r.source.blocks g) (is.entries f g made);

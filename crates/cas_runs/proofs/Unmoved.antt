@@ -48,6 +48,7 @@ module _ {F A G B : Type 0} (target : Activations F A) (source : Activations G B
     names = names;
     numbers = λ w word. refl;
     first = record { past = refl; holding = refl };
+    alikes = λ p q h k a. a;
     begun = λ p q h k a. ap (λ (v : Past). v.begun) a.past;
     shares = λ p q h k a. ap (λ (v : Holding). v.share) a.holding;
     at_once = λ n h k. tt;
@@ -56,7 +57,7 @@ module _ {F A G B : Type 0} (target : Activations F A) (source : Activations G B
     locks = λ n p q h k a lock words g. record { alike = record { past = a.past; holding = ap (λ (v : Holding). with_share v (with_lock v.share lock words)) a.holding }; later = tt };
     unlocks = λ n p q h k a lock. record { alike = record { past = a.past; holding = ap (λ (v : Holding). with_share v (without_lock v.share lock)) a.holding }; later = tt };
     begins = λ f g m p q h k a. record { alike = record { past = ap (λ v. one_begun target v) a.past; holding = ap (λ v. with_set (fresh v) (target.name f) p.begun (target.blocks f) h) first_words ∙ set_equal (fresh source.first_word) f g m p.begun q.begun (ap (λ (v : Past). v.begun) a.past) h k a.holding }; later = tt };
-    ends = λ n f g m p q h k a. record { alike = record { past = a.past; holding = set_equal gone f g m n n refl h k a.holding }; later = tt };
+    ends = λ n f g m p q h k a. record { settled = record { past = a.past; holding = set_equal gone f g m n n refl h k a.holding }; later = tt };
     shows = λ p q h k a vs ws s e.
         let past : p ≡ q = a.past in
         subst (λ (v : Past). can_cross setting.layout v vs ≡ true) (sym past) (subst (λ us. can_cross setting.layout q us ≡ true) (sym (to_equal vs ws s)) e);
@@ -71,7 +72,7 @@ module _ {F A G B : Type 0} (target : Activations F A) (source : Activations G B
         let past : p ≡ q = a.past in
         let holding : h ≡ k = a.holding in
         let both : brought_in R p h crossing ≡ brought_in R q k crossing = ap (λ v. brought_in R v h crossing) past ∙ ap (λ v. brought_in R q v crossing) holding in (
-          record { alike = record { past = ap (λ (v : Past). with_naming v (brought_in R v h crossing).naming) past ∙ ap (λ (v : Holding). with_naming q (brought_in R q v crossing).naming) holding; holding = ap (λ (v : Past). heard R v h crossing) past ∙ ap (λ v. heard R q v crossing) holding }; later = tt },
+          record { settled = record { past = ap (λ (v : Past). with_naming v (brought_in R v h crossing).naming) past ∙ ap (λ (v : Holding). with_naming q (brought_in R q v crossing).naming) holding; holding = ap (λ (v : Past). heard R v h crossing) past ∙ ap (λ v. heard R q v crossing) holding }; later = tt },
           same_if (all_taken (brought_in R p h crossing).naming crossing.values) (all_taken (brought_in R q k crossing).naming crossing.values)
               (ap (λ (v : Past). all_taken (brought_in R v h crossing).naming crossing.values) past ∙ ap (λ (v : Holding). all_taken (brought_in R q v crossing).naming crossing.values) holding),
         );

@@ -110,6 +110,7 @@ moves_blocks target source setting placed ts ss made place sizes match = record 
   made = made;
   same = SameMoved place;
   alike = AlikeMoved place sizes;
+  settled = AlikeMoved place sizes;
   later = KeepsUnplaced place;
   match = match;
 }

@@ -43,5 +43,6 @@ pub record HoldsPlainly {F A G B : Type 0} (r : Relation F A G B) (memory_alike 
   pub memories : (p q : Past) (h k : Holding) → r.alike p h q k → memory_alike h.memory k.memory
   pub shares : (p q : Past) (h k : Holding) → r.alike p h q k → h.share ≡ k.share
   pub again : (p q : Past) (h k h' k' : Holding) → r.alike p h q k → h'.share ≡ k'.share → memory_alike h'.memory k'.memory → r.alike p h' q k'
+  pub settles : (p q : Past) (h k : Holding) → r.alike p h q k → r.settled p h q k
   pub itself : (s : Memory) → kept s s
   pub later : (n : ℕ) (h k h' k' : Holding) → kept k.memory k'.memory → r.later n h k h' k'

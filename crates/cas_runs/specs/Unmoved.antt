@@ -23,6 +23,7 @@ keeps_values target source setting ts ss made match = record {
   made = made;
   same = λ v w. v ≡ w;
   alike = Equal;
+  settled = Equal;
   later = λ n h k h' k'. Unit {0};
   match = match;
 }

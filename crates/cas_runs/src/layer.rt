@@ -39,6 +39,8 @@ pub trait FunctionPass {
 
     ghost alike: { Setting → List Self.Target → List Self.Source → Past → Holding → Past → Holding → Type 0 };
 
+    ghost settled: { Setting → List Self.Target → List Self.Source → Past → Holding → Past → Holding → Type 0 };
+
     ghost later: { Setting → List Self.Target → List Self.Source → ℕ → Holding → Holding → Holding → Holding → Type 0 };
 
     ghost matches: { Setting → List Self.Target → List Self.Source → Self.Target → Self.Source → ℕ → target_activation → Holding → Block → source_activation → Holding → Block → Type 0 };
@@ -57,7 +59,7 @@ pub trait FunctionPass {
 
     /// The law that what is related so is a pass.
     fn passes()
-        ensures { (setting : Setting) (ts : List Self.Target) (ss : List Self.Source) → AllMade made ts ss → AreDistinct (language source) ss → IsEdge setting.edge → IsLayout (language source) ss setting.layout → IsPass (relation target source made naming same alike later matches ts ss setting) };
+        ensures { (setting : Setting) (ts : List Self.Target) (ss : List Self.Source) → AllMade made ts ss → AreDistinct (language source) ss → IsEdge setting.edge → IsLayout (language source) ss setting.layout → IsPass (relation target source made naming same alike settled later matches ts ss setting) };
 }
 
 /// What a pass makes of a function refines it, where each runs alone.

@@ -194,7 +194,7 @@ joins_place setting ts ss l = record {
 -- The steps.
 
 abbrev Rel : Setting → List Joined → List Apart → Relation Joined Stage Apart Stage
-Rel setting ts ss = relation joined apart IsJoined (λ us layout. joins layout) (λ setting ts ss. SameMoved (places ss)) (λ setting ts ss. AlikeMoved (places ss) one_word) (λ setting ts ss. KeepsUnplaced (places ss)) (λ setting ts ss. match_at (λ f g. SameStage ss)) ts ss setting
+Rel setting ts ss = relation joined apart IsJoined (λ us layout. joins layout) (λ setting ts ss. SameMoved (places ss)) (λ setting ts ss. AlikeMoved (places ss) one_word) (λ setting ts ss. AlikeMoved (places ss) one_word) (λ setting ts ss. KeepsUnplaced (places ss)) (λ setting ts ss. match_at (λ f g. SameStage ss)) ts ss setting
 
 module _ (setting : Setting) (ts : List Joined) (ss : List Apart) (f : Joined) (g : Apart) where
   abbrev R : Relation Joined Stage Apart Stage
@@ -272,6 +272,7 @@ held_plainly setting ts ss = record {
   memories = λ p q h k a. a.memory;
   shares = λ p q h k a. a.share;
   again = λ p q h k h' k' a share memory. record { begun = a.begun; share = share; memory = memory; naming = a.naming };
+  settles = λ p q h k a. a;
   itself = λ s f a b none. refl;
   later = λ n h k h' k' kept f a b less none. kept f a b none;
 }

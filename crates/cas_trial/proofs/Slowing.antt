@@ -23,10 +23,10 @@ SameSize n m = n ≡ m
 
 -- where activations match doesn't enter the places at which they do
 abbrev Bare : Setting → List Relaying → List Relaying → Relation Relaying Pace Relaying Pace
-Bare setting ts ss = relation slow fast IsSame (λ us layout. layout) (λ setting ts ss v w. v ≡ w) (λ setting ts ss. Equal) (λ setting ts ss n h k u v. Unit {0}) (λ setting ts ss f g n x h b y k c. Unit {0}) ts ss setting
+Bare setting ts ss = relation slow fast IsSame (λ us layout. layout) (λ setting ts ss v w. v ≡ w) (λ setting ts ss. Equal) (λ setting ts ss. Equal) (λ setting ts ss n h k u v. Unit {0}) (λ setting ts ss f g n x h b y k c. Unit {0}) ts ss setting
 
 abbrev Rel : Setting → List Relaying → List Relaying → Relation Relaying Pace Relaying Pace
-Rel setting ts ss = relation slow fast IsSame (λ us layout. layout) (λ setting ts ss v w. v ≡ w) (λ setting ts ss. Equal) (λ setting ts ss n h k u v. Unit {0}) (λ setting ts ss. Midway (Bare setting ts ss) (λ f g. AtStep) SameSize) ts ss setting
+Rel setting ts ss = relation slow fast IsSame (λ us layout. layout) (λ setting ts ss v w. v ≡ w) (λ setting ts ss. Equal) (λ setting ts ss. Equal) (λ setting ts ss n h k u v. Unit {0}) (λ setting ts ss. Midway (Bare setting ts ss) (λ f g. AtStep) SameSize) ts ss setting
 
 module _ (setting : Setting) (ts : List Relaying) (ss : List Relaying) where
   abbrev R0 : Relation Relaying Pace Relaying Pace
@@ -53,6 +53,7 @@ module _ (setting : Setting) (ts : List Relaying) (ss : List Relaying) where
     memories = λ p q h k a. ap (λ (v : Holding). v.memory) a.holding;
     shares = λ p q h k a. ap (λ (v : Holding). v.share) a.holding;
     again = λ p q h k h' k' a share memory. record { past = a.past; holding = ap (λ v. record { share = v; memory = h'.memory }) share ∙ ap (λ (v : Memory). record { share = k'.share; memory = v }) memory };
+    settles = λ p q h k a. a;
     itself = λ s. tt;
     later = λ n h k h' k' kept. tt;
   }
@@ -77,4 +78,4 @@ slow_pass setting ts ss h d edge l = record {
 
 -- units of the same programs
 pub units_slow : (s t : UnitOf Relaying) → t.decls ≡ s.decls → t.globals ≡ s.globals → AllMade IsSame t.funs s.funs → AreDistinct (language fast) s.funs → UnitRefines (language slow) (language fast) t s
-units_slow s t d g h distinct = units_pass slow fast IsSame (λ us layout. layout) (λ setting ts ss v w. v ≡ w) (λ setting ts ss. Equal) (λ setting ts ss n h k u v. Unit {0}) (λ setting ts ss. Midway (Bare setting ts ss) (λ f g. AtStep) SameSize) (λ f g m. refl) slow_laid_out slow_pass t s d g h distinct
+units_slow s t d g h distinct = units_pass slow fast IsSame (λ us layout. layout) (λ setting ts ss v w. v ≡ w) (λ setting ts ss. Equal) (λ setting ts ss. Equal) (λ setting ts ss n h k u v. Unit {0}) (λ setting ts ss. Midway (Bare setting ts ss) (λ f g. AtStep) SameSize) (λ f g m. refl) slow_laid_out slow_pass t s d g h distinct

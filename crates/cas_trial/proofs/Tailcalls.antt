@@ -17,7 +17,7 @@ use Rattle.cas_trial.specs.Stages.{show_name}
 use Rattle.cas_trial.specs.Relays.{Relay, Begins, enters, hands, calling, tailing, IsTailing, AtCall, at_call}
 
 abbrev Rel : Setting → List Relayed → List Relaying → Relation Relayed Relay Relaying Relay
-Rel setting ts ss = relation tailing calling IsTailing (λ us layout. layout) (λ setting ts ss v w. v ≡ w) (λ setting ts ss. Equal) (λ setting ts ss n h k u v. Unit {0}) (λ setting ts ss f g. AtCall) ts ss setting
+Rel setting ts ss = relation tailing calling IsTailing (λ us layout. layout) (λ setting ts ss v w. v ≡ w) (λ setting ts ss. Equal) (λ setting ts ss. Equal) (λ setting ts ss n h k u v. Unit {0}) (λ setting ts ss f g. AtCall) ts ss setting
 
 each_laid_out : (ts : List Relayed) (ss : List Relaying) → AllMade IsTailing ts ss → (layout : Layout) → IsLayout (language calling) ss layout → IsLayout (language tailing) ts layout
 each_laid_out [] ss h layout l = tt
@@ -45,7 +45,7 @@ module _ (setting : Setting) (ts : List Relayed) (ss : List Relaying) where
   fine_at n f g made p q x h b y k c (at_call w) a = inr (record { within = w; opened = sub_same (Open show_name ∷ []) })
 
   does_at : (n : ℕ) (f : Relayed) (g : Relaying) → R.made f g → (p q : Past) (x : Relay) (h : Holding) (b : Block) (y : Relay) (k : Holding) (c : Block) → AtCall n x h b y k c → R.alike p h q k → Does R n p q h k f g (t_step R x h).last (t_step R x h).holding b y c
-  does_at n f g m p q x h b y k c (at_call {word = word} w) a = meets (passing _ hands (refl, tt) (record { alike = a; later = tt }) (refl, λ ws count. returns_first ws [] (sym (append-nil ws)) refl (omega arith)))
+  does_at n f g m p q x h b y k c (at_call {word = word} w) a = meets (passing _ hands (refl, tt) (record { settled = a; later = tt }) (refl, λ ws count. returns_first ws [] (sym (append-nil ws)) refl (omega arith)))
 
   passes : Passes R
   passes = record {

@@ -58,6 +58,8 @@ impl FunctionPass for Joining {
 
     ghost alike = { λ setting ts ss. AlikeMoved (places ss) one_word };
 
+    ghost settled = { λ setting ts ss. AlikeMoved (places ss) one_word };
+
     ghost later = { λ setting ts ss. KeepsUnplaced (places ss) };
 
     ghost matches = { λ setting ts ss. match_at (λ f g. SameStage ss) };

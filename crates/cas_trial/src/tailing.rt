@@ -49,6 +49,8 @@ impl FunctionPass for TailCalls {
 
     ghost alike = { λ setting ts ss. Equal };
 
+    ghost settled = { λ setting ts ss. Equal };
+
     ghost later = { λ setting ts ss n h k u v. Unit {0} };
 
     ghost matches = { λ setting ts ss f g. AtCall };
