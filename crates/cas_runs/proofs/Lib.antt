@@ -22,3 +22,4 @@ pub mod Tests
 pub mod Turns
 pub mod Units
 pub mod Unmoved
+pub mod Words

@@ -1,7 +1,7 @@
 -- Passes of which several steps of the target are one step of the source: all but the last only read, and the last does what is left of the step.
 use Rattle.std.specs.Prelude.{◌≡◌, ℕ, ◌+◌, ◌≤◌, List, Option}
 use Rattle.cas_runs.specs.Label.{NameBytes}
-use Rattle.cas_runs.specs.Naming.{Home, Value, Pointer}
+use Rattle.cas_runs.specs.Naming.{Home, Value, Number, Pointer}
 use Rattle.cas_runs.specs.Machine.{Block}
 use Rattle.cas_runs.specs.Refines.{Within}
 use Rattle.cas_runs.specs.Bounds.{step_price, first_price}
@@ -14,10 +14,10 @@ use Rattle.cas_runs.specs.Stepwise.{LastAt, AtIf}
 module _ {F A G B : Type 0} (r : Relation F A G B) (At : F → G → A → B → Type 0) (same_size : ℕ → ℕ → Type 0) where
   -- the target's form, with the steps that follow it, does what the source's form does; those steps cost at most the credit
   pub data Leads (f : F) (g : G) : ℕ → Accesses (Last A) → Accesses (Last B) → Type 0 where
-    both_read : {credit : ℕ} {global : NameBytes} {offset : ℕ} {next : ℕ → Accesses (Last A)} {next' : ℕ → Accesses (Last B)} → ((v : ℕ) → Leads f g credit (next v) (next' v)) → Leads f g credit (Reads global offset next) (Reads global offset next')
+    both_read : {credit : ℕ} {global : NameBytes} {offset : ℕ} {next : ℕ → Accesses (Last A)} {next' : ℕ → Accesses (Last B)} → ((v : ℕ) → r.same (Number v) (Number v) → Leads f g credit (next v) (next' v)) → Leads f g credit (Reads global offset next) (Reads global offset next')
     both_load : {credit : ℕ} {home home' : Home} {at at' : ℕ} {next : Value → Accesses (Last A)} {next' : Value → Accesses (Last B)} → r.same (Pointer home at) (Pointer home' at') → ((v w : Value) → r.same v w → Leads f g credit (next v) (next' w)) → Leads f g credit (Loads home at next) (Loads home' at' next')
     -- the target has no need of what the source reads
-    source_reads : {credit : ℕ} {global : NameBytes} {offset : ℕ} {x : Accesses (Last A)} {next' : ℕ → Accesses (Last B)} → ((v : ℕ) → Leads f g credit x (next' v)) → Leads f g credit x (Reads global offset next')
+    source_reads : {credit : ℕ} {global : NameBytes} {offset : ℕ} {x : Accesses (Last A)} {next' : ℕ → Accesses (Last B)} → ((v : ℕ) → r.same (Number v) (Number v) → Leads f g credit x (next' v)) → Leads f g credit x (Reads global offset next')
     source_loads : {credit : ℕ} {home : Home} {at : ℕ} {x : Accesses (Last A)} {next' : Value → Accesses (Last B)} → ((w : Value) → Leads f g credit x (next' w)) → Leads f g credit x (Loads home at next')
     source_looks : {credit : ℕ} {home : Home} {x : Accesses (Last A)} {next' : Option ℕ → Accesses (Last B)} → ((o : Option ℕ) → Leads f g credit x (next' o)) → Leads f g credit x (Looks home next')
     -- one step more of the target

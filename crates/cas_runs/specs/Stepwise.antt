@@ -7,7 +7,7 @@ use Rattle.cas_runs.specs.Machine.{Block}
 use Rattle.cas_runs.specs.Refines.{Within}
 use Rattle.cas_runs.specs.Bounds.{step_price, first_price}
 use Rattle.cas_runs.specs.Access.{Holding}
-use Rattle.cas_runs.specs.Forms.{FormAlike}
+use Rattle.cas_runs.specs.Forms.{FormAlike, ShareSelfSame}
 use Rattle.cas_runs.specs.Calls.{Last, Goes, Takes, Gives, Puts, Calls, Tails, Returns, Past}
 use Rattle.cas_runs.specs.Passing.{Relation, AllSame}
 
@@ -42,7 +42,8 @@ module _ {F A G B : Type 0} (r : Relation F A G B) (At : F → G → A → B →
 pub record HoldsPlainly {F A G B : Type 0} (r : Relation F A G B) (memory_alike kept : Memory → Memory → Type 0) : Type 0 where
   pub memories : (p q : Past) (h k : Holding) → r.alike p h q k → memory_alike h.memory k.memory
   pub shares : (p q : Past) (h k : Holding) → r.alike p h q k → h.share ≡ k.share
-  pub again : (p q : Past) (h k h' k' : Holding) → r.alike p h q k → h'.share ≡ k'.share → memory_alike h'.memory k'.memory → r.alike p h' q k'
+  pub words : (p q : Past) (h k : Holding) → r.alike p h q k → ShareSelfSame r.same k.share
+  pub again : (p q : Past) (h k h' k' : Holding) → r.alike p h q k → h'.share ≡ k'.share → ShareSelfSame r.same k'.share → memory_alike h'.memory k'.memory → r.alike p h' q k'
   pub settles : (p q : Past) (h k : Holding) → r.alike p h q k → r.settled p h q k
   pub itself : (s : Memory) → kept s s
   pub later : (n : ℕ) (h k h' k' : Holding) → kept k.memory k'.memory → r.later n h k h' k'

@@ -11,6 +11,7 @@ use Rattle.cas_runs.specs.Forms.{FormAlike, writes, loads, stores, last, never}
 use Rattle.cas_runs.specs.Passing.{Relation, AllSame, IsPass, AllMade, MadeAmong, relation, Keeps, Pays}
 use Rattle.cas_runs.specs.Placing.{Spot, SameMoved, moved, moved_part, MemoryMoved, AlikeMoved, KeepsUnplaced, UnplacedKept, IsPlacing, pointer_in}
 use Rattle.cas_runs.specs.Stepwise.{match_at, AtIf, LastAt, goes_at, takes_at, gives_at, puts_at, calls_at, returns_at, Stepwise, HoldsPlainly}
+use Rattle.cas_runs.proofs.Words.{all_self}
 use Rattle.cas_runs.proofs.Tests.{and_both, same_name_from}
 use Rattle.cas_runs.proofs.Bringing.{moved_keeps, memory_keeps_since}
 use Rattle.cas_runs.proofs.Stepping.{stepwise_passes}
@@ -243,7 +244,7 @@ module _ (setting : Setting) (ts : List Joined) (ss : List Apart) (f : Joined) (
 forms_alike : (setting : Setting) (ts : List Joined) (ss : List Apart) (to : Joined) (from : Apart) (x y : Stage) → SameStage ss x y → Forms setting ts ss to from (form 0 1 x) (form 1 0 y)
 forms_alike setting ts ss to from x y begins = stores refl refl (stores refl refl (last (goes_at locks)))
 forms_alike setting ts ss to from x y locks = last (takes_at holds)
-forms_alike setting ts ss to from x y holds = writes (last (goes_at unlocks))
+forms_alike setting ts ss to from x y holds = writes refl (last (goes_at unlocks))
 forms_alike setting ts ss to from x y unlocks = last (gives_at shows)
 forms_alike setting ts ss to from x y (shows {f = f} {fs = fs} {serial = serial}) = last (calls_at (refl, tt) (λ us xs s count. came_back_at setting ts (f ∷ fs) to from serial us xs s (λ v w e. loading e)))
 forms_alike setting ts ss to from x y (loading {f = f} {fs = fs} {serial = serial} {v = v} {w = w} s) = loading_alike setting ts (f ∷ fs) to from (Tells serial) tells v w s
@@ -271,7 +272,8 @@ held_plainly : (setting : Setting) (ts : List Joined) (ss : List Apart) → Hold
 held_plainly setting ts ss = record {
   memories = λ p q h k a. a.memory;
   shares = λ p q h k a. a.share;
-  again = λ p q h k h' k' a share memory. record { begun = a.begun; share = share; memory = memory; naming = a.naming };
+  words = λ p q h k a. all_self (SameMoved (places ss)) (λ w. refl) k.share;
+  again = λ p q h k h' k' a share words memory. record { begun = a.begun; share = share; memory = memory; naming = a.naming };
   settles = λ p q h k a. a;
   itself = λ s f a b none. refl;
   later = λ n h k h' k' kept f a b less none. kept f a b none;
@@ -293,7 +295,7 @@ joins_passes setting ts ss h d edge l =
     record {
       keeps = keeps;
       pays = joins_pay setting ts ss;
-      passes = stepwise_passes (Rel setting ts ss) (λ f g. SameStage ss) (λ n m. Unit {0}) (MemoryMoved (places ss) one_word) (UnplacedKept (places ss)) (memory_keeps_since joined apart setting (joins setting.layout) ts ss (Made ts ss) (places ss) one_word (match_at (λ f g. SameStage ss)) (joins_place setting ts ss l)) (held_plainly setting ts ss) (steps_alike setting ts ss) keeps (λ f g n x h' b y k c m. m) (λ f g n x h' b y k c m. m);
+      passes = stepwise_passes (Rel setting ts ss) (λ f g. SameStage ss) (λ n m. Unit {0}) (MemoryMoved (places ss) one_word) (UnplacedKept (places ss)) (memory_keeps_since joined apart setting (joins setting.layout) ts ss (Made ts ss) (places ss) one_word (match_at (λ f g. SameStage ss)) (joins_place setting ts ss l)) (held_plainly setting ts ss) (steps_alike setting ts ss) keeps edge (λ f g n x h' b y k c m. m) (λ f g n x h' b y k c m. m);
     }
 
 pub apart_prices : IsTariff apart.tariff

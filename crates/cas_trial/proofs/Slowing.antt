@@ -12,6 +12,7 @@ use Rattle.cas_runs.specs.Unmoved.{Equal}
 use Rattle.cas_runs.specs.Stepwise.{AtIf, calls_at, returns_at, HoldsPlainly}
 use Rattle.cas_runs.specs.Forward.{Leads, onward, at_last, Midway, Forward}
 use Rattle.cas_runs.proofs.Unmoved.{equal_keeps, to_equal, all_equal, memory_equal}
+use Rattle.cas_runs.proofs.Words.{all_self}
 use Rattle.cas_runs.proofs.Performing.{keeps_nothing}
 use Rattle.cas_runs.proofs.Forwarding.{forward_passes}
 use Rattle.cas_runs.proofs.Lifted.{units_pass}
@@ -52,7 +53,8 @@ module _ (setting : Setting) (ts : List Relaying) (ss : List Relaying) where
   plainly = record {
     memories = λ p q h k a. ap (λ (v : Holding). v.memory) a.holding;
     shares = λ p q h k a. ap (λ (v : Holding). v.share) a.holding;
-    again = λ p q h k h' k' a share memory. record { past = a.past; holding = ap (λ v. record { share = v; memory = h'.memory }) share ∙ ap (λ (v : Memory). record { share = k'.share; memory = v }) memory };
+    words = λ p q h k a. all_self (λ v w. v ≡ w) (λ w. refl) k.share;
+    again = λ p q h k h' k' a share words memory. record { past = a.past; holding = ap (λ v. record { share = v; memory = h'.memory }) share ∙ ap (λ (v : Memory). record { share = k'.share; memory = v }) memory };
     settles = λ p q h k a. a;
     itself = λ s. tt;
     later = λ n h k h' k' kept. tt;
@@ -73,7 +75,7 @@ slow_pass : (setting : Setting) (ts ss : List Relaying) → AllMade IsSame ts ss
 slow_pass setting ts ss h d edge l = record {
   keeps = keeps setting ts ss;
   pays = record { prices = (λ a. (record { least = omega arith; most = omega arith }, tt), omega arith, λ f. let one : IsPrice 1 = record { least = omega arith; most = omega arith } in (one, (one, (one, tt)))); waits = omega arith };
-  passes = forward_passes (Bare setting ts ss) (λ f g. AtStep) SameSize (λ t s. t ≡ s) (λ t s. Unit {0}) (keeps_nothing memory_equal) (plainly setting ts ss) (steps setting ts ss) (keeps setting ts ss);
+  passes = forward_passes (Bare setting ts ss) (λ f g. AtStep) SameSize (λ t s. t ≡ s) (λ t s. Unit {0}) (keeps_nothing memory_equal) (plainly setting ts ss) (steps setting ts ss) (keeps setting ts ss) edge;
 }
 
 -- units of the same programs
