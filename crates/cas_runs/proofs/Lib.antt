@@ -22,4 +22,5 @@ pub mod Tests
 pub mod Turns
 pub mod Units
 pub mod Unmoved
+pub mod Worded
 pub mod Words

@@ -20,3 +20,4 @@ pub mod Simulation
 pub mod Stepwise
 pub mod Unit
 pub mod Unmoved
+pub mod Worded

@@ -1,4 +1,5 @@
 pub mod Fits
 pub mod Joins
 pub mod Slowing
+pub mod Sums
 pub mod Tailcalls

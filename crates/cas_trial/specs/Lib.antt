@@ -3,3 +3,4 @@ pub mod Paces
 pub mod Places
 pub mod Relays
 pub mod Stages
+pub mod Sums

@@ -8,6 +8,7 @@ ghost use Rattle.cas_runs.specs.Unit.{AreDistinct, FitsUnit, IsLayout, Setting, 
 ghost use Rattle.cas_trial.specs.Fitting.{decls, edge, globals, labels, program, setting, words};
 ghost use Rattle.cas_trial.specs.Paces.{IsSame, fast, slow};
 ghost use Rattle.cas_trial.specs.Stages.{apart};
+ghost use Rattle.cas_trial.specs.Sums.{adding, plain};
 ghost use Rattle.cas_trial.specs.declared.joining.Apart.{Apart as Program};
 ghost use Rattle.cas_trial.specs.declared.tailing.Relaying.{Relaying};
 
@@ -37,4 +38,11 @@ pub fn apart_keeps_rules()
 #[tactic(auto, using(crate::proofs::Slowing::units_slow))]
 pub fn units_slow()
     ensures { (s : UnitOf Relaying) (t : UnitOf Relaying) → t.decls ≡ s.decls → t.globals ≡ s.globals → AllMade IsSame t.funs s.funs → AreDistinct (language fast) s.funs → UnitRefines (language slow) (language fast) t s }
+{}
+
+/// A unit whose functions put out a word refines one whose functions add 0 to it first: what they read is known
+/// to be a word.
+#[tactic(auto, using(crate::proofs::Sums::units_sum))]
+pub fn units_sum()
+    ensures { (s : UnitOf Relaying) (t : UnitOf Relaying) → t.decls ≡ s.decls → t.globals ≡ s.globals → AllMade IsSame t.funs s.funs → AreDistinct (language adding) s.funs → UnitRefines (language plain) (language adding) t s }
 {}

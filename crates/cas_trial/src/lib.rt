@@ -9,5 +9,5 @@ mod tailing;
 mod tests;
 
 pub use joining::{Apart, Joined, Joining, join, joined_weighs_less, threads_join, units_join};
-pub use laws::{a_unit_fits, apart_keeps_rules, pointer_comes_back, units_slow};
+pub use laws::{a_unit_fits, apart_keeps_rules, pointer_comes_back, units_slow, units_sum};
 pub use tailing::{Relayed, Relaying, TailCalls, relay, units_relay};

@@ -1,0 +1,299 @@
+-- Passes that leave values and memory as they are, where every number is a word: what both threads hold keeps to the layer of calls.
+use Rattle.std.proofs.Common.{◌≡◌, ℕ, zero, suc, ◌+◌, ◌<◌, List, [], ◌∷◌, ◌⊎◌, Option, Some, None, Bool, true, false, if◌then◌else◌, length, slice_get, slice_set, refl, sym, ap, ◌∙◌, subst, ⊎_elim}
+use Rattle.cas_base.specs.declared.kind.Kind.{Kind}
+use Rattle.cas_base.specs.declared.kind.Kind.TheVariants.{U32}
+use Rattle.cas_base.specs.declared.kind.Ty.{Ty}
+use Rattle.cas_base.specs.declared.kind.Ty.TheVariants.{Void, Int, Ptr, Array}
+use Rattle.cas_runs.specs.Label.{NameBytes, Shown, Word, Place, Object, Share, Crossing}
+use Rattle.cas_runs.specs.Edge.{Edge, IsOfKind, IsOfType, AreOfTypes, IsShare}
+use Rattle.cas_runs.specs.Outside.{AreWordsOf, ChangesTo, NewContents, Continues, AreNew, Brings}
+use Rattle.cas_runs.specs.Naming.{Home, Own, Theirs, Value, Number, Pointer, Hidden, Named, Naming, Memory, and_then, with_block, died, value_at, taken, all_taken, refilled, overwritten, written, left_in, filled, new_block, brought}
+use Rattle.cas_runs.specs.Machine.{Block}
+use Rattle.cas_runs.specs.Access.{Holding, with_lock, without_lock, value_in, length_of}
+use Rattle.cas_runs.specs.Unit.{Setting}
+use Rattle.cas_runs.specs.Forms.{LengthsAlike, Stored, MemoryKeeps, AreSelfSame, ShareSelfSame}
+use Rattle.cas_runs.specs.Calls.{Activations, Past, so_many, set_blocks, fresh, gone, one_begun, with_share, can_cross, crosses_as, with_naming}
+use Rattle.cas_runs.specs.Passing.{Relation, AllSame, SameIf, brought_in, heard, Keeps}
+use Rattle.cas_runs.specs.Worded.{IsWord, AreWords, HasWords, SameWord, EqualWords, keeps_words}
+use Rattle.cas_runs.proofs.Words.{kind_word, guarded_self, self_with_lock, self_without_lock}
+use Rattle.cas_runs.proofs.Unmoved.{memory_equal}
+use Rattle.cas_runs.proofs.Placing.{with_here, with_elsewhere, same_or_not}
+
+-- Memories with words.
+
+words_get : (vs : List Value) → AreWords vs → (i : ℕ) (v : Value) → slice_get vs i ≡ Some v → IsWord v
+words_get [] h i v e = absurd (cc e)
+words_get (x ∷ vs) h zero v e = let here : x ≡ v = cc e in subst IsWord here h.0
+words_get (x ∷ vs) h (suc i) v e = words_get vs h.1 i v e
+
+words_set : (vs : List Value) → AreWords vs → (i : ℕ) (v : Value) → IsWord v → AreWords (slice_set vs i v)
+words_set [] h i v w = tt
+words_set (x ∷ vs) h zero v w = (w, h.1)
+words_set (x ∷ vs) h (suc i) v w = (h.0, words_set vs h.1 i v w)
+
+-- the words of a block that is there
+abbrev BlockWords : Option (List Value) → Type 0
+BlockWords None = Unit {0}
+BlockWords (Some vs) = AreWords vs
+
+block_from : (o : Option (List Value)) → BlockWords o → (vs : List Value) → o ≡ Some vs → AreWords vs
+block_from None h vs e = absurd (cc e)
+block_from (Some us) h vs e = let same : us ≡ vs = cc e in subst AreWords same h
+
+block_of : (o : Option (List Value)) → ((vs : List Value) → o ≡ Some vs → AreWords vs) → BlockWords o
+block_of None h = tt
+block_of (Some vs) h = h vs refl
+
+with_words : (m : Memory) → HasWords m → (home : Home) (block : Option (List Value)) → BlockWords block → HasWords (with_block m home block)
+with_words m h home block b other vs e = ⊎_elim
+    (λ (same : other ≡ home). block_from block b vs (sym (ap (λ x. with_block m home block x) same ∙ with_here m home block) ∙ e))
+    (λ differ. h other vs (sym (with_elsewhere m home other block differ) ∙ e)) (same_or_not other home)
+
+set_words : (words : ℕ → Option (List Value)) → ((size : ℕ) → BlockWords (words size)) → (m : Memory) → HasWords m → (name : NameBytes) (serial k : ℕ) (sizes : List ℕ) → HasWords (set_blocks words m name serial k sizes)
+set_words words each m h name serial k [] = h
+set_words words each m h name serial k (size ∷ sizes) = set_words words each (with_block m (Own name serial k) (words size)) (with_words m h (Own name serial k) (words size) (each size)) name serial (k + 1) sizes
+
+fresh_words : (v : Value) → IsWord v → (size : ℕ) → AreWords (so_many v size)
+fresh_words v w zero = tt
+fresh_words v w (suc size) = (w, fresh_words v w size)
+
+-- What the outside brings.
+
+abbrev ContentWords : Option ℕ → Type 0
+ContentWords None = Unit {0}
+ContentWords (Some w) = IsOfKind w U32
+
+abbrev ContentsWords : List (Option ℕ) → Type 0
+ContentsWords [] = Unit {0}
+ContentsWords (c ∷ cs) = ContentWords c × ContentsWords cs
+
+abbrev StateWords : Option (List (Option ℕ)) → Type 0
+StateWords None = Unit {0}
+StateWords (Some cs) = ContentsWords cs
+
+abbrev ObjectsWords : List Object → Type 0
+ObjectsWords [] = Unit {0}
+ObjectsWords (o ∷ os) = StateWords o.contents × ObjectsWords os
+
+of_kind : (kind : Kind) (cs : List (Option ℕ)) → AreWordsOf kind cs → ContentsWords cs
+of_kind kind [] h = tt
+of_kind kind (Some w ∷ cs) h = (kind_word w kind h.0, of_kind kind cs h.1)
+of_kind kind (None ∷ cs) h = absurd h
+
+new_words : (os : List Object) → AreNew os → ObjectsWords os
+new_words [] h = tt
+new_words (o ∷ os) h = (by o.contents h.0.contents, new_words os h.1)
+  where
+    by : (c : Option (List (Option ℕ))) → NewContents o c → StateWords c
+    by None n = tt
+    by (Some cs) n = of_kind o.kind cs n.kinds
+
+brought_words : (before os : List Object) → Continues before os → ObjectsWords os
+brought_words [] os h = new_words os h
+brought_words (b ∷ before) [] h = absurd h
+brought_words (b ∷ before) (o ∷ os) h = let changes = h.0 in (by b.contents o.contents changes.contents, brought_words before os h.1)
+  where
+    by : (c d : Option (List (Option ℕ))) → ChangesTo b c d → StateWords d
+    by c None n = tt
+    by None (Some ds) n = absurd n
+    by (Some cs) (Some ds) n = of_kind b.kind ds n.kinds
+
+refilled_word : (c : Option ℕ) (v : Value) → ContentWords c → IsWord v → IsWord (refilled c v)
+refilled_word None v h w = w
+refilled_word (Some x) v h w = h
+
+overwritten_words : (vs : List Value) (size : ℕ) (cs : List (Option ℕ)) → AreWords vs → ContentsWords cs → AreWords (overwritten vs size cs)
+overwritten_words [] size cs h k = tt
+overwritten_words (v ∷ vs) zero cs h k = h
+overwritten_words (v ∷ vs) (suc size) [] h k = h
+overwritten_words (v ∷ vs) (suc size) (c ∷ cs) h k = (refilled_word c v k.0 h.0, overwritten_words vs size cs h.1 k.1)
+
+written_words : (vs : List Value) (from size : ℕ) (cs : List (Option ℕ)) → AreWords vs → ContentsWords cs → AreWords (written vs from size cs)
+written_words vs zero size cs h k = overwritten_words vs size cs h k
+written_words [] (suc from) size cs h k = tt
+written_words (v ∷ vs) (suc from) size cs h k = (h.0, written_words vs from size cs h.1 k)
+
+filled_words : (size : ℕ) (cs : List (Option ℕ)) → ContentsWords cs → AreWords (filled size cs)
+filled_words zero cs k = tt
+filled_words (suc size) [] k = (refl, filled_words size [] tt)
+filled_words (suc size) (c ∷ cs) k = (refilled_word c (Number 0) k.0 refl, filled_words size cs k.1)
+
+new_block_words : (size : ℕ) (c : Option (List (Option ℕ))) → StateWords c → BlockWords (new_block size c)
+new_block_words size None k = tt
+new_block_words size (Some cs) k = filled_words size cs k
+
+left_words : (n : Named) (o : Option (List Value)) (c : Option (List (Option ℕ))) → BlockWords o → StateWords c → BlockWords (left_in n o c)
+left_words n None c h k = tt
+left_words n (Some vs) None h k = by n.home
+  where
+    by : (home : Home) → BlockWords (died home vs)
+    by (Own f a b) = h
+    by (Theirs object) = tt
+left_words n (Some vs) (Some cs) h k = written_words vs n.part.from n.part.size cs h k
+
+memory_brought : (os : List Object) → ObjectsWords os → (m : Memory) → HasWords m → (ns : Naming) (k : ℕ) → HasWords (brought m ns k os).memory
+memory_brought [] w m h ns k = h
+memory_brought (o ∷ os) w m h [] k = memory_brought os w.1 (with_block m (Theirs k) (new_block o.size o.contents)) (with_words m h (Theirs k) (new_block o.size o.contents) (new_block_words o.size o.contents w.0)) [] (k + 1)
+memory_brought (o ∷ os) w m h (n ∷ ns) k =
+    memory_brought os w.1 (with_block m n.home (left_in n (m n.home) o.contents)) (with_words m h n.home (left_in n (m n.home) o.contents) (left_words n (m n.home) o.contents (block_of (m n.home) (λ vs e. h n.home vs e)) w.0)) ns (k + 1)
+
+share_brought : (edge : Edge) (hs : Share) → IsShare edge hs → ShareSelfSame SameWord hs
+share_brought edge [] h = tt
+share_brought edge (k ∷ hs) h = (guarded_self SameWord (λ w word. (refl, word)) edge k.lock k.words h.0, share_brought edge hs h.2)
+
+-- the values
+abbrev TakenWord : Option Value → Type 0
+TakenWord None = Unit {0}
+TakenWord (Some v) = IsWord v
+
+placed_word : (o : Option Named) (place : ℕ) → TakenWord (value_at o place)
+placed_word None place = tt
+placed_word (Some n) place = tt
+
+taken_word : (objects : List Object) (ns : Naming) (ty : Ty) (x : Shown) → IsOfType objects ty x → TakenWord (taken ns x)
+taken_word objects ns (Int kind) (Word w) h = kind_word w kind h
+taken_word objects ns (Ptr kind) (Word w) h = subst (λ v. IsOfKind v U32) (sym h) refl
+taken_word objects ns ty (Place object place) h = placed_word (slice_get ns object) place
+taken_word objects ns Void (Word w) h = absurd h
+taken_word objects ns (Array kind size) (Word w) h = absurd h
+
+abbrev AllTaken : Option (List Value) → Type 0
+AllTaken None = Unit {0}
+AllTaken (Some vs) = AreWords vs
+
+all_taken_words : (objects : List Object) (ns : Naming) (tys : List Ty) (xs : List Shown) → AreOfTypes objects tys xs → AllTaken (all_taken ns xs)
+all_taken_words objects ns [] [] h = tt
+all_taken_words objects ns [] (x ∷ xs) h = absurd h
+all_taken_words objects ns (ty ∷ tys) [] h = absurd h
+all_taken_words objects ns (ty ∷ tys) (x ∷ xs) h = both (taken ns x) (all_taken ns xs) (taken_word objects ns ty x h.0) (all_taken_words objects ns tys xs h.1)
+  where
+    both : (o : Option Value) (r : Option (List Value)) → TakenWord o → AllTaken r → AllTaken (and_then o (λ v. and_then r (λ vs. Some (v ∷ vs))))
+    both None r u v = tt
+    both (Some v) None u w = tt
+    both (Some v) (Some vs) u w = (u, w)
+
+module _ {F A G B : Type 0} (target : Activations F A) (source : Activations G B) (setting : Setting) (ts : List F) (ss : List G) (made : F → G → Type 0) (match : F → G → ℕ → A → Holding → Block → B → Holding → Block → Type 0) (names : (f : F) (g : G) → made f g → target.name f ≡ source.name g) (blocks : (f : F) (g : G) → made f g → target.blocks f ≡ source.blocks g) (first_words : target.first_word ≡ source.first_word) (first_is : IsWord source.first_word) where
+  abbrev R : Relation F A G B
+  R = keeps_words target source setting ts ss made match
+
+  pub to_equal : (vs ws : List Value) → AllSame R vs ws → vs ≡ ws
+  to_equal [] [] h = refl
+  to_equal [] (w ∷ ws) h = absurd h
+  to_equal (v ∷ vs) [] h = absurd h
+  to_equal (v ∷ vs) (w ∷ ws) h = ap (λ u. u ∷ vs) h.0.0 ∙ ap (λ us. w ∷ us) (to_equal vs ws h.1)
+
+  pub all_equal : (vs : List Value) → AreWords vs → AllSame R vs vs
+  all_equal [] h = tt
+  all_equal (v ∷ vs) h = ((refl, h.0), all_equal vs h.1)
+
+  same_if : (o o' : Option (List Value)) → o ≡ o' → AllTaken o → SameIf R o o'
+  same_if o o' e h = subst (λ v. SameIf R o v) e (itself o h)
+    where
+      itself : (o : Option (List Value)) → AllTaken o → SameIf R o o
+      itself None h = tt
+      itself (Some vs) h = all_equal vs h
+
+  abbrev with_set : (ℕ → Option (List Value)) → NameBytes → ℕ → List ℕ → Holding → Holding
+  with_set words name n sizes h = record { share = h.share; memory = set_blocks words h.memory name n 0 sizes }
+
+  set_equal : (words : ℕ → Option (List Value)) (f : F) (g : G) → made f g → (n m : ℕ) → n ≡ m → (h k : Holding) → h ≡ k → with_set words (target.name f) n (target.blocks f) h ≡ with_set words (source.name g) m (source.blocks g) k
+  set_equal words f g m n n' e h k e' =
+      ap (λ v. with_set words v n (target.blocks f) h) (names f g m) ∙ ap (λ v. with_set words (source.name g) n v h) (blocks f g m)
+      ∙ ap (λ v. with_set words (source.name g) v (source.blocks g) h) e ∙ ap (λ v. with_set words (source.name g) n' (source.blocks g) v) e'
+
+  pub words_keep : Keeps R
+  words_keep = record {
+    names = names;
+    numbers = λ w word. (refl, word);
+    first = record { past = refl; holding = refl; share = tt; memory = λ home vs e. absurd (cc e) };
+    alikes = λ p q h k a. a;
+    begun = λ p q h k a. ap (λ (v : Past). v.begun) a.past;
+    shares = λ p q h k a. ap (λ (v : Holding). v.share) a.holding;
+    at_once = λ n h k. tt;
+    then_later = λ n h k h' k' h'' k'' l m. tt;
+    fewer = λ m n h k h' k' le l. tt;
+    locks = λ n p q h k a lock words g. record {
+      alike = record {
+        past = a.past;
+        holding = ap (λ (v : Holding). with_share v (with_lock v.share lock words)) a.holding;
+        share = self_with_lock SameWord k.share a.share lock words (guarded_self SameWord (λ w word. (refl, word)) setting.edge lock words g);
+        memory = a.memory;
+      };
+      later = tt;
+    };
+    unlocks = λ n p q h k a lock. record {
+      alike = record {
+        past = a.past;
+        holding = ap (λ (v : Holding). with_share v (without_lock v.share lock)) a.holding;
+        share = self_without_lock SameWord k.share a.share lock;
+        memory = a.memory;
+      };
+      later = tt;
+    };
+    begins = λ f g m p q h k a. record {
+      alike = record {
+        past = ap (λ v. one_begun target v) a.past;
+        holding = ap (λ v. with_set (fresh v) (target.name f) p.begun (target.blocks f) h) first_words ∙ set_equal (fresh source.first_word) f g m p.begun q.begun (ap (λ (v : Past). v.begun) a.past) h k a.holding;
+        share = a.share;
+        memory = set_words (fresh source.first_word) (fresh_words source.first_word first_is) k.memory a.memory (source.name g) q.begun 0 (source.blocks g);
+      };
+      later = tt;
+    };
+    ends = λ n f g m p q h k a. record {
+      settled = record {
+        past = a.past;
+        holding = set_equal gone f g m n n refl h k a.holding;
+        share = a.share;
+        memory = set_words gone (λ size. tt) k.memory a.memory (source.name g) n 0 (source.blocks g);
+      };
+      later = tt;
+    };
+    shows = λ p q h k a vs ws s e.
+        let past : p ≡ q = a.past in
+        subst (λ (v : Past). can_cross setting.layout v vs ≡ true) (sym past) (subst (λ us. can_cross setting.layout q us ≡ true) (sym (to_equal vs ws s)) e);
+    crosses = λ p q h k a vs ws s crossing ns e.
+        let past : p ≡ q = a.past in
+        let holding : h ≡ k = a.holding in (
+          ns,
+          ap (λ us. crosses_as setting.layout us p h crossing) (to_equal vs ws s) ∙ ap (λ v. crosses_as setting.layout ws v h crossing) past ∙ ap (λ v. crosses_as setting.layout ws q v crossing) holding ∙ e,
+          record { past = ap (λ v. with_naming v ns) past; holding = holding; share = a.share; memory = a.memory },
+        );
+    hears = λ n p q h k a before types crossing brings typed.
+        let past : p ≡ q = a.past in
+        let holding : h ≡ k = a.holding in
+        let both : brought_in R p h crossing ≡ brought_in R q k crossing = ap (λ v. brought_in R v h crossing) past ∙ ap (λ v. brought_in R q v crossing) holding in (
+          record {
+            settled = record {
+              past = ap (λ (v : Past). with_naming v (brought_in R v h crossing).naming) past ∙ ap (λ (v : Holding). with_naming q (brought_in R q v crossing).naming) holding;
+              holding = ap (λ (v : Past). heard R v h crossing) past ∙ ap (λ v. heard R q v crossing) holding;
+              share = share_brought setting.edge crossing.share brings.share;
+              memory = memory_brought crossing.objects (brought_words before crossing.objects brings.objects) k.memory a.memory q.naming 0;
+            };
+            later = tt;
+          },
+          same_if (all_taken (brought_in R p h crossing).naming crossing.values) (all_taken (brought_in R q k crossing).naming crossing.values)
+              (ap (λ (v : Past). all_taken (brought_in R v h crossing).naming crossing.values) past ∙ ap (λ (v : Holding). all_taken (brought_in R q v crossing).naming crossing.values) holding)
+              (all_taken_words crossing.objects (brought_in R p h crossing).naming types crossing.values typed),
+        );
+  }
+
+-- loads and stores in memories that are equal, and have words
+pub memory_words : MemoryKeeps SameWord (λ n m. n ≡ m) (λ t s. (t ≡ s) × HasWords s)
+memory_words = record {
+  loads = λ t s a home home' at at' p w g.
+      let old = memory_equal.loads t s a.0 home home' at at' p.0 w g in
+      (old.0, old.1, (old.2, subst IsWord (sym old.2) (loaded (s home') (block_of (s home') (λ vs e. a.1 home' vs e)) at' w g)));
+  stores = λ t s a home home' at at' p v w same ws g less.
+      let old = memory_equal.stores t s a.0 home home' at at' p.0 v w same.0 ws g less in
+      record {
+        block = old.block;
+        there = old.there;
+        within = old.within;
+        after = (old.after, with_words s a.1 home' (Some (slice_set ws at' w)) (words_set ws (a.1 home' ws g) at' w (subst IsWord same.0 same.1)));
+      };
+  lengths = λ t s a home home' at at' p. memory_equal.lengths t s a.0 home home' at at' p.0;
+}
+  where
+    loaded : (o : Option (List Value)) → BlockWords o → (at : ℕ) (w : Value) → value_in o at ≡ Some w → IsWord w
+    loaded None h at w e = absurd (cc e)
+    loaded (Some vs) h at w e = words_get vs h at w e
