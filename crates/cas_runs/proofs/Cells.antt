@@ -1,6 +1,6 @@
 -- The cells of blocks.
 use Rattle.std.proofs.Common.{◌≡◌, ℕ, zero, suc, ◌+◌, ◌<◌, ◌≤◌, List, [], ◌∷◌, ◌⊎◌, Option, Some, None, length, slice_get, slice_set, inl, inr, refl, sym, ap, ◌∙◌, subst, ⊎_elim, arith}
-use Rattle.cas_runs.specs.Naming.{Value, Number, cells, content, contents, refilled, overwritten, written, filled}
+use Rattle.cas_runs.specs.Naming.{Value, cells, content, contents, refilled, overwritten, written, filled}
 use Rattle.cas_runs.specs.Calls.{so_many}
 
 pub set_same : {X : Type 0} (xs : List X) (i : ℕ) (x : X) → i < length xs → slice_get (slice_set xs i x) i ≡ Some x

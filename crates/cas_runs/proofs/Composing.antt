@@ -1,6 +1,6 @@
 -- Refinements compose; a machine refines itself; and where the target names alone, each of its runs is kept, or the source is Bad before.
 use Rattle.std.proofs.Common.{◌≡◌, ℕ, List, [], ◌∷◌, ◌++◌, ◌⊎◌, Option, Some, inl, inr, refl, sym, ap, ◌∙◌, subst, ⊎_elim, arith, append_assoc}
-use Rattle.cas_runs.specs.Label.{NameBytes, RunLabel, Lock, Unlock, Out, Done, Enter, Back, Call, Leave}
+use Rattle.cas_runs.specs.Label.{RunLabel, Lock, Unlock, Out, Done, Enter, Back, Call, Leave}
 use Rattle.cas_runs.specs.Edge.{Edge}
 use Rattle.cas_runs.specs.Outside.{MayBring}
 use Rattle.cas_runs.specs.Machine.{Act, Quiet, Says, Crosses, Locks, Hears, Bad, Stops, Halt, Ended, Taken, Full, Saying, Unlocks, Prints, Ends, Opened, Machine, label_of, CanCross, Leads, Block, begun, Run, starts, quiet, labelled}

@@ -1,6 +1,6 @@
 -- A pass of which several steps are one step of the source is a pass.
-use Rattle.std.proofs.Common.{◌≡◌, ℕ, ◌+◌, ◌≤◌, List, [], ◌∷◌, ◌⊎◌, Option, Some, None, Bool, true, false, if◌then◌else◌, length, slice_get, slice_set, nat_lt, inl, inr, refl, sym, ap, ◌∙◌, subst, ⊎_elim, arith}
-use Rattle.cas_runs.specs.Label.{NameBytes, Share}
+use Rattle.std.proofs.Common.{◌≡◌, ℕ, ◌+◌, ◌≤◌, List, [], ◌⊎◌, Option, Some, None, Bool, true, false, if◌then◌else◌, length, slice_get, slice_set, nat_lt, inl, inr, refl, sym, ap, ◌∙◌, subst, ⊎_elim, arith}
+use Rattle.cas_runs.specs.Label.{Share}
 use Rattle.cas_runs.specs.Edge.{Cell, LockWord, SharedWord, TableWord}
 use Rattle.cas_runs.specs.Outside.{later}
 use Rattle.cas_runs.specs.Naming.{Home, Value, Number, Memory}

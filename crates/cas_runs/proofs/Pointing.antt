@@ -1,8 +1,8 @@
 -- A unit that shows another place of its variable doesn't refine.
-use Rattle.std.proofs.Common.{◌≡◌, ℕ, List, [], ◌∷◌, Option, Some, None, refl, sym, ap, ◌∙◌, subst, ⊎_elim, arith}
+use Rattle.std.proofs.Common.{◌≡◌, ℕ, [], ◌∷◌, Option, Some, None, refl, sym, ap, ◌∙◌, subst, ⊎_elim, arith}
 use Rattle.cas_base.specs.declared.kind.Kind.TheVariants.{I32}
 use Rattle.cas_runs.specs.Label.{Place, Inside, RunLabel, Enter, Call}
-use Rattle.cas_runs.specs.Machine.{Act, Quiet, Says, Crosses, Locks, Hears, Bad, Stops, Machine}
+use Rattle.cas_runs.specs.Machine.{Act, Quiet, Says, Crosses, Locks, Hears, Bad, Stops}
 use Rattle.cas_runs.specs.Outside.{MayBring}
 use Rattle.cas_runs.specs.Refines.{CrossesAs, Refines}
 use Rattle.cas_runs.specs.Calls.{Thread, hears, of_unit, no_past, no_holding}

@@ -1,14 +1,13 @@
 -- In the layer of calls a machine waits for the outside exactly after a Call or a Leave, and before the first label.
-use Rattle.std.proofs.Common.{◌≡◌, ℕ, List, [], ◌∷◌, Option, Some, None, Bool, true, false, if◌then◌else◌, refl, sym, subst}
-use Rattle.cas_runs.specs.Label.{NameBytes, same_name, Crossing, RunLabel, Lock, Unlock, Out, Done, Enter, Back, Call, Leave}
+use Rattle.std.proofs.Common.{◌≡◌, ℕ, List, [], ◌∷◌, Option, Some, None, Bool, true, false, if◌then◌else◌, sym, subst}
+use Rattle.cas_runs.specs.Label.{NameBytes, same_name, RunLabel, Lock, Unlock, Out, Done, Enter, Back, Call, Leave}
 use Rattle.cas_runs.specs.Edge.{results_of}
-use Rattle.cas_runs.specs.Outside.{MayBring}
-use Rattle.cas_runs.specs.Naming.{Value, Number, Naming, and_then, all_taken, brought}
-use Rattle.cas_runs.specs.Machine.{Act, Quiet, Says, Crosses, Locks, Hears, Bad, Stops, Machine, label_of, CanCross, Leads, Block, Run, starts as begins_run, quiet, labelled}
+use Rattle.cas_runs.specs.Naming.{Value, Naming, and_then, all_taken, brought}
+use Rattle.cas_runs.specs.Machine.{Act, Quiet, Says, Crosses, Locks, Hears, Bad, Stops, Machine, CanCross, Leads, Block, Run, starts as begins_run, quiet, labelled}
 use Rattle.cas_runs.specs.Rules.{HasCrossed, MayHear, IsHearing}
 use Rattle.cas_runs.specs.Access.{Holding, words_in, with_lock, without_lock}
 use Rattle.cas_runs.specs.Unit.{Setting, guard_of}
-use Rattle.cas_runs.specs.Calls.{Last, Goes, Takes, Gives, Puts, Calls, Tails, Returns, Activations, Scene, Frame, Waits, Outer, Past, Thread, Away, Runs, Leaves, Over, Wrong, can_cross, crosses_as, with_naming, to_outside, calls_by, leaves_by, crosses_if, kept_results, leaves_with, leaves_later, goes_back, returns, resumes, comes_back, with_share, takes_lock, takes, gives_lock, gives, find, without_own, calls_in, enters_at, enters, step_at, calls_out, calls, acts, hears, machine, no_past, no_holding, outside_first, starts}
+use Rattle.cas_runs.specs.Calls.{Last, Goes, Takes, Gives, Puts, Calls, Tails, Returns, Activations, Scene, Frame, Waits, Outer, Past, Thread, Away, Runs, Leaves, Over, Wrong, can_cross, crosses_as, with_naming, to_outside, calls_by, leaves_by, crosses_if, kept_results, leaves_with, leaves_later, goes_back, returns, resumes, comes_back, with_share, takes_lock, takes, gives_lock, gives, find, without_own, calls_in, enters_at, enters, step_at, calls_out, calls, acts, hears, machine}
 use Rattle.cas_runs.proofs.Composing.{said_stays, brought_stays}
 
 module _ {F A : Type 0} (l : Activations F A) (setting : Setting) (scene : Scene F) (start : Thread F A) where

@@ -1,20 +1,20 @@
 -- Passes that leave values and memory as they are, where every number is a word: what both threads hold keeps to the layer of calls.
-use Rattle.std.proofs.Common.{◌≡◌, ℕ, zero, suc, ◌+◌, ◌<◌, List, [], ◌∷◌, ◌⊎◌, Option, Some, None, Bool, true, false, if◌then◌else◌, length, slice_get, slice_set, refl, sym, ap, ◌∙◌, subst, ⊎_elim}
+use Rattle.std.proofs.Common.{◌≡◌, ℕ, zero, suc, ◌+◌, List, [], ◌∷◌, Option, Some, None, true, slice_get, slice_set, refl, sym, ap, ◌∙◌, subst, ⊎_elim}
 use Rattle.cas_base.specs.declared.kind.Kind.{Kind}
 use Rattle.cas_base.specs.declared.kind.Kind.TheVariants.{U32}
 use Rattle.cas_base.specs.declared.kind.Ty.{Ty}
 use Rattle.cas_base.specs.declared.kind.Ty.TheVariants.{Void, Int, Ptr, Array}
-use Rattle.cas_runs.specs.Label.{NameBytes, Shown, Word, Place, Object, Share, Crossing}
+use Rattle.cas_runs.specs.Label.{NameBytes, Shown, Word, Place, Object, Share}
 use Rattle.cas_runs.specs.Edge.{Edge, IsOfKind, IsOfType, AreOfTypes, IsShare}
-use Rattle.cas_runs.specs.Outside.{AreWordsOf, ChangesTo, NewContents, Continues, AreNew, Brings}
-use Rattle.cas_runs.specs.Naming.{Home, Own, Theirs, Value, Number, Pointer, Hidden, Named, Naming, Memory, and_then, with_block, died, value_at, taken, all_taken, refilled, overwritten, written, left_in, filled, new_block, brought}
+use Rattle.cas_runs.specs.Outside.{AreWordsOf, ChangesTo, NewContents, Continues, AreNew}
+use Rattle.cas_runs.specs.Naming.{Home, Own, Theirs, Value, Number, Named, Naming, Memory, and_then, with_block, died, value_at, taken, all_taken, refilled, overwritten, written, left_in, filled, new_block, brought}
 use Rattle.cas_runs.specs.Machine.{Block}
-use Rattle.cas_runs.specs.Access.{Holding, with_lock, without_lock, value_in, length_of}
+use Rattle.cas_runs.specs.Access.{Holding, with_lock, without_lock, value_in}
 use Rattle.cas_runs.specs.Unit.{Setting}
-use Rattle.cas_runs.specs.Forms.{LengthsAlike, Stored, MemoryKeeps, AreSelfSame, ShareSelfSame}
+use Rattle.cas_runs.specs.Forms.{MemoryKeeps, ShareSelfSame}
 use Rattle.cas_runs.specs.Calls.{Activations, Past, so_many, set_blocks, fresh, gone, one_begun, with_share, can_cross, crosses_as, with_naming}
 use Rattle.cas_runs.specs.Passing.{Relation, AllSame, SameIf, brought_in, heard, Keeps}
-use Rattle.cas_runs.specs.Worded.{IsWord, AreWords, HasWords, SameWord, EqualWords, keeps_words}
+use Rattle.cas_runs.specs.Worded.{IsWord, AreWords, HasWords, SameWord, keeps_words}
 use Rattle.cas_runs.proofs.Words.{kind_word, guarded_self, self_with_lock, self_without_lock}
 use Rattle.cas_runs.proofs.Unmoved.{memory_equal}
 use Rattle.cas_runs.proofs.Placing.{with_here, with_elsewhere, same_or_not}

@@ -1,12 +1,11 @@
 -- The words of a share that are the same as themselves, where values are the same.
-use Rattle.std.proofs.Common.{◌≡◌, ℕ, zero, suc, ◌+◌, ◌<◌, List, [], ◌∷◌, Option, Some, None, Bool, true, false, if◌then◌else◌, slice_get, slice_set, nat_eq, nat_lt, refl, sym, subst, arith}
+use Rattle.std.proofs.Common.{◌≡◌, ℕ, zero, suc, List, [], ◌∷◌, Some, Bool, true, false, if◌then◌else◌, slice_get, slice_set, nat_eq, nat_lt, subst, arith}
 use Rattle.std.proofs.lemmas.Bool.Decides.{nat_tests}
 use Rattle.std.proofs.lemmas.Int.{ints}
-use Rattle.cas_base.specs.Kind.{is_of_kind}
 use Rattle.cas_base.specs.declared.kind.Kind.{Kind}
 use Rattle.cas_base.specs.declared.kind.Kind.TheVariants.{I8, U8, I16, U16, I32, U32}
 use Rattle.cas_runs.specs.Label.{Share}
-use Rattle.cas_runs.specs.Edge.{Cell, LockWord, SharedWord, TableWord, Edge, IsOfKind, AreOfKinds, guarded, AreGuarded}
+use Rattle.cas_runs.specs.Edge.{Cell, TableWord, Edge, IsOfKind, AreOfKinds, guarded, AreGuarded}
 use Rattle.cas_runs.specs.Naming.{Value, Number}
 use Rattle.cas_runs.specs.Access.{words_in, with_lock, without_lock, with_words}
 use Rattle.cas_runs.specs.Unit.{IsInKind, AreInKind}

@@ -1,12 +1,12 @@
 -- A pass may drop the sum of a word and 0, since what it reads are words.
-use Rattle.std.proofs.Common.{◌≡◌, ℕ, zero, suc, ◌+◌, ◌≤◌, ◌<◌, List, [], ◌∷◌, length, slice_set, Option, Some, None, refl, sym, ap, ◌∙◌, subst, arith}
+use Rattle.std.proofs.Common.{◌≡◌, ℕ, List, [], ◌∷◌, refl, sym, ap, ◌∙◌, subst, arith}
 use Rattle.std.proofs.lemmas.Bool.Decides.{nat_tests}
 use Rattle.std.proofs.lemmas.Int.{ints}
 use Rattle.cas_base.specs.declared.decl.Unit.{Unit as UnitOf}
 use Rattle.cas_base.specs.declared.kind.Kind.TheVariants.{U32}
 use Rattle.cas_base.specs.Word.{word_add}
 use Rattle.cas_runs.specs.Edge.{IsOfKind}
-use Rattle.cas_runs.specs.Naming.{Value, Number, Layout, Memory}
+use Rattle.cas_runs.specs.Naming.{Value, Layout, Memory}
 use Rattle.cas_runs.specs.Bounds.{IsPrice}
 use Rattle.cas_runs.specs.Unit.{Setting, AreDistinct, IsEdge, IsLayout, UnitRefines}
 use Rattle.cas_runs.specs.Calls.{Last, Puts, language}
