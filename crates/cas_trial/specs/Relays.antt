@@ -1,6 +1,6 @@
--- Two small languages without blocks of memory. A program's function `main` calls `show` with a word and returns its result: by a call and a return,
--- or by a tail call.
-use Rattle.std.specs.Prelude.{◌≡◌, ℕ, List, [], ◌∷◌, Option, Some, None}
+-- Two small languages without blocks of memory. A program's function `main` calls `show` with a word and returns its result, or nothing: by a call and
+-- a return, or by a tail call.
+use Rattle.std.specs.Prelude.{◌≡◌, ℕ, List, [], ◌∷◌, ◌++◌, Option, Some, None}
 use Rattle.cas_runs.specs.Naming.{Value, Number}
 use Rattle.cas_runs.specs.Machine.{Block}
 use Rattle.cas_runs.specs.Refines.{Within}
@@ -23,24 +23,33 @@ enters word (v ∷ vs) = None
 abbrev pub hands : List Value → Option Relay
 hands values = Some (Hands values)
 
-abbrev pub calling_form : Relay → Accesses (Last Relay)
-calling_form (Begins word) = Then (Calls show_name (Number word ∷ []) hands)
-calling_form (Hands values) = Then (Returns values)
+-- which of the results that come the function returns
+abbrev pub calling_form : (List Value → List Value) → Relay → Accesses (Last Relay)
+calling_form returned (Begins word) = Then (Calls show_name (Number word ∷ []) hands)
+calling_form returned (Hands values) = Then (Returns (returned values))
 
 abbrev pub tailing_form : Relay → Accesses (Last Relay)
 tailing_form (Begins word) = Then (Tails show_name (Number word ∷ []))
 tailing_form (Hands values) = Then (Returns values)
 
 -- with a call and a return
-abbrev pub calling : Activations Relaying Relay
-calling = record {
+abbrev pub calling_by : (List Value → List Value) → Activations Relaying Relay
+calling_by returned = record {
   name = λ f. main_name;
   blocks = λ f. [];
   first_word = Number 0;
   enter = λ f serial values. enters f.word values;
-  form = calling_form;
+  form = calling_form returned;
   tariff = ByForms (λ a. 2) (λ a. []) 1 (λ f. 0) (λ f. 0) (λ f. 2 ∷ 2 ∷ []);
 }
+
+-- it returns the result
+abbrev pub calling : Activations Relaying Relay
+calling = calling_by (λ values. values)
+
+-- it returns nothing
+abbrev pub dropping : Activations Relaying Relay
+dropping = calling_by (λ values. [])
 
 -- with a tail call
 abbrev pub tailing : Activations Relayed Relay
@@ -60,3 +69,7 @@ IsTailing to from = to.word ≡ from.word
 -- both stand at their calls: after its call the target has nothing more to do
 pub data AtCall : ℕ → Relay → Holding → Block → Relay → Holding → Block → Type 0 where
   at_call : {n word : ℕ} {h k : Holding} {b c : Block} → Within b c → AtCall n (Begins word) h b (Begins word) k c
+
+-- the results that it returns are the first of those that come
+abbrev pub ReturnsFirst : (List Value → List Value) → Type 0
+ReturnsFirst returned = (values : List Value) → (more : List Value) × (values ≡ returned values ++ more)

@@ -10,4 +10,4 @@ mod tests;
 
 pub use joining::{Apart, Joined, Joining, join, joined_weighs_less, threads_join, units_join};
 pub use laws::{a_unit_fits, apart_keeps_rules, pointer_comes_back, units_slow, units_sum};
-pub use tailing::{Relayed, Relaying, TailCalls, relay, units_relay};
+pub use tailing::{Relayed, Relaying, TailCalls, relay, units_drop, units_relay};

@@ -5,7 +5,7 @@ ghost use Rattle.cas_runs.specs.Calls.{language};
 ghost use Rattle.cas_runs.specs.Passing.{AllMade};
 ghost use Rattle.cas_runs.specs.Unit.{AreDistinct, FunctionRefines, UnitRefines};
 ghost use Rattle.cas_runs.specs.Unmoved.{Equal};
-ghost use Rattle.cas_trial.specs.Relays.{AtCall, IsTailing, Relay, calling, tailing};
+ghost use Rattle.cas_trial.specs.Relays.{AtCall, IsTailing, Relay, calling, dropping, tailing};
 ghost use Rattle.cas_trial.specs.Stages.{main_name};
 
 use cas_base::NoMemory;
@@ -61,10 +61,10 @@ impl FunctionPass for TailCalls {
 
     fn names_stay() {}
 
-    #[tactic(auto, using(crate::proofs::Tailcalls::tails_laid_out))]
+    #[tactic(auto, using(crate::proofs::Tailcalls::result_laid_out))]
     fn laid_out_too() {}
 
-    #[tactic(auto, using(crate::proofs::Tailcalls::tails_pass))]
+    #[tactic(auto, using(crate::proofs::Tailcalls::result_pass))]
     fn passes() {}
 }
 
@@ -86,3 +86,9 @@ pub fn units_relay()
 {
     units_refine::<TailCalls>();
 }
+
+/// So do units of programs that return nothing of the result: who called them takes none.
+#[tactic(auto, using(crate::proofs::Tailcalls::units_drop))]
+pub fn units_drop()
+    ensures { (s : UnitOf Relaying) (t : UnitOf Relayed) → t.decls ≡ s.decls → t.globals ≡ s.globals → AllMade IsTailing t.funs s.funs → AreDistinct (language dropping) s.funs → UnitRefines (language tailing) (language dropping) t s }
+{}
