@@ -3,6 +3,7 @@ pub mod Cells
 pub mod Closed
 pub mod Composing
 pub mod Determined
+pub mod Entered
 pub mod Forwarding
 pub mod Keeping
 pub mod Lifted

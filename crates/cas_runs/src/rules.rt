@@ -1,11 +1,14 @@
-ghost use Rattle.std.specs.Prelude.{ℕ, ◌≤◌, List, [], ◌∷◌};
+ghost use Rattle.std.specs.Prelude.{◌≡◌, ℕ, ◌≤◌, List, [], ◌∷◌};
+ghost use Rattle.cas_base.specs.declared.decl.Decl.{Decl};
+ghost use Rattle.cas_base.specs.declared.decl.Unit.{Unit as UnitOf};
+ghost use Rattle.cas_base.specs.Unit.{IsInOrder};
 ghost use Rattle.cas_runs.specs.Bounds.{IsTariff};
 ghost use Rattle.cas_runs.specs.Calls.{Activations, Thread, language};
 ghost use Rattle.cas_runs.specs.Label.{ArePlain, NameBytes, RunLabel};
 ghost use Rattle.cas_runs.specs.Machine.{Block, Run};
 ghost use Rattle.cas_runs.specs.Rules.{CallsOut, KeepsKinds, KeepsRules};
 ghost use Rattle.cas_runs.specs.Sections.{Instruction, StoresWords, one_lock, sections};
-ghost use Rattle.cas_runs.specs.Unit.{has_function, IsLayout, OnlyInside, Setting};
+ghost use Rattle.cas_runs.specs.Unit.{FitsUnit, IsLayout, Setting};
 
 /// The rules can be kept: a small language of critical sections keeps them, whatever its program does.
 pub fn sections_keep_rules()
@@ -43,7 +46,8 @@ pub fn threads_never_cross<F, A>()
     ensures { (l : Activations F A) (setting : Setting) (fs : List F) (entry : NameBytes) (thread : ℕ) (ls : List RunLabel) (bs : List Block) (b : Block) (x : Thread F A) → Run setting.edge ((language l).thread setting fs entry thread) ls bs b x → ArePlain ls }
 {}
 
-/// The machine of a unit calls over its edge no function of its own, where the edge has these inside.
+/// The machine of a unit whose functions are its defined declarations calls over its edge no function that the
+/// edge has inside.
 pub fn units_call_out<F, A>()
-    ensures { (l : Activations F A) (setting : Setting) (fs : List F) → OnlyInside (has_function (language l) fs) setting.edge.functions → CallsOut setting.edge ((language l).unit setting fs) }
+    ensures { (l : Activations F A) (decl_of : F → Decl) (unit : UnitOf F) (setting : Setting) → ((f : F) → (decl_of f).name ≡ l.name f) → IsInOrder decl_of unit → FitsUnit setting.edge setting.words unit.decls unit.globals → CallsOut setting.edge ((language l).unit setting unit.funs) }
 {}
