@@ -2,6 +2,7 @@ pub mod Bringing
 pub mod Cells
 pub mod Closed
 pub mod Composing
+pub mod Declared
 pub mod Determined
 pub mod Entered
 pub mod Forwarding

@@ -11,7 +11,7 @@ use Rattle.cas_runs.specs.Machine.{Block}
 use Rattle.cas_runs.specs.Refines.{Refines}
 use Rattle.cas_runs.specs.Simulation.{related}
 use Rattle.cas_runs.specs.Access.{Holding, Words}
-use Rattle.cas_runs.specs.Unit.{Setting, laid_out, names_of, AreDistinct, IsEdge, IsLayout, UnitRefines, FunctionRefines, ThreadRefines}
+use Rattle.cas_runs.specs.Unit.{Setting, laid_out, names_of, AreDistinct, IsEdge, FitsProgram, IsLayout, UnitRefines, FunctionRefines, ThreadRefines}
 use Rattle.cas_runs.specs.Calls.{Activations, Past, machine, outside_first, starts, find, no_past, no_holding, language}
 use Rattle.cas_runs.specs.Passing.{Relation, IsPass, AllMade, IsMember, MadeAmong, relation}
 use Rattle.cas_runs.proofs.Lifting.{away, bottom, waits_within, lifted_refines, find_alike, enters_too}
@@ -76,11 +76,12 @@ module _ {F A G B : Type 0} (target : Activations F A) (source : Activations G B
     refines = λ setting fits laid. outward_refines (relation target source made naming same alike settled later match (f ∷ []) (g ∷ []) setting) (passes setting (f ∷ []) (g ∷ []) (h, tt) (one_distinct g) fits.edge_is laid) (among_all made (f ∷ []) (g ∷ []) (h, tt)) [] [] tt;
   }
 
-  pub threads_pass : (edge : Edge) (words : Words) (ts : List F) (ss : List G) (entry : NameBytes) (thread : ℕ) → IsEdge edge → IsOfKind thread U32 → AllMade made ts ss → AreDistinct (language source) ss → ThreadRefines (language target) (language source) edge words ts ss entry thread
-  threads_pass edge words ts ss entry thread is_edge word all distinct = record {
+  pub threads_pass : (edge : Edge) (words : Words) (decls : List Decl) (ts : List F) (ss : List G) (entry : NameBytes) (thread : ℕ) → FitsProgram (language source) edge words decls ss entry → IsOfKind thread U32 → AllMade made ts ss → AreDistinct (language source) ss → ThreadRefines (language target) (language source) edge words decls ts ss entry thread
+  threads_pass edge words decls ts ss entry thread fits word all distinct = record {
+    fits = fits;
     naming = naming ss;
     laid_out_too = laid_out_too ts ss all distinct;
-    refines = λ layout stack unknown laid.
-        let setting : Setting = record { edge = edge; words = words; layout = layout; stack = stack; unknown = unknown } in
-        thread_refines (relation target source made naming same alike settled later match ts ss setting) (passes setting ts ss all distinct is_edge laid) (among_all made ts ss all) entry thread word;
+    refines = λ layout stack code unknown is laid.
+        let setting : Setting = record { edge = edge; words = words; layout = layout; stack = stack; code = code; unknown = unknown } in
+        thread_refines (relation target source made naming same alike settled later match ts ss setting) (passes setting ts ss all distinct fits.edge_is laid) (among_all made ts ss all) entry thread word;
   }

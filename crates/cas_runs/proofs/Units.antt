@@ -17,7 +17,7 @@ module _ {F G H T S R : Type 0} (lt : Language F T) (ls : Language G S) (lr : La
     naming = λ l. h.naming (k.naming l);
     laid_out_too = λ l p. h.laid_out_too (k.naming l) (k.laid_out_too l p);
     refines = λ setting fits laid.
-        let middle : FitsUnit setting.edge setting.words s.decls s.globals = subst (λ g. FitsUnit setting.edge setting.words s.decls g) (sym k.globals) (subst (λ d. FitsUnit setting.edge setting.words d r.globals) (sym k.decls) fits) in
+        let middle : FitsUnit setting.edge setting.words setting.stack s.decls s.globals = subst (λ g. FitsUnit setting.edge setting.words setting.stack s.decls g) (sym k.globals) (subst (λ d. FitsUnit setting.edge setting.words setting.stack d r.globals) (sym k.decls) fits) in
         refines_both setting.edge (lt.unit (laid_out setting (h.naming (k.naming setting.layout))) t.funs) (ls.unit (laid_out setting (k.naming setting.layout)) s.funs) (lr.unit setting r.funs)
         (h.refines (laid_out setting (k.naming setting.layout)) middle (k.laid_out_too setting.layout laid)) (k.refines setting fits laid);
   }
@@ -33,13 +33,14 @@ module _ {F G H T S R : Type 0} (lt : Language F T) (ls : Language G S) (lr : La
         (h.refines (laid_out setting (k.naming setting.layout)) fits (k.laid_out_too setting.layout laid)) (k.refines setting fits laid);
   }
 
-  pub threads_both : (edge : Edge) (words : Words) (ts : List F) (ss : List G) (rs : List H) (entry : NameBytes) (thread : ℕ) → ThreadRefines lt ls edge words ts ss entry thread → ThreadRefines ls lr edge words ss rs entry thread → ThreadRefines lt lr edge words ts rs entry thread
-  threads_both edge words ts ss rs entry thread h k = record {
+  pub threads_both : (edge : Edge) (words : Words) (decls : List Decl) (ts : List F) (ss : List G) (rs : List H) (entry : NameBytes) (thread : ℕ) → ThreadRefines lt ls edge words decls ts ss entry thread → ThreadRefines ls lr edge words decls ss rs entry thread → ThreadRefines lt lr edge words decls ts rs entry thread
+  threads_both edge words decls ts ss rs entry thread h k = record {
+    fits = k.fits;
     naming = λ l. h.naming (k.naming l);
     laid_out_too = λ l p. h.laid_out_too (k.naming l) (k.laid_out_too l p);
-    refines = λ layout stack unknown laid. refines_both edge
-        (lt.thread (record { edge = edge; words = words; layout = h.naming (k.naming layout); stack = stack; unknown = unknown }) ts entry thread)
-        (ls.thread (record { edge = edge; words = words; layout = k.naming layout; stack = stack; unknown = unknown }) ss entry thread)
-        (lr.thread (record { edge = edge; words = words; layout = layout; stack = stack; unknown = unknown }) rs entry thread)
-        (h.refines (k.naming layout) stack unknown (k.laid_out_too layout laid)) (k.refines layout stack unknown laid);
+    refines = λ layout stack code unknown is laid. refines_both edge
+        (lt.thread (record { edge = edge; words = words; layout = h.naming (k.naming layout); stack = stack; code = code; unknown = unknown }) ts entry thread)
+        (ls.thread (record { edge = edge; words = words; layout = k.naming layout; stack = stack; code = code; unknown = unknown }) ss entry thread)
+        (lr.thread (record { edge = edge; words = words; layout = layout; stack = stack; code = code; unknown = unknown }) rs entry thread)
+        (h.refines (k.naming layout) stack code unknown is (k.laid_out_too layout laid)) (k.refines layout stack code unknown is laid);
   }

@@ -1,7 +1,7 @@
 -- Refinement of units, of functions and of threads, in any two languages of the compiler.
-use Rattle.std.specs.Prelude.{◌≡◌, ℕ, ◌+◌, ◌<◌, ◌≤◌, Bool, true, false, ◌&&◌, if◌then◌else◌, List, [], ◌∷◌, length, Option, Some, None, slice_get, ◌⊎◌}
+use Rattle.std.specs.Prelude.{◌≡◌, ℕ, ◌+◌, ◌*◌, ◌^◌, ◌<◌, ◌≤◌, Bool, true, false, ◌&&◌, if◌then◌else◌, List, [], ◌∷◌, length, Option, Some, None, slice_get, ◌⊎◌}
 use Rattle.std.specs.List.{IsDistinct}
-use Rattle.cas_base.specs.declared.kind.Kind.TheVariants.{U32}
+use Rattle.cas_base.specs.declared.kind.Kind.TheVariants.{I32, U32}
 use Rattle.cas_base.specs.declared.kind.Ty.{Ty}
 use Rattle.cas_base.specs.declared.kind.Ty.TheVariants.{Void, Int, Ptr, Array}
 use Rattle.cas_base.specs.declared.decl.Decl.{Decl}
@@ -11,7 +11,7 @@ use Rattle.cas_base.specs.declared.decl.Global.{Global}
 use Rattle.cas_base.specs.declared.decl.Unit.{Unit as UnitOf}
 use Rattle.cas_base.specs.Ty.{words_of_ty}
 use Rattle.cas_runs.specs.Label.{NameBytes, same_name}
-use Rattle.cas_runs.specs.Edge.{Cell, LockWord, SharedWord, TableWord, Signature, Edge, signature_of, IsOfKind, most_words}
+use Rattle.cas_runs.specs.Edge.{Cell, LockWord, SharedWord, TableWord, Signature, Edge, signature_of, IsOfKind, most_words, most_live}
 use Rattle.cas_runs.specs.Access.{Stretch, Words}
 use Rattle.cas_runs.specs.Naming.{Layout, Part, ArePlaced}
 use Rattle.cas_runs.specs.Machine.{Machine}
@@ -23,18 +23,33 @@ pub record Stack : Type 0 where
   pub address : ℕ
   pub size : ℕ
 
--- where a machine runs: the edge, where the words of each global and lock stand, which stretches of blocks are objects, the stack, and the values that
--- nothing fixes, as flags and words below the stack's top after a call of the lock: at each occasion one for each place
+-- the address of the first word of globals and locks. The others follow, four bytes each
+abbrev pub first_address : ℕ
+first_address = 4096
+
+-- a stack that a thread can have at the edge: at whole words past those of globals and locks, not too small or too large, with addresses that are words
+pub record IsStack (edge : Edge) (stack : Stack) : Type 0 where
+  pub words_before : ℕ
+  pub aligned : stack.address ≡ 4 * words_before
+  pub past_words : first_address + 4 * length edge.cells ≤ stack.address
+  pub in_reach : stack.address + 4 * stack.size ≤ 2 ^ 32
+  pub least : 16 ≤ stack.size
+  pub most : stack.size ≤ most_live
+
+-- where a machine runs: the edge, where the words of each global and lock stand, which stretches of blocks are objects, the stack, the place of each
+-- function's first instruction, and the values that nothing fixes, at each occasion one for each place. Those are flags and words below the stack's top
+-- after a call of the lock; and at Enter and Back esp, the registers that a function keeps, the return word and the addresses of the outside's objects
 pub record Setting : Type 0 where
   pub edge : Edge
   pub words : Words
   pub layout : Layout
   pub stack : Stack
+  pub code : NameBytes → ℕ
   pub unknown : (occasion place : ℕ) → ℕ
 
 -- the setting with another layout
 abbrev pub laid_out : Setting → Layout → Setting
-laid_out setting layout = record { edge = setting.edge; words = setting.words; layout = layout; stack = setting.stack; unknown = setting.unknown }
+laid_out setting layout = record { edge = setting.edge; words = setting.words; layout = layout; stack = setting.stack; code = setting.code; unknown = setting.unknown }
 
 -- a language: of its functions F the names and the sizes of an activation's blocks, and its runs with states S
 pub record Language (F S : Type 0) : Type 0 where
@@ -194,19 +209,39 @@ pub record IsEdge (edge : Edge) : Type 0 where
   pub few : length edge.cells ≤ most_words
   pub kinds : AreInKind edge.cells
 
--- an edge at which a unit with these declarations and data may run
-pub record FitsUnit (edge : Edge) (words : Words) (decls : List Decl) (globals : List Global) : Type 0 where
+-- an edge and a stack at which a unit with these declarations and data may run
+pub record FitsUnit (edge : Edge) (words : Words) (stack : Stack) (decls : List Decl) (globals : List Global) : Type 0 where
   pub edge_is : IsEdge edge
+  pub stack_is : IsStack edge stack
   pub declared : AreDeclared edge words decls
   pub data_there : HaveData edge words globals
   pub apart : AllApart words decls
   pub entered : OnlyInside (defines decls) edge.functions
 
--- an edge at which a function of this declaration may run alone
-pub record FitsFunction (edge : Edge) (words : Words) (decl : Decl) : Type 0 where
+-- an edge and a stack at which a function of this declaration may run alone
+pub record FitsFunction (edge : Edge) (words : Words) (stack : Stack) (decl : Decl) : Type 0 where
   pub edge_is : IsEdge edge
+  pub stack_is : IsStack edge stack
   pub declared : IsDeclared edge words decl.name decl.form
   pub entered : OnlyInside (same_name decl.name) edge.functions
+
+-- the function has the type of a thread's entry: it takes the thread's number, returns nothing and holds no lock
+pub record IsEntry (edge : Edge) (entry : NameBytes) : Type 0 where
+  pub signature : Signature
+  pub known : signature_of edge.functions entry ≡ Some signature
+  pub ret : signature.ret ≡ Void
+  pub params : signature.params ≡ Int I32 ∷ []
+  pub holds : signature.holds ≡ []
+
+-- an edge at which a thread of a whole program may run: the edge has all that the program declares, each of the program's functions is declared as
+-- defined, and the entry is one of them
+pub record FitsProgram {F S : Type 0} (l : Language F S) (edge : Edge) (words : Words) (decls : List Decl) (fs : List F) (entry : NameBytes) : Type 0 where
+  pub edge_is : IsEdge edge
+  pub declared : AreDeclared edge words decls
+  pub apart : AllApart words decls
+  pub defined : (name : NameBytes) → has_function l fs name ≡ true → defines decls name ≡ true
+  pub there : has_function l fs entry ≡ true
+  pub entry_is : IsEntry edge entry
 
 -- the unit t refines the unit s: their declarations, their data and the names of their functions are equal, and its runs refine those of s in each setting of s, where its own objects are
 -- at the places that the naming gives
@@ -216,7 +251,7 @@ pub record UnitRefines {F G S T : Type 0} (lt : Language F T) (ls : Language G S
   pub names : names_of lt t.funs ≡ names_of ls s.funs
   pub naming : Layout → Layout
   pub laid_out_too : (layout : Layout) → IsLayout ls s.funs layout → IsLayout lt t.funs (naming layout)
-  pub refines : (setting : Setting) → FitsUnit setting.edge setting.words s.decls s.globals → IsLayout ls s.funs setting.layout → Refines setting.edge (lt.unit (laid_out setting (naming setting.layout)) t.funs) (ls.unit setting s.funs)
+  pub refines : (setting : Setting) → FitsUnit setting.edge setting.words setting.stack s.decls s.globals → IsLayout ls s.funs setting.layout → Refines setting.edge (lt.unit (laid_out setting (naming setting.layout)) t.funs) (ls.unit setting s.funs)
 
 -- the function t refines the function s, where this is the declaration of both
 pub record FunctionRefines {F G S T : Type 0} (lt : Language F T) (ls : Language G S) (decl : Decl) (t : F) (s : G) : Type 0 where
@@ -224,10 +259,11 @@ pub record FunctionRefines {F G S T : Type 0} (lt : Language F T) (ls : Language
   pub source_name : ls.name s ≡ decl.name
   pub naming : Layout → Layout
   pub laid_out_too : (layout : Layout) → IsLayout ls (s ∷ []) layout → IsLayout lt (t ∷ []) (naming layout)
-  pub refines : (setting : Setting) → FitsFunction setting.edge setting.words decl → IsLayout ls (s ∷ []) setting.layout → Refines setting.edge (lt.alone (laid_out setting (naming setting.layout)) t) (ls.alone setting s)
+  pub refines : (setting : Setting) → FitsFunction setting.edge setting.words setting.stack decl → IsLayout ls (s ∷ []) setting.layout → Refines setting.edge (lt.alone (laid_out setting (naming setting.layout)) t) (ls.alone setting s)
 
--- at these words, the thread of this entry and number of a whole program refines the one of another program
-pub record ThreadRefines {F G S T : Type 0} (lt : Language F T) (ls : Language G S) (edge : Edge) (words : Words) (ts : List F) (ss : List G) (entry : NameBytes) (thread : ℕ) : Type 0 where
+-- at an edge that fits the program s of these declarations, the thread of this entry and number of the program t refines that of s, on each stack that it can have
+pub record ThreadRefines {F G S T : Type 0} (lt : Language F T) (ls : Language G S) (edge : Edge) (words : Words) (decls : List Decl) (ts : List F) (ss : List G) (entry : NameBytes) (thread : ℕ) : Type 0 where
+  pub fits : FitsProgram ls edge words decls ss entry
   pub naming : Layout → Layout
   pub laid_out_too : (layout : Layout) → IsLayout ls ss layout → IsLayout lt ts (naming layout)
-  pub refines : (layout : Layout) (stack : Stack) (unknown : (occasion place : ℕ) → ℕ) → IsLayout ls ss layout → Refines edge (lt.thread (record { edge = edge; words = words; layout = naming layout; stack = stack; unknown = unknown }) ts entry thread) (ls.thread (record { edge = edge; words = words; layout = layout; stack = stack; unknown = unknown }) ss entry thread)
+  pub refines : (layout : Layout) (stack : Stack) (code : NameBytes → ℕ) (unknown : (occasion place : ℕ) → ℕ) → IsStack edge stack → IsLayout ls ss layout → Refines edge (lt.thread (record { edge = edge; words = words; layout = naming layout; stack = stack; code = code; unknown = unknown }) ts entry thread) (ls.thread (record { edge = edge; words = words; layout = layout; stack = stack; code = code; unknown = unknown }) ss entry thread)

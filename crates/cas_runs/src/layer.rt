@@ -9,7 +9,7 @@ ghost use Rattle.cas_runs.specs.Label.{NameBytes};
 ghost use Rattle.cas_runs.specs.Machine.{Block};
 ghost use Rattle.cas_runs.specs.Naming.{Layout, Value};
 ghost use Rattle.cas_runs.specs.Passing.{AllMade, IsPass, relation};
-ghost use Rattle.cas_runs.specs.Unit.{AreDistinct, FunctionRefines, IsEdge, IsLayout, Setting, ThreadRefines, UnitRefines};
+ghost use Rattle.cas_runs.specs.Unit.{AreDistinct, FitsProgram, FunctionRefines, IsEdge, IsLayout, Setting, ThreadRefines, UnitRefines};
 
 use cas_base::NoMemory;
 use std::alloc::Global;
@@ -82,9 +82,9 @@ pub fn units_refine<P: FunctionPass>()
 }
 
 /// Each thread of a whole program of such functions refines the thread of the other program, whose names are
-/// distinct, at an edge that a program can have. The thread's number is a word.
+/// distinct, at an edge that fits that. The thread's number is a word.
 pub fn threads_refine<P: FunctionPass>()
-    ensures { (edge : Edge) (words : Words) (ss : List P.Source) (ts : List P.Target) (entry : NameBytes) (thread : ℕ) → IsEdge edge → IsOfKind thread U32 → AllMade P.made ts ss → AreDistinct (language P.source) ss → ThreadRefines (language P.target) (language P.source) edge words ts ss entry thread }
+    ensures { (edge : Edge) (words : Words) (decls : List Decl) (ss : List P.Source) (ts : List P.Target) (entry : NameBytes) (thread : ℕ) → FitsProgram (language P.source) edge words decls ss entry → IsOfKind thread U32 → AllMade P.made ts ss → AreDistinct (language P.source) ss → ThreadRefines (language P.target) (language P.source) edge words decls ts ss entry thread }
 {
     P::names_stay();
     P::laid_out_too();

@@ -1,14 +1,16 @@
-ghost use Rattle.std.specs.Prelude.{◌≡◌, ℕ, ◌≤◌, List, [], ◌∷◌};
+ghost use Rattle.std.specs.Prelude.{◌≡◌, ℕ, ◌≤◌, List, [], ◌∷◌, Some, true};
 ghost use Rattle.cas_base.specs.declared.decl.Decl.{Decl};
 ghost use Rattle.cas_base.specs.declared.decl.Unit.{Unit as UnitOf};
 ghost use Rattle.cas_base.specs.Unit.{IsInOrder};
+ghost use Rattle.cas_runs.specs.Access.{Words};
 ghost use Rattle.cas_runs.specs.Bounds.{IsTariff};
 ghost use Rattle.cas_runs.specs.Calls.{Activations, Thread, language};
+ghost use Rattle.cas_runs.specs.Edge.{Edge, results_of};
 ghost use Rattle.cas_runs.specs.Label.{ArePlain, NameBytes, RunLabel};
 ghost use Rattle.cas_runs.specs.Machine.{Block, Run};
 ghost use Rattle.cas_runs.specs.Rules.{CallsOut, KeepsKinds, KeepsRules};
 ghost use Rattle.cas_runs.specs.Sections.{Instruction, StoresWords, one_lock, sections};
-ghost use Rattle.cas_runs.specs.Unit.{FitsUnit, IsLayout, Setting};
+ghost use Rattle.cas_runs.specs.Unit.{FitsProgram, FitsUnit, IsLayout, Language, Setting, has_function};
 
 /// The rules can be kept: a small language of critical sections keeps them, whatever its program does.
 pub fn sections_keep_rules()
@@ -49,5 +51,11 @@ pub fn threads_never_cross<F, A>()
 /// The machine of a unit whose functions are its defined declarations calls over its edge no function that the
 /// edge has inside.
 pub fn units_call_out<F, A>()
-    ensures { (l : Activations F A) (decl_of : F → Decl) (unit : UnitOf F) (setting : Setting) → ((f : F) → (decl_of f).name ≡ l.name f) → IsInOrder decl_of unit → FitsUnit setting.edge setting.words unit.decls unit.globals → CallsOut setting.edge ((language l).unit setting unit.funs) }
+    ensures { (l : Activations F A) (decl_of : F → Decl) (unit : UnitOf F) (setting : Setting) → ((f : F) → (decl_of f).name ≡ l.name f) → IsInOrder decl_of unit → FitsUnit setting.edge setting.words setting.stack unit.decls unit.globals → CallsOut setting.edge ((language l).unit setting unit.funs) }
+{}
+
+/// At an edge that fits a whole program it is known of each of its functions how many values it returns. So a
+/// return to a function of the program is no step without a meaning for want of that.
+pub fn programs_know_results<F, S>()
+    ensures { (l : Language F S) (edge : Edge) (words : Words) (decls : List Decl) (fs : List F) (entry : NameBytes) → FitsProgram l edge words decls fs entry → (name : NameBytes) → has_function l fs name ≡ true → (n : ℕ) × (results_of edge name ≡ Some n) }
 {}

@@ -3,3 +3,4 @@ pub mod Joins
 pub mod Slowing
 pub mod Sums
 pub mod Tailcalls
+pub mod Whole

@@ -4,3 +4,4 @@ pub mod Places
 pub mod Relays
 pub mod Stages
 pub mod Sums
+pub mod Whole

@@ -1,0 +1,82 @@
+-- A whole program of two functions, `void f(void) { }` and `void main(int me) { f(); print(1); }`, an edge that fits it, and the labels of its thread.
+use Rattle.std.specs.Prelude.{ℕ, false, true, List, [], ◌∷◌, Option, Some, None}
+use Rattle.cas_base.specs.declared.kind.Kind.TheVariants.{I32}
+use Rattle.cas_base.specs.declared.kind.Ty.TheVariants.{Void, Int}
+use Rattle.cas_base.specs.declared.decl.Decl.{Decl}
+use Rattle.cas_base.specs.declared.decl.Form.TheVariants as forms
+use Rattle.cas_runs.specs.Label.{NameBytes, RunLabel, Out, Done}
+use Rattle.cas_runs.specs.Edge.{Edge}
+use Rattle.cas_runs.specs.Naming.{Value, Number}
+use Rattle.cas_runs.specs.Bounds.{ByForms}
+use Rattle.cas_runs.specs.Access.{Accesses, Then, Words}
+use Rattle.cas_runs.specs.Unit.{Setting}
+use Rattle.cas_runs.specs.Calls.{Last, Puts, Calls, Returns, Activations}
+use Rattle.cas_trial.specs.Stages.{main_name}
+
+-- the name `f`
+abbrev pub helper_name : NameBytes
+helper_name = 102 ∷ []
+
+pub data Routine : Type 0 where
+  Main : Routine
+  Helper : Routine
+
+-- where an activation stands
+pub data Point : Type 0 where
+  AtCall : Point
+  AtPrint : Point
+  AtEnd : Point
+
+abbrev pub routine_name : Routine → NameBytes
+routine_name Main = main_name
+routine_name Helper = helper_name
+
+abbrev pub enters_routine : Routine → List Value → Option Point
+enters_routine Main [] = None
+enters_routine Main (v ∷ []) = Some AtCall
+enters_routine Main (v ∷ w ∷ vs) = None
+enters_routine Helper [] = Some AtEnd
+enters_routine Helper (v ∷ vs) = None
+
+abbrev pub routine_form : Point → Accesses (Last Point)
+routine_form AtCall = Then (Calls helper_name [] (λ values. Some AtPrint))
+routine_form AtPrint = Then (Puts 1 AtEnd)
+routine_form AtEnd = Then (Returns [])
+
+abbrev pub routines : Activations Routine Point
+routines = record {
+  name = routine_name;
+  blocks = λ f. [];
+  first_word = Number 0;
+  enter = λ f serial values. enters_routine f values;
+  form = routine_form;
+  tariff = ByForms (λ a. 1) (λ a. []) 0 (λ f. 0) (λ f. 0) (λ f. 1 ∷ 1 ∷ 1 ∷ []);
+}
+
+abbrev pub program : List Routine
+program = Helper ∷ Main ∷ []
+
+abbrev pub helper_decl : Decl
+helper_decl = record { name = helper_name; form = forms.Function Void [] []; defined = true }
+
+abbrev pub main_decl : Decl
+main_decl = record { name = main_name; form = forms.Function Void (Int I32 ∷ []) []; defined = true }
+
+abbrev pub decls : List Decl
+decls = helper_decl ∷ main_decl ∷ []
+
+-- there are no words
+abbrev pub edge : Edge
+edge = record {
+  cells = [];
+  functions = record { name = helper_name; ret = Void; params = []; holds = []; inside = false } ∷ record { name = main_name; ret = Void; params = Int I32 ∷ []; holds = []; inside = false } ∷ [];
+}
+
+abbrev pub words : Words
+words = λ name. None
+
+abbrev pub setting : Setting
+setting = record { edge = edge; words = words; layout = λ function block. []; stack = record { address = 268435456; size = 16 }; code = λ name. 8; unknown = λ occasion place. 0 }
+
+abbrev pub labels : List RunLabel
+labels = Done ∷ Out 1 ∷ []
