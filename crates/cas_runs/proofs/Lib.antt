@@ -6,6 +6,7 @@ pub mod Declared
 pub mod Determined
 pub mod Entered
 pub mod Forwarding
+pub mod Found
 pub mod Keeping
 pub mod Lifted
 pub mod Lifting

@@ -11,7 +11,8 @@ use Rattle.cas_runs.specs.Bounds.{IsTariff, Tariff, BySize, ByForms, step_price,
 use Rattle.cas_runs.specs.Access.{Holding, Then, Fails, words_in, with_lock, without_lock, performed}
 use Rattle.cas_runs.specs.Unit.{Setting, laid_out, guard_of}
 use Rattle.cas_runs.specs.Calls.{Last, Goes, Takes, Gives, Puts, Calls, Tails, Returns, Scene, Frame, Waits, Outer, Past, Thread, Away, Runs, Leaves, Over, nothing_touched, can_cross, crosses_as, with_naming, to_outside, calls_by, leaves_by, crosses_if, leaves, first_values, kept_results, leaves_with, leaves_later, goes_back, returns, resumes, comes_back, with_share, takes_lock, takes, gives_lock, gives, find, with_own, without_own, set_blocks, gone, one_begun, begins, calls_in, enters_at, enters, below, called, calls_out, calls, acts, hears, machine}
-use Rattle.cas_runs.specs.Passing.{Relation, AllSame, t_step, s_step, Settles, Going, matched, fails, goes, Ready, ReadyIf, WaitAlike, PassesOn, cannot_go_on, fails_then, returns_first, OnlyPasses, TailAlike, tail, passing, LastAlike, Meets, meets, fails_first, goes_first, FailsSoon, fails_now, goes_on, Does, Passes, SameIf, brought_in, heard, Keeps, Pays, AllMade}
+use Rattle.cas_runs.specs.Passing.{Relation, AllSame, t_step, s_step, Settles, Going, matched, fails, goes, Ready, ReadyIf, WaitAlike, PassesOn, cannot_go_on, fails_then, returns_first, OnlyPasses, TailAlike, tail, passing, LastAlike, Meets, meets, fails_first, goes_first, FailsSoon, fails_now, goes_on, Does, Passes, SameIf, brought_in, heard, Keeps, Pays}
+use Rattle.cas_runs.proofs.Found.{FoundAlike, AllFound}
 use Rattle.cas_runs.proofs.Refining.{steps_refine, within_more}
 use Rattle.cas_runs.proofs.Showing.{some_crossing}
 use Rattle.cas_runs.proofs.Tests.{same_name_self}
@@ -251,24 +252,6 @@ module _ {F A G B : Type 0} (r : Relation F A G B) (is : Keeps r) (pays : Pays r
 
   -- Calls within.
 
-  abbrev pub FoundAlike : Option F → Option G → Type 0
-  FoundAlike None None = Unit {0}
-  FoundAlike None (Some g) = ⊥
-  FoundAlike (Some f) None = ⊥
-  FoundAlike (Some f) (Some g) = r.made f g
-
-  pub find_alike : (name : NameBytes) (fs : List F) (gs : List G) → AllMade r.made fs gs → FoundAlike (find r.target fs name) (find r.source gs name)
-  find_alike name [] [] h = tt
-  find_alike name [] (g ∷ gs) h = absurd h
-  find_alike name (f ∷ fs) [] h = absurd h
-  find_alike name (f ∷ fs) (g ∷ gs) h =
-      subst (λ v. FoundAlike (find r.target (f ∷ fs) name) (if same_name v name then Some g else find r.source gs name)) (is.names f g h.0) (either (same_name (r.target.name f) name) h.0 (find_alike name fs gs h.1))
-    where
-      either : (t : Bool) → r.made f g → FoundAlike (find r.target fs name) (find r.source gs name) → FoundAlike (if t then Some f else find r.target fs name) (if t then Some g else find r.source gs name)
-      either true made rest = made
-      either false made rest = rest
-
-  -- an activation begins in both
   begins_going : (ls : List RunLabel) (f : F) (g : G) → r.made f g → (p q : Past) (h k : Holding) → r.settled p h q k → (xs : List (Frame F A)) (ys : List (Frame G B)) → Based outward xs → Frames h k p.begun xs ys → (x : A) (y : B) (b d : Block) → Within b d → Ready r f g p.begun (one_begun r.target p) (one_begun r.source q) x (first_price r.target.tariff r.target.blocks f) (with_own r.target f p.begun h) y (first_price r.source.tariff r.source.blocks g) (with_own r.source g q.begun k) → Fol ls (begins r.target f x xs p h) (onward T b (begins r.target f x xs p h)) (begins r.source g y ys q k) (onward S d (begins r.source g y ys q k))
   begins_going ls f g made p q h k alike xs ys based fr x y b d w ready =
       let h' = with_own r.target f p.begun h in
@@ -282,7 +265,7 @@ module _ {F A G B : Type 0} (r : Relation F A G B) (is : Keeps r) (pays : Pays r
   begins_too ls f g made p q h k alike xs ys based fr b d z w None (Some y) ready e = absurd ready
   begins_too ls f g made p q h k alike xs ys based fr b d z w (Some x) (Some y) ready e = step (begins r.source g y ys q k) e (begins_going ls f g made p q h k alike xs ys based fr x y b d w ready)
 
-  calls_too : (ls : List RunLabel) (p q : Past) (h k : Holding) → r.settled p h q k → (vs ws : List Value) → AllSame r vs ws → (xs : List (Frame F A)) (ys : List (Frame G B)) → Based outward xs → Frames h k p.begun xs ys → (function : NameBytes) (b d : Block) (z : Thread G B) → Within b d → (o : Option F) (o' : Option G) → FoundAlike o o' → S.act z ≡ calls r.source r.setting scene_s o' function ws ys q k → Ans ls (calls r.target there scene_t o function vs xs p h) b z d
+  calls_too : (ls : List RunLabel) (p q : Past) (h k : Holding) → r.settled p h q k → (vs ws : List Value) → AllSame r vs ws → (xs : List (Frame F A)) (ys : List (Frame G B)) → Based outward xs → Frames h k p.begun xs ys → (function : NameBytes) (b d : Block) (z : Thread G B) → Within b d → (o : Option F) (o' : Option G) → FoundAlike r.made o o' → S.act z ≡ calls r.source r.setting scene_s o' function ws ys q k → Ans ls (calls r.target there scene_t o function vs xs p h) b z d
   calls_too ls p q h k alike vs ws same xs ys based fr function b d z w None None found e = each_calls ls p q h k alike vs ws same xs ys fr function b d z outward refl e
   calls_too ls p q h k alike vs ws same xs ys based fr function b d z w None (Some g) found e = absurd found
   calls_too ls p q h k alike vs ws same xs ys based fr function b d z w (Some f) None found e = absurd found
@@ -420,7 +403,7 @@ module _ {F A G B : Type 0} (r : Relation F A G B) (is : Keeps r) (pays : Pays r
 
   -- A step of the target's activation.
 
-  module _ (all_t : AllMade r.made ins_t ins_s) where
+  module _ (all_t : AllFound r.target r.source r.made ins_t ins_s) where
     module _ (ls : List RunLabel) (b c : Block) (f : F) (g : G) (n n' e' : ℕ) (p q : Past) (xs : List (Frame F A)) (ys : List (Frame G B)) (made : r.made f g) (less : n + 1 ≤ p.begun) (same : n ≡ n') (based : Based outward xs) (h0 k0 : Holding) (alike : r.alike p h0 q k0) (fr : Frames h0 k0 n xs ys) (w : Within b c) where
       -- the moment at which the step's accesses are made
       frames_now : (h k : Holding) → r.later n h0 k0 h k → Frames h k n xs ys
@@ -451,7 +434,7 @@ module _ {F A G B : Type 0} (r : Relation F A G B) (is : Keeps r) (pays : Pays r
       at_calls function vs next h y k e d v m =
           let k' = (s_step r y k).holding in
           calls_too ls p q h k' m.4.settled vs m.0 m.3 (Waits f n (results_of r.setting.edge function) next ∷ xs) (Waits g n' (results_of r.setting.edge function) m.1 ∷ ys) based (under less same made m.5 based (frames_now h k' m.4.later)) function b d (Runs g n' y e ys q k) v
-          (find r.target ins_t function) (find r.source ins_s function) (find_alike function ins_t ins_s all_t) (act_is y k e (Calls function m.0 m.1) m.2)
+          (find r.target ins_t function) (find r.source ins_s function) (all_t function) (act_is y k e (Calls function m.0 m.1) m.2)
 
       at_tail : (function : NameBytes) (vs : List Value) (h : Holding) (y : B) (k : Holding) (e : ℕ) (d : Block) → Within b d → (o : Option (Last B)) (k' : Holding) → S.act (Runs g n' y e ys q k) ≡ s_acts o g n' ys q k' → TailAlike r n p q h0 k0 f g function vs h k' o → Ans ls (t_acts (Some (Tails function vs)) f n xs p h) b (Runs g n' y e ys q k) d
       at_tail function vs h y k e d v o k' a (tail ws alike' s) =
@@ -459,11 +442,11 @@ module _ {F A G B : Type 0} (r : Relation F A G B) (is : Keeps r) (pays : Pays r
           let h1 = without_own r.target f n h in
           let k1 = without_own r.source g n' k' in
           calls_too ls p q h1 k1 ends.settled vs ws alike' xs ys based (frames_wider h1 k1 p.begun (omega (arith, less)) (frames_later h k' h1 k1 (frames_now h k' s.later) ends.later)) function b d (Runs g n' y e ys q k) v
-          (find r.target ins_t function) (find r.source ins_s function) (find_alike function ins_t ins_s all_t) a
+          (find r.target ins_t function) (find r.source ins_s function) (all_t function) a
       at_tail function vs h y k e d v o k' a (passing ws next alike' s only) =
           let h1 = without_own r.target f n h in
           calls_too ls p q h1 k' s.settled vs ws alike' xs (Waits g n' (results_of r.setting.edge function) next ∷ ys) based (passed only based (frames_wider h1 k' p.begun (omega (arith, less)) (frames_now h1 k' s.later))) function b d (Runs g n' y e ys q k) v
-          (find r.target ins_t function) (find r.source ins_s function) (find_alike function ins_t ins_s all_t) a
+          (find r.target ins_t function) (find r.source ins_s function) (all_t function) a
 
       at_returns : (vs : List Value) (h : Holding) (y : B) (k : Holding) (e : ℕ) (d : Block) → Within b d → LastAlike r n p q h0 k0 f g (Returns vs) h (s_step r y k).last (s_step r y k).holding → Ans ls (t_acts (Some (Returns vs)) f n xs p h) b (Runs g n' y e ys q k) d
       at_returns vs h y k e d v m =
@@ -486,7 +469,7 @@ module _ {F A G B : Type 0} (r : Relation F A G B) (is : Keeps r) (pays : Pays r
 
   -- What the outside brings.
 
-  pub enters_too : (ls : List RunLabel) (p q : Past) (h k : Holding) → r.settled p h q k → (xs : List (Frame F A)) (ys : List (Frame G B)) → Based outward xs → Frames h k p.begun xs ys → (o : Option F) (o' : Option G) (vs ws : Option (List Value)) → FoundAlike o o' → SameIf r vs ws → Fol ls (enters r.target o vs xs p h) (begun T (enters r.target o vs xs p h)) (enters r.source o' ws ys q k) (begun S (enters r.source o' ws ys q k))
+  pub enters_too : (ls : List RunLabel) (p q : Past) (h k : Holding) → r.settled p h q k → (xs : List (Frame F A)) (ys : List (Frame G B)) → Based outward xs → Frames h k p.begun xs ys → (o : Option F) (o' : Option G) (vs ws : Option (List Value)) → FoundAlike r.made o o' → SameIf r vs ws → Fol ls (enters r.target o vs xs p h) (begun T (enters r.target o vs xs p h)) (enters r.source o' ws ys q k) (begun S (enters r.source o' ws ys q k))
   enters_too ls p q h k alike xs ys based fr None None vs ws found same = related (broken tt)
   enters_too ls p q h k alike xs ys based fr None (Some g) vs ws found same = absurd found
   enters_too ls p q h k alike xs ys based fr (Some f) None vs ws found same = absurd found
@@ -577,7 +560,7 @@ module _ {F A G B : Type 0} (r : Relation F A G B) (is : Keeps r) (pays : Pays r
   backs_too ls p q h k alike out xs ys fr None (Some ws) same = absurd same
   backs_too ls p q h k alike out xs ys fr (Some vs) (Some ws) same = back_too ls p q h k alike vs out fr (omega arith) ws (all_first vs ws same)
 
-  module _ (all : AllMade r.made r.targets r.sources) (all_t : AllMade r.made ins_t ins_s) where
+  module _ (all : AllFound r.target r.source r.made r.targets r.sources) (all_t : AllFound r.target r.source r.made ins_t ins_s) where
     heard_too : (ls : List RunLabel) (p q : Past) (h k : Holding) → r.settled p h q k → outward ≡ true → (xs : List (Frame F A)) (ys : List (Frame G B)) → Frames h k p.begun xs ys → (l : RunLabel) → MayBring r.setting.edge ls l → Fol (l ∷ ls) (hears r.target there scene_t xs p h l) (begun T (hears r.target there scene_t xs p h l)) (hears r.source r.setting scene_s ys q k l) (begun S (hears r.source r.setting scene_s ys q k l))
     heard_too ls p q h k alike out xs ys fr (Enter name crossing) m =
         let s = is.hears p.begun p q h k alike (crossed ls) m.signature.params crossing m.brings m.values in
@@ -586,7 +569,7 @@ module _ {F A G B : Type 0} (r : Relation F A G B) (is : Keeps r) (pays : Pays r
         let h' = heard r p h crossing in
         let k' = heard r q k crossing in
         (enters_too (Enter name crossing ∷ ls) p' q' h' k' s.0.settled (Outer (results_of r.setting.edge name) ∷ xs) (Outer (results_of r.setting.edge name) ∷ ys) outer_based (outer out (frames_later h k h' k' fr s.0.later)) (find r.target r.targets name) (find r.source r.sources name)
-        (all_taken (brought_in r p h crossing).naming crossing.values) (all_taken (brought_in r q k crossing).naming crossing.values) (find_alike name r.targets r.sources all) s.1)
+        (all_taken (brought_in r p h crossing).naming crossing.values) (all_taken (brought_in r q k crossing).naming crossing.values) (all name) s.1)
       where
         outer_based : Based outward (Outer (results_of r.setting.edge name) ∷ xs)
         outer_based = on outward

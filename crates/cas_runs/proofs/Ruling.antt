@@ -13,6 +13,7 @@ use Rattle.cas_runs.specs.Access.{Stretch, Holding, words_in, with_lock, without
 use Rattle.cas_runs.specs.Unit.{Setting, AreLaidOut, IsLayout, lock_at, lock_number, guard_of}
 use Rattle.cas_runs.specs.Calls.{Last, Goes, Takes, Gives, Puts, Calls, Tails, Returns, Activations, Scene, Frame, Waits, Outer, Past, Thread, Away, Runs, Leaves as LeavesNow, Over, Wrong, nothing_touched, same_share, if_shown, crosses_as, can_cross, with_naming, to_outside, calls_by, leaves_by, crosses_if, leaves, kept_results, leaves_with, leaves_later, goes_back, returns, resumes, comes_back, with_share, takes_lock, takes, gives_lock, gives, find, with_own, without_own, one_begun, calls_in, enters_at, enters, step_at, calls_out, calls, acts, hears, machine, no_past, no_holding, outside_first, starts, language}
 use Rattle.cas_runs.proofs.Composing.{refines_itself}
+use Rattle.cas_runs.proofs.Found.{found_named}
 use Rattle.cas_runs.proofs.Tests.{objects_from, share_from, same_name_self}
 use Rattle.cas_runs.proofs.Showing.{some_crossing}
 use Rattle.cas_runs.proofs.Lifting.{step_costs, waiting_costs}
@@ -98,12 +99,7 @@ module _ {F A : Type 0} (l : Activations F A) (setting : Setting) (scene : Scene
   Laid f = AreLaidOut (l.blocks f) 0 (setting.layout (l.name f))
 
   find_laid : (fs : List F) → IsLayout (language l) fs setting.layout → (name : NameBytes) (f : F) → find l fs name ≡ Some f → Laid f
-  find_laid [] h name f e = absurd (cc e)
-  find_laid (g ∷ fs) h name f e = by (same_name (l.name g) name) (λ k. find_laid fs h.1 name f k) e
-    where
-      by : (t : Bool) → (find l fs name ≡ Some f → Laid f) → (if t then Some g else find l fs name) ≡ Some f → Laid f
-      by true more k = let same : g ≡ f = cc k in subst Laid same h.0
-      by false more k = more k
+  find_laid fs h name f e = subst (λ v. AreLaidOut (l.blocks f) 0 (setting.layout v)) (sym (found_named l.name fs name f e)) (h name f e)
 
   begins_common : (ls : List RunLabel) (p : Past) (h : Holding) (f : F) → Common ls p h → Laid f → Common ls (one_begun l p) (with_own l f p.begun h)
   begins_common ls p h f c k =
@@ -485,7 +481,7 @@ module _ {F A : Type 0} (l : Activations F A) (setting : Setting) (prices : IsTa
   unit_rules fs laid = outward_rules l setting (record { functions = fs; within = fs; crosses = true }) outside_first prices laid laid refl
 
   pub alone_rules : (f : F) → IsLayout (language l) (f ∷ []) setting.layout → KeepsRules setting.edge ((language l).alone setting f)
-  alone_rules f laid = outward_rules l setting (record { functions = f ∷ []; within = []; crosses = true }) outside_first prices laid tt refl
+  alone_rules f laid = outward_rules l setting (record { functions = f ∷ []; within = []; crosses = true }) outside_first prices laid (λ name g e. absurd (cc e)) refl
 
   pub program_rules : (fs : List F) (entry : NameBytes) (thread : ℕ) → IsLayout (language l) fs setting.layout → KeepsRules setting.edge ((language l).thread setting fs entry thread)
   program_rules fs entry thread laid =

@@ -6,7 +6,7 @@ use Rattle.cas_runs.specs.Naming.{Own, Value, Number, Layout, parts_at, Naming, 
 use Rattle.cas_runs.specs.Machine.{Footprint, Act, Quiet, Says, Crosses, Locks, Hears, Bad, Stops, Ended, Taken, Unlocks, Prints, Ends, Opened, Open, Between, Machine}
 use Rattle.cas_runs.specs.Bounds.{Tariff, step_price, first_price, waiting_price}
 use Rattle.cas_runs.specs.Access.{Accesses, Holding, words_in, with_lock, without_lock, Performed, performed}
-use Rattle.cas_runs.specs.Unit.{Setting, Language, guard_of}
+use Rattle.cas_runs.specs.Unit.{Setting, Language, found, guard_of}
 
 -- what a step of an activation does at last
 pub data Last (A : Type 0) : Type 0 where
@@ -212,8 +212,7 @@ module _ {F A : Type 0} where
 module _ {F A : Type 0} (l : Activations F A) where
   -- the function of this name
   abbrev pub find : List F → NameBytes → Option F
-  find [] name = None
-  find (f ∷ fs) name = if same_name (l.name f) name then Some f else find fs name
+  find fs name = found l.name fs name
 
   -- what is held when an activation of the function begins, and when it has returned
   abbrev pub with_own : F → (serial : ℕ) → Holding → Holding

@@ -11,7 +11,7 @@ use Rattle.cas_runs.specs.Refines.{Within, Subsequence}
 use Rattle.cas_runs.specs.Bounds.{IsTariff, step_price, first_price, waiting_price}
 use Rattle.cas_runs.specs.Access.{Then, Fails, Holding, with_lock, without_lock, Performed}
 use Rattle.cas_runs.specs.Unit.{Setting, guard_of}
-use Rattle.cas_runs.specs.Calls.{Last, Goes, Takes, Gives, Puts, Calls, Tails, Returns, Activations, Past, can_cross, crosses_as, with_naming, with_share, with_own, without_own, one_begun, called, step_at, no_past, no_holding}
+use Rattle.cas_runs.specs.Calls.{Last, Goes, Takes, Gives, Puts, Calls, Tails, Returns, Activations, Past, can_cross, crosses_as, with_naming, with_share, with_own, without_own, one_begun, called, step_at, find, no_past, no_holding}
 
 -- two languages in a setting, where these functions run together, the layout of the target's blocks, and how both are related
 pub record Relation (F A G B : Type 0) : Type 1 where
@@ -198,14 +198,12 @@ AllMade made [] (g ∷ gs) = ⊥
 AllMade made (f ∷ fs) [] = ⊥
 AllMade made (f ∷ fs) (g ∷ gs) = made f g × AllMade made fs gs
 
--- it is in the list
-abbrev pub IsMember : {X : Type 0} → X → List X → Type 0
-IsMember x [] = ⊥
-IsMember x (y ∷ ys) = (x ≡ y) ⊎ IsMember x ys
-
--- the function is made of the other, and both are among those that run together
-abbrev pub MadeAmong : {F G : Type 0} → (F → G → Type 0) → List F → List G → F → G → Type 0
-MadeAmong made ts ss f g = made f g × IsMember f ts × IsMember g ss
+-- the function is made of the other, and both are found at one name among those that run together
+pub record MadeAmong {F A G B : Type 0} (target : Activations F A) (source : Activations G B) (made : F → G → Type 0) (ts : List F) (ss : List G) (f : F) (g : G) : Type 0 where
+  pub is_made : made f g
+  pub name : NameBytes
+  pub target_found : find target ts name ≡ Some f
+  pub source_found : find source ss name ≡ Some g
 
 -- the relation that a pass names for each setting and all functions that run together
 abbrev pub relation : {F A G B : Type 0} → Activations F A → Activations G B → (F → G → Type 0) → (List G → Layout → Layout) → (Setting → List F → List G → Value → Value → Type 0) → (Setting → List F → List G → Past → Holding → Past → Holding → Type 0) → (Setting → List F → List G → Past → Holding → Past → Holding → Type 0) → (Setting → List F → List G → ℕ → Holding → Holding → Holding → Holding → Type 0) → (Setting → List F → List G → F → G → ℕ → A → Holding → Block → B → Holding → Block → Type 0) → List F → List G → Setting → Relation F A G B
@@ -216,7 +214,7 @@ relation target source made naming same alike settled later match ts ss setting 
   placed = naming ss setting.layout;
   targets = ts;
   sources = ss;
-  made = MadeAmong made ts ss;
+  made = MadeAmong target source made ts ss;
   same = same setting ts ss;
   alike = alike setting ts ss;
   settled = settled setting ts ss;

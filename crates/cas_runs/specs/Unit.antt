@@ -1,6 +1,5 @@
 -- Refinement of units, of functions and of threads, in any two languages of the compiler.
 use Rattle.std.specs.Prelude.{◌≡◌, ℕ, ◌+◌, ◌*◌, ◌^◌, ◌<◌, ◌≤◌, Bool, true, false, ◌&&◌, if◌then◌else◌, List, [], ◌∷◌, length, Option, Some, None, slice_get, ◌⊎◌}
-use Rattle.std.specs.List.{IsDistinct}
 use Rattle.cas_base.specs.declared.kind.Kind.TheVariants.{I32, U32}
 use Rattle.cas_base.specs.declared.kind.Ty.{Ty}
 use Rattle.cas_base.specs.declared.kind.Ty.TheVariants.{Void, Int, Ptr, Array}
@@ -67,19 +66,19 @@ abbrev pub names_of : {F S : Type 0} → Language F S → List F → List NameBy
 names_of l [] = []
 names_of l (f ∷ fs) = l.name f ∷ names_of l fs
 
--- no two of the functions have one name
-abbrev pub AreDistinct : {F S : Type 0} → Language F S → List F → Type 0
-AreDistinct l fs = IsDistinct same_name (names_of l fs)
+-- the function of this name among these, the first if there are several
+abbrev pub found : {F : Type 0} → (F → NameBytes) → List F → NameBytes → Option F
+found name_of [] name = None
+found name_of (f ∷ fs) name = if same_name (name_of f) name then Some f else found name_of fs name
 
 -- each block is laid out within its size, from the k-th on, and past the blocks nothing is
 abbrev pub AreLaidOut : List ℕ → ℕ → (ℕ → List Part) → Type 0
 AreLaidOut [] k parts = (j : ℕ) → k ≤ j → parts j ≡ []
 AreLaidOut (size ∷ sizes) k parts = ArePlaced 0 size (parts k) × AreLaidOut sizes (k + 1) parts
 
--- each function's blocks are laid out within their sizes
+-- the blocks of each function that is found are laid out within their sizes
 abbrev pub IsLayout : {F S : Type 0} → Language F S → List F → Layout → Type 0
-IsLayout l [] layout = Unit {0}
-IsLayout l (f ∷ fs) layout = AreLaidOut (l.blocks f) 0 (layout (l.name f)) × IsLayout l fs layout
+IsLayout {F = F} l fs layout = (name : NameBytes) (f : F) → found l.name fs name ≡ Some f → AreLaidOut (l.blocks f) 0 (layout name)
 
 -- the word is a lock
 abbrev pub lock_at : Option Cell → ℕ → Option ℕ

@@ -50,7 +50,6 @@ pub fn refines_itself<S>()
 {}
 
 /// A unit in any language of activations refines itself.
-#[tactic(auto, using(crate::proofs::Ruling::unit_itself))]
 pub fn units_refine_themselves<F, A>()
     ensures { (l : Activations F A) (setting : Setting) → IsTariff l.tariff → (fs : List F) → IsLayout (language l) fs setting.layout → Refines setting.edge ((language l).unit setting fs) ((language l).unit setting fs) }
 {}

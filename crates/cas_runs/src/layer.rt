@@ -9,7 +9,7 @@ ghost use Rattle.cas_runs.specs.Label.{NameBytes};
 ghost use Rattle.cas_runs.specs.Machine.{Block};
 ghost use Rattle.cas_runs.specs.Naming.{Layout, Value};
 ghost use Rattle.cas_runs.specs.Passing.{AllMade, IsPass, relation};
-ghost use Rattle.cas_runs.specs.Unit.{AreDistinct, FitsProgram, FunctionRefines, IsEdge, IsLayout, Setting, ThreadRefines, UnitRefines};
+ghost use Rattle.cas_runs.specs.Unit.{FitsProgram, FunctionRefines, IsEdge, IsLayout, Setting, ThreadRefines, UnitRefines};
 
 use cas_base::NoMemory;
 use std::alloc::Global;
@@ -55,11 +55,11 @@ pub trait FunctionPass {
 
     /// The law that the target's objects are laid out where the source's are.
     fn laid_out_too()
-        ensures { (ts : List Self.Target) (ss : List Self.Source) → AllMade made ts ss → AreDistinct (language source) ss → (layout : Layout) → IsLayout (language source) ss layout → IsLayout (language target) ts (naming ss layout) };
+        ensures { (ts : List Self.Target) (ss : List Self.Source) → AllMade made ts ss → (layout : Layout) → IsLayout (language source) ss layout → IsLayout (language target) ts (naming ss layout) };
 
     /// The law that what is related so is a pass.
     fn passes()
-        ensures { (setting : Setting) (ts : List Self.Target) (ss : List Self.Source) → AllMade made ts ss → AreDistinct (language source) ss → IsEdge setting.edge → IsLayout (language source) ss setting.layout → IsPass (relation target source made naming same alike settled later matches ts ss setting) };
+        ensures { (setting : Setting) (ts : List Self.Target) (ss : List Self.Source) → AllMade made ts ss → IsEdge setting.edge → IsLayout (language source) ss setting.layout → IsPass (relation target source made naming same alike settled later matches ts ss setting) };
 }
 
 /// What a pass makes of a function refines it, where each runs alone.
@@ -71,20 +71,19 @@ pub fn functions_refine<P: FunctionPass>()
     P::passes();
 }
 
-/// A unit of such functions, with the same declarations and data, refines the unit of the others, whose names
-/// are distinct.
+/// A unit of such functions, with the same declarations and data, refines the unit of the others.
 pub fn units_refine<P: FunctionPass>()
-    ensures { (s : UnitOf P.Source) (t : UnitOf P.Target) → t.decls ≡ s.decls → t.globals ≡ s.globals → AllMade P.made t.funs s.funs → AreDistinct (language P.source) s.funs → UnitRefines (language P.target) (language P.source) t s }
+    ensures { (s : UnitOf P.Source) (t : UnitOf P.Target) → t.decls ≡ s.decls → t.globals ≡ s.globals → AllMade P.made t.funs s.funs → UnitRefines (language P.target) (language P.source) t s }
 {
     P::names_stay();
     P::laid_out_too();
     P::passes();
 }
 
-/// Each thread of a whole program of such functions refines the thread of the other program, whose names are
-/// distinct, at an edge that fits that. The thread's number is a word.
+/// Each thread of a whole program of such functions refines the thread of the other program, at an edge that
+/// fits that. The thread's number is a word.
 pub fn threads_refine<P: FunctionPass>()
-    ensures { (edge : Edge) (words : Words) (decls : List Decl) (ss : List P.Source) (ts : List P.Target) (entry : NameBytes) (thread : ℕ) → FitsProgram (language P.source) edge words decls ss entry → IsOfKind thread U32 → AllMade P.made ts ss → AreDistinct (language P.source) ss → ThreadRefines (language P.target) (language P.source) edge words decls ts ss entry thread }
+    ensures { (edge : Edge) (words : Words) (decls : List Decl) (ss : List P.Source) (ts : List P.Target) (entry : NameBytes) (thread : ℕ) → FitsProgram (language P.source) edge words decls ss entry → IsOfKind thread U32 → AllMade P.made ts ss → ThreadRefines (language P.target) (language P.source) edge words decls ts ss entry thread }
 {
     P::names_stay();
     P::laid_out_too();

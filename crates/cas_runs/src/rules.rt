@@ -24,19 +24,16 @@ pub fn sections_keep_kinds()
 {}
 
 /// The machine of a unit in any language of activations keeps the rules, whatever its functions do.
-#[tactic(auto, using(crate::proofs::Ruling::unit_rules))]
 pub fn units_keep_rules<F, A>()
     ensures { (l : Activations F A) (setting : Setting) → IsTariff l.tariff → (fs : List F) → IsLayout (language l) fs setting.layout → KeepsRules setting.edge ((language l).unit setting fs) }
 {}
 
 /// So does that of a function alone.
-#[tactic(auto, using(crate::proofs::Ruling::alone_rules))]
 pub fn functions_keep_rules<F, A>()
     ensures { (l : Activations F A) (setting : Setting) → IsTariff l.tariff → (f : F) → IsLayout (language l) (f ∷ []) setting.layout → KeepsRules setting.edge ((language l).alone setting f) }
 {}
 
 /// And that of a thread of a whole program.
-#[tactic(auto, using(crate::proofs::Ruling::program_rules))]
 pub fn threads_keep_rules<F, A>()
     ensures { (l : Activations F A) (setting : Setting) → IsTariff l.tariff → (fs : List F) (entry : NameBytes) (thread : ℕ) → IsLayout (language l) fs setting.layout → KeepsRules setting.edge ((language l).thread setting fs entry thread) }
 {}

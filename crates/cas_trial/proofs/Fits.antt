@@ -55,7 +55,7 @@ one_word_placed : ArePlaced 0 1 (record { from = 0; size = 1; kind = I32 } ∷ [
 one_word_placed = (omega arith, omega arith, omega arith, tt)
 
 pub unit_laid_out : IsLayout (language apart) (program ∷ []) setting.layout
-unit_laid_out = ((one_word_placed, (one_word_placed, past_two)), tt)
+unit_laid_out name f e = (one_word_placed, (one_word_placed, past_two))
 
 -- the program as a unit
 abbrev m : Machine (Thread Apart Stage)

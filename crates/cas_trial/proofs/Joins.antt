@@ -5,12 +5,13 @@ use Rattle.cas_runs.specs.Label.{NameBytes, same_name}
 use Rattle.cas_runs.specs.Naming.{Home, Own, Theirs, Value, Number, Pointer, Hidden, Part, Layout, ArePlaced, is_place, part_by}
 use Rattle.cas_runs.specs.Bounds.{IsPrice, IsTariff}
 use Rattle.cas_runs.specs.Access.{Accesses}
-use Rattle.cas_runs.specs.Unit.{Setting, AreDistinct, IsEdge, IsLayout}
+use Rattle.cas_runs.specs.Unit.{Setting, AreLaidOut, IsEdge, IsLayout}
 use Rattle.cas_runs.specs.Calls.{Last, language}
 use Rattle.cas_runs.specs.Forms.{FormAlike, writes, loads, stores, last, never}
 use Rattle.cas_runs.specs.Passing.{Relation, AllSame, IsPass, AllMade, MadeAmong, relation, Keeps, Pays}
 use Rattle.cas_runs.specs.Placing.{Spot, SameMoved, moved, moved_part, MemoryMoved, AlikeMoved, KeepsUnplaced, UnplacedKept, IsPlacing, pointer_in}
 use Rattle.cas_runs.specs.Stepwise.{match_at, AtIf, LastAt, goes_at, takes_at, gives_at, puts_at, calls_at, returns_at, Stepwise, HoldsPlainly}
+use Rattle.cas_runs.proofs.Found.{found_named, found_of}
 use Rattle.cas_runs.proofs.Words.{all_self}
 use Rattle.cas_runs.proofs.Tests.{and_both, same_name_from}
 use Rattle.cas_runs.proofs.Bringing.{moved_keeps, memory_keeps_since}
@@ -44,15 +45,14 @@ past_joined : (parts : ℕ → List Part) (j : ℕ) → 1 ≤ j → joined_parts
 past_joined parts zero le = absurd (omega (arith, le))
 past_joined parts (suc j) le = refl
 
-each_laid_out : (ts : List Joined) (ss : List Apart) → AllMade IsJoined ts ss → (layout : Layout) → IsLayout (language apart) ss layout → IsLayout (language joined) ts (joins layout)
-each_laid_out [] ss h layout l = tt
-each_laid_out (t ∷ ts) [] h layout l = absurd h
-each_laid_out (t ∷ ts) (s ∷ ss) h layout l =
-    let parts = l.0 in
-    ((both_placed 0 1 1 (layout main_name 0) (layout main_name 1) (omega arith) parts.0 parts.1.0, past_joined (layout main_name)), each_laid_out ts ss h.1 layout l.1)
+main_laid_out : (layout : Layout) → AreLaidOut (1 ∷ 1 ∷ []) 0 (layout main_name) → AreLaidOut (2 ∷ []) 0 (joins layout main_name)
+main_laid_out layout parts = (both_placed 0 1 1 (layout main_name 0) (layout main_name 1) (omega arith) parts.0 parts.1.0, past_joined (layout main_name))
 
-pub joins_laid_out : (ts : List Joined) (ss : List Apart) → AllMade IsJoined ts ss → AreDistinct (language apart) ss → (layout : Layout) → IsLayout (language apart) ss layout → IsLayout (language joined) ts (joins layout)
-joins_laid_out ts ss h d layout l = each_laid_out ts ss h layout l
+pub joins_laid_out : (ts : List Joined) (ss : List Apart) → AllMade IsJoined ts ss → (layout : Layout) → IsLayout (language apart) ss layout → IsLayout (language joined) ts (joins layout)
+joins_laid_out ts ss h layout l name f e =
+    let there = found_of joined apart IsJoined (λ f g m. refl) ts ss h name f e in
+    let named : main_name ≡ name = found_named joined.name ts name f e in
+    subst (λ n. AreLaidOut (1 ∷ 1 ∷ []) 0 (layout n) → AreLaidOut (2 ∷ []) 0 (joins layout n)) named (main_laid_out layout) (l name there.0 there.1)
 
 -- The objects of a block go with it.
 
@@ -153,7 +153,7 @@ parts_go layout h k block to second at pl p e =
     (part_back (moved_parts 0 (layout main_name 0)) (moved_parts 1 (layout main_name 1)) (1 + at) pl (none_first 0 (layout main_name 0) h at pl same) ∙ part_shifted 1 (layout main_name 1) at pl p e, least, end)
 
 abbrev Made : List Joined → List Apart → Joined → Apart → Type 0
-Made ts ss = MadeAmong IsJoined ts ss
+Made ts ss = MadeAmong joined apart IsJoined ts ss
 
 one_size : (block size : ℕ) → slice_get (1 ∷ 1 ∷ []) block ≡ Some size → size ≡ 1
 one_size zero size e = sym (let same : 1 ≡ size = cc e in same)
@@ -172,7 +172,7 @@ spots_apart b c s t second second = inl refl
 
 -- a program that runs is laid out
 laid_main : (layout : Layout) (f : Apart) (fs : List Apart) → IsLayout (language apart) (f ∷ fs) layout → (block : ℕ) (to : Spot) → Spots block to → PartsGo layout block to
-laid_main layout f fs l block to s = let parts = l.0 in parts_go layout parts.0 parts.1.0 block to s
+laid_main layout f fs l block to s = let parts = l main_name f refl in parts_go layout parts.0 parts.1.0 block to s
 
 main_parts : (layout : Layout) (block : ℕ) (to : Spot) → PartsGo layout block to → (function : NameBytes) → function ≡ main_name → (at pl : ℕ) (p : Part) → part_by (layout function block) at pl ≡ Some p → (part_by (joins layout function to.block) (to.offset + at) pl ≡ Some (moved_part to.offset p)) × (1 ≤ p.size) × (p.from + p.size ≤ 1)
 main_parts layout block to go function e at pl p h =
@@ -252,9 +252,9 @@ forms_alike setting ts ss to from x y (tells {f = f} {fs = fs}) = loads refl (λ
 forms_alike setting ts ss to from x y ends = last (returns_at tt)
 
 enters_alike : (setting : Setting) (ts : List Joined) (ss : List Apart) (f : Joined) (g : Apart) → Made ts ss f g → (n : ℕ) (vs ws : List Value) → AllSame (Rel setting ts ss) vs ws → AtIf (Rel setting ts ss) (λ f g. SameStage ss) f g (enters f.cells.0 f.cells.1 n vs) (enters g.first g.second n ws)
-enters_alike setting ts [] f g m n vs ws s = absurd m.2
+enters_alike setting ts [] f g m n vs ws s = absurd (cc m.source_found)
 enters_alike setting ts (x ∷ ss) f g m n [] [] s =
-    let is = m.0 in
+    let is = m.is_made in
     subst (λ v. SameStage (x ∷ ss) (Begins f.cells.0 f.cells.1 n) (Begins v g.second n)) is.first (subst (λ v. SameStage (x ∷ ss) (Begins f.cells.0 f.cells.1 n) (Begins f.cells.0 v n)) is.second begins)
 enters_alike setting ts (x ∷ ss) f g m n [] (w ∷ ws) s = absurd s
 enters_alike setting ts (x ∷ ss) f g m n (v ∷ vs) [] s = absurd s
@@ -289,8 +289,8 @@ joins_pay setting ts ss = record {
 }
 
 -- the law of the pass
-pub joins_passes : (setting : Setting) (ts : List Joined) (ss : List Apart) → AllMade IsJoined ts ss → AreDistinct (language apart) ss → IsEdge setting.edge → IsLayout (language apart) ss setting.layout → IsPass (Rel setting ts ss)
-joins_passes setting ts ss h d edge l =
+pub joins_passes : (setting : Setting) (ts : List Joined) (ss : List Apart) → AllMade IsJoined ts ss → IsEdge setting.edge → IsLayout (language apart) ss setting.layout → IsPass (Rel setting ts ss)
+joins_passes setting ts ss h edge l =
     let keeps = joins_keep setting ts ss l in
     record {
       keeps = keeps;

@@ -8,7 +8,7 @@ use Rattle.cas_base.specs.Word.{word_add}
 use Rattle.cas_runs.specs.Edge.{IsOfKind}
 use Rattle.cas_runs.specs.Naming.{Value, Layout, Memory}
 use Rattle.cas_runs.specs.Bounds.{IsPrice}
-use Rattle.cas_runs.specs.Unit.{Setting, AreDistinct, IsEdge, IsLayout, UnitRefines}
+use Rattle.cas_runs.specs.Unit.{Setting, IsEdge, IsLayout, UnitRefines}
 use Rattle.cas_runs.specs.Calls.{Last, Puts, language}
 use Rattle.cas_runs.specs.Access.{Accesses, Then, Holding}
 use Rattle.cas_runs.specs.Forms.{FormAlike, reads, last}
@@ -18,6 +18,7 @@ use Rattle.cas_runs.specs.Stepwise.{match_at, AtIf, LastAt, takes_at, gives_at, 
 use Rattle.cas_runs.proofs.Worded.{words_keep, memory_words}
 use Rattle.cas_runs.proofs.Performing.{keeps_nothing}
 use Rattle.cas_runs.proofs.Stepping.{stepwise_passes}
+use Rattle.cas_runs.proofs.Found.{found_of}
 use Rattle.cas_runs.proofs.Lifted.{units_pass}
 use Rattle.cas_trial.specs.declared.tailing.Relaying.{Relaying}
 use Rattle.cas_trial.specs.Paces.{IsSame}
@@ -60,7 +61,7 @@ module _ (setting : Setting) (ts ss : List Relaying) where
   }
 
   keeps : Keeps R
-  keeps = words_keep plain adding setting ts ss (MadeAmong IsSame ts ss) (match_at SumsAt) (λ f g m. refl) (λ f g m. refl) refl refl
+  keeps = words_keep plain adding setting ts ss (MadeAmong plain adding IsSame ts ss) (match_at SumsAt) (λ f g m. refl) (λ f g m. refl) refl refl
 
   plainly : HoldsPlainly R (λ t s. (t ≡ s) × HasWords s) (λ t s. Unit {0})
   plainly = record {
@@ -78,18 +79,16 @@ module _ (setting : Setting) (ts ss : List Relaying) where
     later = λ n h k h' k' kept. tt;
   }
 
-each_laid_out : (ts ss : List Relaying) → AllMade IsSame ts ss → (layout : Layout) → IsLayout (language adding) ss layout → IsLayout (language plain) ts layout
-each_laid_out [] ss h layout l = tt
-each_laid_out (t ∷ ts) [] h layout l = absurd h
-each_laid_out (t ∷ ts) (s ∷ ss) h layout l = (l.0, each_laid_out ts ss h.1 layout l.1)
+sums_laid_out : (ts ss : List Relaying) → AllMade IsSame ts ss → (layout : Layout) → IsLayout (language adding) ss layout → IsLayout (language plain) ts layout
+sums_laid_out ts ss h layout l name f e = let there = found_of plain adding IsSame (λ f g m. refl) ts ss h name f e in l name there.0 there.1
 
-sums_pass : (setting : Setting) (ts ss : List Relaying) → AllMade IsSame ts ss → AreDistinct (language adding) ss → IsEdge setting.edge → IsLayout (language adding) ss setting.layout → IsPass (Rel setting ts ss)
-sums_pass setting ts ss h d edge l = record {
+sums_pass : (setting : Setting) (ts ss : List Relaying) → AllMade IsSame ts ss → IsEdge setting.edge → IsLayout (language adding) ss setting.layout → IsPass (Rel setting ts ss)
+sums_pass setting ts ss h edge l = record {
   keeps = keeps setting ts ss;
   pays = record { prices = (λ a. (record { least = omega arith; most = omega arith }, tt), omega arith, λ f. let one : IsPrice 1 = record { least = omega arith; most = omega arith } in (one, (one, (one, (one, tt))))); waits = omega arith };
   passes = stepwise_passes (Rel setting ts ss) SumsAt (λ n m. n ≡ m) (λ t s. (t ≡ s) × HasWords s) (λ t s. Unit {0}) (keeps_nothing memory_words) (plainly setting ts ss) (steps setting ts ss) (keeps setting ts ss) edge (λ f g n x h' b y k c m. m) (λ f g n x h' b y k c m. m);
 }
 
 -- units of the same programs
-pub units_sum : (s t : UnitOf Relaying) → t.decls ≡ s.decls → t.globals ≡ s.globals → AllMade IsSame t.funs s.funs → AreDistinct (language adding) s.funs → UnitRefines (language plain) (language adding) t s
-units_sum s t d g h distinct = units_pass plain adding IsSame (λ us layout. layout) (λ setting ts ss. SameWord) (λ setting ts ss. EqualWords) (λ setting ts ss. EqualWords) (λ setting ts ss n h k u v. Unit {0}) (λ setting ts ss. match_at SumsAt) (λ f g m. refl) (λ ts ss h d layout l. each_laid_out ts ss h layout l) sums_pass t s d g h distinct
+pub units_sum : (s t : UnitOf Relaying) → t.decls ≡ s.decls → t.globals ≡ s.globals → AllMade IsSame t.funs s.funs → UnitRefines (language plain) (language adding) t s
+units_sum s t d g h = units_pass plain adding IsSame (λ us layout. layout) (λ setting ts ss. SameWord) (λ setting ts ss. EqualWords) (λ setting ts ss. EqualWords) (λ setting ts ss n h k u v. Unit {0}) (λ setting ts ss. match_at SumsAt) (λ f g m. refl) sums_laid_out sums_pass t s d g h

@@ -3,7 +3,7 @@ use Rattle.std.proofs.Common.{◌≡◌, ℕ, List, [], ◌∷◌, ◌⊎◌, So
 use Rattle.cas_runs.specs.Naming.{Value, Layout}
 use Rattle.cas_runs.specs.Machine.{Open, Block}
 use Rattle.cas_runs.specs.Access.{Holding}
-use Rattle.cas_runs.specs.Unit.{Setting, AreDistinct, IsEdge, IsLayout, UnitRefines}
+use Rattle.cas_runs.specs.Unit.{Setting, IsEdge, IsLayout, UnitRefines}
 use Rattle.cas_runs.specs.Calls.{Past, with_own, one_begun, nothing_touched, language}
 use Rattle.cas_runs.specs.Passing.{Relation, AllSame, t_step, matched, ReadyIf, returns_first, passing, meets, FailsSoon, Does, FineAt, Passes, IsPass, AllMade, MadeAmong, relation, Keeps}
 use Rattle.cas_runs.specs.Unmoved.{Equal}
@@ -11,6 +11,7 @@ use Rattle.cas_runs.proofs.Composing.{sub_same}
 use Rattle.cas_runs.proofs.Performing.{foot_same}
 use Rattle.cas_runs.proofs.Stepping.{within_step}
 use Rattle.cas_base.specs.declared.decl.Unit.{Unit as UnitOf}
+use Rattle.cas_runs.proofs.Found.{found_of}
 use Rattle.cas_runs.proofs.Lifted.{units_pass}
 use Rattle.cas_runs.proofs.Unmoved.{equal_keeps}
 use Rattle.cas_trial.specs.declared.tailing.Relayed.{Relayed}
@@ -22,20 +23,15 @@ module _ (returned : List Value → List Value) (firsts : ReturnsFirst returned)
   abbrev Rel : Setting → List Relayed → List Relaying → Relation Relayed Relay Relaying Relay
   Rel setting ts ss = relation tailing (calling_by returned) IsTailing (λ us layout. layout) (λ setting ts ss v w. v ≡ w) (λ setting ts ss. Equal) (λ setting ts ss. Equal) (λ setting ts ss n h k u v. Unit {0}) (λ setting ts ss f g. AtCall) ts ss setting
 
-  each_laid_out : (ts : List Relayed) (ss : List Relaying) → AllMade IsTailing ts ss → (layout : Layout) → IsLayout (language (calling_by returned)) ss layout → IsLayout (language tailing) ts layout
-  each_laid_out [] ss h layout l = tt
-  each_laid_out (t ∷ ts) [] h layout l = absurd h
-  each_laid_out (t ∷ ts) (s ∷ ss) h layout l = (l.0, each_laid_out ts ss h.1 layout l.1)
-
-  pub tails_laid_out : (ts : List Relayed) (ss : List Relaying) → AllMade IsTailing ts ss → AreDistinct (language (calling_by returned)) ss → (layout : Layout) → IsLayout (language (calling_by returned)) ss layout → IsLayout (language tailing) ts layout
-  tails_laid_out ts ss h d layout l = each_laid_out ts ss h layout l
+  pub tails_laid_out : (ts : List Relayed) (ss : List Relaying) → AllMade IsTailing ts ss → (layout : Layout) → IsLayout (language (calling_by returned)) ss layout → IsLayout (language tailing) ts layout
+  tails_laid_out ts ss h layout l name f e = let there = found_of tailing (calling_by returned) IsTailing (λ f g m. refl) ts ss h name f e in l name there.0 there.1
 
   module _ (setting : Setting) (ts : List Relayed) (ss : List Relaying) where
     abbrev R : Relation Relayed Relay Relaying Relay
     R = Rel setting ts ss
 
     keeps : Keeps R
-    keeps = equal_keeps tailing (calling_by returned) setting ts ss (MadeAmong IsTailing ts ss) (λ f g. AtCall) (λ f g m. refl) (λ f g m. refl) refl
+    keeps = equal_keeps tailing (calling_by returned) setting ts ss (MadeAmong tailing (calling_by returned) IsTailing ts ss) (λ f g. AtCall) (λ f g m. refl) (λ f g m. refl) refl
 
     enters_ready : (f : Relayed) (g : Relaying) (n : ℕ) (p q : Past) (h k : Holding) → R.alike p h q k → (v w : ℕ) → v ≡ w → (vs ws : List Value) → AllSame R vs ws → ReadyIf R f g n p q (enters v vs) 8 h (enters w ws) 8 k
     enters_ready f g n p q h k a v w e [] [] s =
@@ -54,14 +50,14 @@ module _ (returned : List Value → List Value) (firsts : ReturnsFirst returned)
     passes = record {
       enters = λ f g m p q h k a vs ws s.
           let begun = keeps.begins f g m p q h k a in
-          enters_ready f g p.begun (one_begun tailing p) (one_begun (calling_by returned) q) (with_own tailing f p.begun h) (with_own (calling_by returned) g q.begun k) begun.alike f.word g.word m.0 vs ws s;
+          enters_ready f g p.begun (one_begun tailing p) (one_begun (calling_by returned) q) (with_own tailing f p.begun h) (with_own (calling_by returned) g q.begun k) begun.alike f.word g.word m.is_made vs ws s;
       fine = fine_at;
       does = does_at;
     }
 
   -- the law of the pass
-  pub tails_pass : (setting : Setting) (ts : List Relayed) (ss : List Relaying) → AllMade IsTailing ts ss → AreDistinct (language (calling_by returned)) ss → IsEdge setting.edge → IsLayout (language (calling_by returned)) ss setting.layout → IsPass (Rel setting ts ss)
-  tails_pass setting ts ss h d edge l = record {
+  pub tails_pass : (setting : Setting) (ts : List Relayed) (ss : List Relaying) → AllMade IsTailing ts ss → IsEdge setting.edge → IsLayout (language (calling_by returned)) ss setting.layout → IsPass (Rel setting ts ss)
+  tails_pass setting ts ss h edge l = record {
     keeps = keeps setting ts ss;
     pays = record { prices = (λ a. (record { least = omega arith; most = omega arith }, tt), omega arith, λ f. (record { least = omega arith; most = omega arith }, tt)); waits = omega arith };
     passes = passes setting ts ss;
@@ -74,12 +70,12 @@ none_first : ReturnsFirst (λ values. [])
 none_first values = (values, refl)
 
 -- the law of the pass
-pub result_laid_out : (ts : List Relayed) (ss : List Relaying) → AllMade IsTailing ts ss → AreDistinct (language calling) ss → (layout : Layout) → IsLayout (language calling) ss layout → IsLayout (language tailing) ts layout
+pub result_laid_out : (ts : List Relayed) (ss : List Relaying) → AllMade IsTailing ts ss → (layout : Layout) → IsLayout (language calling) ss layout → IsLayout (language tailing) ts layout
 result_laid_out = tails_laid_out (λ values. values) all_first
 
-pub result_pass : (setting : Setting) (ts : List Relayed) (ss : List Relaying) → AllMade IsTailing ts ss → AreDistinct (language calling) ss → IsEdge setting.edge → IsLayout (language calling) ss setting.layout → IsPass (Rel (λ values. values) all_first setting ts ss)
+pub result_pass : (setting : Setting) (ts : List Relayed) (ss : List Relaying) → AllMade IsTailing ts ss → IsEdge setting.edge → IsLayout (language calling) ss setting.layout → IsPass (Rel (λ values. values) all_first setting ts ss)
 result_pass = tails_pass (λ values. values) all_first
 
 -- units whose functions return nothing
-pub units_drop : (s : UnitOf Relaying) (t : UnitOf Relayed) → t.decls ≡ s.decls → t.globals ≡ s.globals → AllMade IsTailing t.funs s.funs → AreDistinct (language dropping) s.funs → UnitRefines (language tailing) (language dropping) t s
-units_drop s t d g h distinct = units_pass tailing dropping IsTailing (λ us layout. layout) (λ setting ts ss v w. v ≡ w) (λ setting ts ss. Equal) (λ setting ts ss. Equal) (λ setting ts ss n h k u v. Unit {0}) (λ setting ts ss f g. AtCall) (λ f g m. refl) (tails_laid_out (λ values. []) none_first) (tails_pass (λ values. []) none_first) t s d g h distinct
+pub units_drop : (s : UnitOf Relaying) (t : UnitOf Relayed) → t.decls ≡ s.decls → t.globals ≡ s.globals → AllMade IsTailing t.funs s.funs → UnitRefines (language tailing) (language dropping) t s
+units_drop s t d g h = units_pass tailing dropping IsTailing (λ us layout. layout) (λ setting ts ss v w. v ≡ w) (λ setting ts ss. Equal) (λ setting ts ss. Equal) (λ setting ts ss n h k u v. Unit {0}) (λ setting ts ss f g. AtCall) (λ f g m. refl) (tails_laid_out (λ values. []) none_first) (tails_pass (λ values. []) none_first) t s d g h

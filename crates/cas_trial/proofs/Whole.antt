@@ -31,7 +31,7 @@ pub routines_stack : IsStack edge setting.stack
 routines_stack = record { words_before = 67108864; aligned = omega arith; past_words = omega arith; in_reach = omega arith; least = omega arith; most = omega arith }
 
 pub routines_laid_out : IsLayout (language routines) program setting.layout
-routines_laid_out = (λ j le. refl, (λ j le. refl, tt))
+routines_laid_out name f e j le = refl
 
 -- the thread
 abbrev m : Machine (Thread Routine Point)

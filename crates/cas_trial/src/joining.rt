@@ -10,7 +10,7 @@ ghost use Rattle.cas_runs.specs.Label.{NameBytes};
 ghost use Rattle.cas_runs.specs.Passing.{AllMade};
 ghost use Rattle.cas_runs.specs.Placing.{AlikeMoved, KeepsUnplaced, SameMoved};
 ghost use Rattle.cas_runs.specs.Stepwise.{match_at};
-ghost use Rattle.cas_runs.specs.Unit.{AreDistinct, FitsProgram, FunctionRefines, ThreadRefines, UnitRefines};
+ghost use Rattle.cas_runs.specs.Unit.{FitsProgram, FunctionRefines, ThreadRefines, UnitRefines};
 ghost use Rattle.cas_trial.specs.Places.{IsJoined, SameStage, joins, one_word, places};
 ghost use Rattle.cas_trial.specs.Stages.{Stage, apart, joined, main_name};
 
@@ -72,7 +72,6 @@ impl FunctionPass for Joining {
 
     fn names_stay() {}
 
-    #[tactic(auto, using(crate::proofs::Joins::joins_laid_out))]
     fn laid_out_too() {}
 
     fn passes() {}
@@ -92,14 +91,14 @@ pub fn join(alloc: Global, program: &Apart) -> Result<Joined, NoMemory>
 
 /// Units of such programs refine, where their declarations and data are equal.
 pub fn units_join()
-    ensures { (s : UnitOf Apart) (t : UnitOf Joined) → t.decls ≡ s.decls → t.globals ≡ s.globals → AllMade IsJoined t.funs s.funs → AreDistinct (language apart) s.funs → UnitRefines (language joined) (language apart) t s }
+    ensures { (s : UnitOf Apart) (t : UnitOf Joined) → t.decls ≡ s.decls → t.globals ≡ s.globals → AllMade IsJoined t.funs s.funs → UnitRefines (language joined) (language apart) t s }
 {
     units_refine::<Joining>();
 }
 
 /// So do the threads of whole programs.
 pub fn threads_join()
-    ensures { (edge : Edge) (words : Words) (decls : List Decl) (ss : List Apart) (ts : List Joined) (entry : NameBytes) (thread : ℕ) → FitsProgram (language apart) edge words decls ss entry → IsOfKind thread U32 → AllMade IsJoined ts ss → AreDistinct (language apart) ss → ThreadRefines (language joined) (language apart) edge words decls ts ss entry thread }
+    ensures { (edge : Edge) (words : Words) (decls : List Decl) (ss : List Apart) (ts : List Joined) (entry : NameBytes) (thread : ℕ) → FitsProgram (language apart) edge words decls ss entry → IsOfKind thread U32 → AllMade IsJoined ts ss → ThreadRefines (language joined) (language apart) edge words decls ts ss entry thread }
 {
     threads_refine::<Joining>();
 }

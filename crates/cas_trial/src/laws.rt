@@ -4,7 +4,7 @@ ghost use Rattle.cas_runs.specs.Calls.{language};
 ghost use Rattle.cas_runs.specs.Passing.{AllMade};
 ghost use Rattle.cas_runs.specs.Refines.{HasRun};
 ghost use Rattle.cas_runs.specs.Rules.{KeepsRules};
-ghost use Rattle.cas_runs.specs.Unit.{AreDistinct, FitsUnit, IsLayout, Setting, UnitRefines};
+ghost use Rattle.cas_runs.specs.Unit.{FitsUnit, IsLayout, Setting, UnitRefines};
 ghost use Rattle.cas_trial.specs.Fitting.{decls, edge, globals, labels, program, setting, words};
 ghost use Rattle.cas_trial.specs.Paces.{IsSame, fast, slow};
 ghost use Rattle.cas_trial.specs.Stages.{apart};
@@ -28,7 +28,6 @@ pub fn pointer_comes_back()
 {}
 
 /// The machine keeps the rules, those of crossings among them.
-#[tactic(auto, using(crate::proofs::Fits::apart_rules))]
 pub fn apart_keeps_rules()
     ensures { (setting : Setting) (fs : List Program) → IsLayout (language apart) fs setting.layout → KeepsRules setting.edge ((language apart).unit setting fs) }
 {}
@@ -37,12 +36,12 @@ pub fn apart_keeps_rules()
 /// stands for.
 #[tactic(auto, using(crate::proofs::Slowing::units_slow))]
 pub fn units_slow()
-    ensures { (s : UnitOf Relaying) (t : UnitOf Relaying) → t.decls ≡ s.decls → t.globals ≡ s.globals → AllMade IsSame t.funs s.funs → AreDistinct (language fast) s.funs → UnitRefines (language slow) (language fast) t s }
+    ensures { (s : UnitOf Relaying) (t : UnitOf Relaying) → t.decls ≡ s.decls → t.globals ≡ s.globals → AllMade IsSame t.funs s.funs → UnitRefines (language slow) (language fast) t s }
 {}
 
 /// A unit whose functions put out a word refines one whose functions add 0 to it first: what they read is known
 /// to be a word.
 #[tactic(auto, using(crate::proofs::Sums::units_sum))]
 pub fn units_sum()
-    ensures { (s : UnitOf Relaying) (t : UnitOf Relaying) → t.decls ≡ s.decls → t.globals ≡ s.globals → AllMade IsSame t.funs s.funs → AreDistinct (language adding) s.funs → UnitRefines (language plain) (language adding) t s }
+    ensures { (s : UnitOf Relaying) (t : UnitOf Relaying) → t.decls ≡ s.decls → t.globals ≡ s.globals → AllMade IsSame t.funs s.funs → UnitRefines (language plain) (language adding) t s }
 {}

@@ -3,7 +3,7 @@ ghost use Rattle.cas_base.specs.declared.decl.Decl.{Decl};
 ghost use Rattle.cas_base.specs.declared.decl.Unit.{Unit as UnitOf};
 ghost use Rattle.cas_runs.specs.Calls.{language};
 ghost use Rattle.cas_runs.specs.Passing.{AllMade};
-ghost use Rattle.cas_runs.specs.Unit.{AreDistinct, FunctionRefines, UnitRefines};
+ghost use Rattle.cas_runs.specs.Unit.{FunctionRefines, UnitRefines};
 ghost use Rattle.cas_runs.specs.Unmoved.{Equal};
 ghost use Rattle.cas_trial.specs.Relays.{AtCall, IsTailing, Relay, calling, dropping, tailing};
 ghost use Rattle.cas_trial.specs.Stages.{main_name};
@@ -61,7 +61,6 @@ impl FunctionPass for TailCalls {
 
     fn names_stay() {}
 
-    #[tactic(auto, using(crate::proofs::Tailcalls::result_laid_out))]
     fn laid_out_too() {}
 
     #[tactic(auto, using(crate::proofs::Tailcalls::result_pass))]
@@ -82,7 +81,7 @@ pub fn relay(alloc: Global, program: &Relaying) -> Result<Relayed, NoMemory>
 
 /// Units of such programs refine, where their declarations and data are equal.
 pub fn units_relay()
-    ensures { (s : UnitOf Relaying) (t : UnitOf Relayed) → t.decls ≡ s.decls → t.globals ≡ s.globals → AllMade IsTailing t.funs s.funs → AreDistinct (language calling) s.funs → UnitRefines (language tailing) (language calling) t s }
+    ensures { (s : UnitOf Relaying) (t : UnitOf Relayed) → t.decls ≡ s.decls → t.globals ≡ s.globals → AllMade IsTailing t.funs s.funs → UnitRefines (language tailing) (language calling) t s }
 {
     units_refine::<TailCalls>();
 }
@@ -90,5 +89,5 @@ pub fn units_relay()
 /// So do units of programs that return nothing of the result: who called them takes none.
 #[tactic(auto, using(crate::proofs::Tailcalls::units_drop))]
 pub fn units_drop()
-    ensures { (s : UnitOf Relaying) (t : UnitOf Relayed) → t.decls ≡ s.decls → t.globals ≡ s.globals → AllMade IsTailing t.funs s.funs → AreDistinct (language dropping) s.funs → UnitRefines (language tailing) (language dropping) t s }
+    ensures { (s : UnitOf Relaying) (t : UnitOf Relayed) → t.decls ≡ s.decls → t.globals ≡ s.globals → AllMade IsTailing t.funs s.funs → UnitRefines (language tailing) (language dropping) t s }
 {}
