@@ -253,7 +253,7 @@ module _ {F A G B : Type 0} (target : Activations F A) (source : Activations G B
     };
     shows = λ p q h k a vs ws s e. subst (λ n. can_show_all (parts_at placed n) p.naming vs ≡ true) (sym a.begun) (all_show_too target source made place sizes placed setting.layout is q.begun p.naming q.naming a.naming vs ws (to_moved vs ws s) e);
     crosses = λ p q h k a vs ws s crossing ns e. crosses_moved target source made place sizes placed setting.layout is p q h k a vs ws (to_moved vs ws s) crossing ns e;
-    hears = λ n p q h k a before types crossing brings typed.
+    hears = λ n p q h k a types crossing brings typed.
         let both = left target source made place sizes placed setting.layout is crossing.objects h.memory k.memory a.memory p.naming q.naming a.naming 0 in (
           record { settled = record { begun = a.begun; share = refl; memory = both.memory; naming = both.naming }; later = λ f a' b less none. unplaced_stay crossing.objects k.memory p.naming q.naming a.naming 0 f a' b none },
           same_if (all_taken (brought_in R p h crossing).naming crossing.values) (all_taken (brought_in R q k crossing).naming crossing.values)

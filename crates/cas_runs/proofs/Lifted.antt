@@ -1,5 +1,5 @@
 -- A pass of activations refines functions, units and threads.
-use Rattle.std.proofs.Common.{◌≡◌, ℕ, List, [], ◌∷◌, Some, true, false, inl, inr, refl, ap, ◌∙◌}
+use Rattle.std.proofs.Common.{◌≡◌, ℕ, List, [], ◌∷◌, Some, true, false, refl, ap, ◌∙◌}
 use Rattle.cas_base.specs.declared.decl.Decl.{Decl}
 use Rattle.cas_base.specs.declared.decl.Unit.{Unit as UnitOf}
 use Rattle.cas_base.specs.declared.kind.Kind.TheVariants.{U32}
@@ -20,7 +20,7 @@ module _ {F A G B : Type 0} (r : Relation F A G B) (is : IsPass r) (all : AllFou
   -- where the outside runs first
   pub outward_refines : (ins_t : List F) (ins_s : List G) → AllFound r.target r.source r.made ins_t ins_s → Refines r.setting.edge (machine r.target (laid_out r.setting r.placed) (record { functions = r.targets; within = ins_t; crosses = true }) outside_first) (machine r.source r.setting (record { functions = r.sources; within = ins_s; crosses = true }) outside_first)
   outward_refines ins_t ins_s all_in = lifted_refines r is.keeps is.pays is.passes ins_t ins_s true outside_first outside_first all all_in
-      (related (away refl (waits_within r is.keeps is.pays is.passes ins_t ins_s true outside_first outside_first) is.keeps.first bottom))
+      (related (away refl (waits_within r is.keeps is.pays is.passes ins_t ins_s true outside_first outside_first) is.keeps.first refl bottom))
 
   -- where a thread runs
   pub thread_refines : (entry : NameBytes) (thread : ℕ) → IsOfKind thread U32 → Refines r.setting.edge (machine r.target (laid_out r.setting r.placed) (record { functions = r.targets; within = r.targets; crosses = false }) (starts r.target (find r.target r.targets entry) thread)) (machine r.source r.setting (record { functions = r.sources; within = r.sources; crosses = false }) (starts r.source (find r.source r.sources entry) thread))

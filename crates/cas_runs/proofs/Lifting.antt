@@ -2,8 +2,8 @@
 use Rattle.std.proofs.Common.{◌≡◌, ℕ, zero, suc, ◌+◌, ◌≤◌, List, [], ◌∷◌, ◌++◌, length, ◌⊎◌, Option, Some, None, Bool, true, false, if◌then◌else◌, inl, inr, refl, sym, ap, ◌∙◌, subst, ⊎_elim, arith}
 use Rattle.cas_runs.specs.Label.{NameBytes, same_name, Share, Crossing, RunLabel, Lock, Unlock, Out, Done, Enter, Back, Call, Leave}
 use Rattle.cas_runs.specs.Edge.{AreGuarded, returned, results_of}
-use Rattle.cas_runs.specs.Outside.{crossed, MayBring}
-use Rattle.cas_runs.specs.Naming.{Value, Naming, and_then, all_taken}
+use Rattle.cas_runs.specs.Outside.{Brings, crossed, MayBring}
+use Rattle.cas_runs.specs.Naming.{Value, Naming, and_then, all_taken, objects_of}
 use Rattle.cas_runs.specs.Machine.{Act, Quiet, Says, Crosses, Locks, Hears, Bad, Stops, Ended, Taken, Full, Prints, Opened, Open, Between, Machine, CanCross, Leads, IsBad, Block, nothing, begun, onward, and_step}
 use Rattle.cas_runs.specs.Refines.{Within, Subsequence, done, keep, skip, Refines}
 use Rattle.cas_runs.specs.Simulation.{halts, fails_halting, step_halting, BadSoon, now, soon, Follows, related, fails as fails_follows, step, by, fails_before, step_before, waits_too, fails_waiting, step_waiting, hears_too, fails_hearing, step_hearing, crosses, fails_crossing, step_crossing, Answers, Fine, Simulates}
@@ -14,7 +14,7 @@ use Rattle.cas_runs.specs.Calls.{Last, Goes, Takes, Gives, Puts, Calls, Tails, R
 use Rattle.cas_runs.specs.Passing.{Relation, AllSame, t_step, s_step, Settles, Going, matched, fails, goes, Ready, ReadyIf, WaitAlike, PassesOn, cannot_go_on, fails_then, returns_first, OnlyPasses, TailAlike, tail, passing, LastAlike, Meets, meets, fails_first, goes_first, FailsSoon, fails_now, goes_on, Does, Passes, SameIf, brought_in, heard, Keeps, Pays}
 use Rattle.cas_runs.proofs.Found.{FoundAlike, AllFound}
 use Rattle.cas_runs.proofs.Refining.{steps_refine, within_more}
-use Rattle.cas_runs.proofs.Showing.{some_crossing}
+use Rattle.cas_runs.proofs.Showing.{some_crossing, objects_shown}
 use Rattle.cas_runs.proofs.Tests.{same_name_self}
 
 nothing_under : (c : Block) → Within nothing c
@@ -80,15 +80,15 @@ module _ {F A G B : Type 0} (r : Relation F A G B) (is : Keeps r) (pays : Pays r
       frames_open fr (Open (r.target.name f) ∷ as') (Open (r.source.name g) ∷ bs') (subst (λ v. Subsequence (Open (r.target.name f) ∷ as') (Open v ∷ bs')) (is.names f g made) (keep s))
   frames_open (passed {g = g} only based fr) as' bs' s = frames_open fr as' (Open (r.source.name g) ∷ bs') (skip s)
 
-  pub data Lifted : Thread F A → Block → Thread G B → Block → Type 0 where
-    away : {xs : List (Frame F A)} {ys : List (Frame G B)} {p q : Past} {h k : Holding} {b c : Block} → outward ≡ true → Within b c → r.settled p h q k → Frames h k p.begun xs ys → Lifted (Away xs p h) b (Away ys q k) c
-    runs : {f : F} {g : G} {n n' e e' : ℕ} {x : A} {y : B} {xs : List (Frame F A)} {ys : List (Frame G B)} {p q : Past} {h k : Holding} {b c : Block} → r.made f g → n + 1 ≤ p.begun → n ≡ n' → r.match f g n x h b y k c → r.alike p h q k → Based outward xs → Frames h k n xs ys → Lifted (Runs f n x e xs p h) b (Runs g n' y e' ys q k) c
-    leaving : {z : Thread G B} {vs : List Value} {xs : List (Frame F A)} {p : Past} {h : Holding} {b c : Block} (ws : List Value) (ys : List (Frame G B)) (q : Past) (k : Holding) → outward ≡ true → S.act z ≡ leaves r.setting.layout ws ys q k → Subsequence (below r.target xs (Between ∷ [])) (S.open_functions z) → Within b c → AllSame r vs ws → r.settled p h q k → Frames h k p.begun xs ys → Lifted (Leaves vs xs p h) b z c
-    over : {b c : Block} → Within b c → Lifted Over b Over c
-    broken : {x : Thread F A} {z : Thread G B} {b c : Block} → IsBad (S.act z) → Lifted x b z c
+  pub data Lifted (ls : List RunLabel) : Thread F A → Block → Thread G B → Block → Type 0 where
+    away : {xs : List (Frame F A)} {ys : List (Frame G B)} {p q : Past} {h k : Holding} {b c : Block} → outward ≡ true → Within b c → r.settled p h q k → crossed ls ≡ objects_of k.memory q.naming → Frames h k p.begun xs ys → Lifted ls (Away xs p h) b (Away ys q k) c
+    runs : {f : F} {g : G} {n n' e e' : ℕ} {x : A} {y : B} {xs : List (Frame F A)} {ys : List (Frame G B)} {p q : Past} {h k : Holding} {b c : Block} → r.made f g → n + 1 ≤ p.begun → n ≡ n' → r.match f g n x h b y k c → r.alike p h q k → Based outward xs → Frames h k n xs ys → Lifted ls (Runs f n x e xs p h) b (Runs g n' y e' ys q k) c
+    leaving : {z : Thread G B} {vs : List Value} {xs : List (Frame F A)} {p : Past} {h : Holding} {b c : Block} (ws : List Value) (ys : List (Frame G B)) (q : Past) (k : Holding) → outward ≡ true → S.act z ≡ leaves r.setting.layout ws ys q k → Subsequence (below r.target xs (Between ∷ [])) (S.open_functions z) → Within b c → AllSame r vs ws → r.settled p h q k → Frames h k p.begun xs ys → Lifted ls (Leaves vs xs p h) b z c
+    over : {b c : Block} → Within b c → Lifted ls Over b Over c
+    broken : {x : Thread F A} {z : Thread G B} {b c : Block} → IsBad (S.act z) → Lifted ls x b z c
 
   abbrev pub Rel : List RunLabel → Thread F A → Block → Thread G B → Block → Type 0
-  Rel ls x b z c = Lifted x b z c
+  Rel ls x b z c = Lifted ls x b z c
 
   abbrev Ans : List RunLabel → Act (Thread F A) → Block → Thread G B → Block → Type 0
   Ans ls a b z c = Answers r.setting.edge T S Rel ls a b z c
@@ -199,19 +199,19 @@ module _ {F A G B : Type 0} (r : Relation F A G B) (is : Keeps r) (pays : Pays r
     abbrev EachOut : RunLabel → Option (Thread F A) → Thread G B → Type 0
     EachOut l o y = (x : Thread F A) × (o ≡ Some x) × Fol (l ∷ ls) x (begun T x) y (begun S y)
 
-    crossed_out : (l : RunLabel) (crossing : Crossing) (y : Thread G B) (o : Option Naming) → crosses_as r.setting.layout ws q k crossing ≡ o → to_outside ys q k o ≡ Some y → EachOut l (to_outside xs p h (crosses_as r.placed vs p h crossing)) y
-    crossed_out l crossing y None e f = absurd (cc f)
-    crossed_out l crossing y (Some ns) e f =
+    crossed_out : (l : RunLabel) (crossing : Crossing) → crossed (l ∷ ls) ≡ crossing.objects → (y : Thread G B) (o : Option Naming) → crosses_as r.setting.layout ws q k crossing ≡ o → to_outside ys q k o ≡ Some y → EachOut l (to_outside xs p h (crosses_as r.placed vs p h crossing)) y
+    crossed_out l crossing shows y None e f = absurd (cc f)
+    crossed_out l crossing shows y (Some ns) e f =
         let m = is.crosses p q h k alike vs ws same crossing ns e in
         let there : Away ys (with_naming q ns) k ≡ y = cc f in
         let to : Thread F A = Away xs (with_naming p m.0) h in
-        (to, ap (λ (o : Option Naming). to_outside xs p h o) m.1, subst (λ v. Fol (l ∷ ls) to (begun T to) v (begun S v)) there (related (away out waits_within m.2 fr)))
+        (to, ap (λ (o : Option Naming). to_outside xs p h o) m.1, subst (λ v. Fol (l ∷ ls) to (begun T to) v (begun S v)) there (related (away out waits_within m.2 (shows ∙ objects_shown r.setting.layout ws q k crossing ns e) fr)))
 
     each_call : (function : NameBytes) (l : RunLabel) (y : Thread G B) → CanCross l → calls_by r.setting.layout function ws ys q k l ≡ Some y → EachOut l (calls_by r.placed function vs xs p h l) y
     each_call function (Call name crossing) y c e = named (same_name name function) e
       where
         named : (t : Bool) → (if t then to_outside ys q k (crosses_as r.setting.layout ws q k crossing) else None) ≡ Some y → EachOut (Call name crossing) (if t then to_outside xs p h (crosses_as r.placed vs p h crossing) else None) y
-        named true f = crossed_out (Call name crossing) crossing y (crosses_as r.setting.layout ws q k crossing) refl f
+        named true f = crossed_out (Call name crossing) crossing refl y (crosses_as r.setting.layout ws q k crossing) refl f
         named false f = absurd (cc f)
     each_call function (Leave crossing) y c e = absurd (cc e)
     each_call function (Lock lock words) y c e = absurd c
@@ -222,7 +222,7 @@ module _ {F A G B : Type 0} (r : Relation F A G B) (is : Keeps r) (pays : Pays r
     each_call function (Back crossing) y c e = absurd c
 
     each_leave : (l : RunLabel) (y : Thread G B) → CanCross l → leaves_by r.setting.layout ws ys q k l ≡ Some y → EachOut l (leaves_by r.placed vs xs p h l) y
-    each_leave (Leave crossing) y c e = crossed_out (Leave crossing) crossing y (crosses_as r.setting.layout ws q k crossing) refl e
+    each_leave (Leave crossing) y c e = crossed_out (Leave crossing) crossing refl y (crosses_as r.setting.layout ws q k crossing) refl e
     each_leave (Call name crossing) y c e = absurd (cc e)
     each_leave (Lock lock words) y c e = absurd c
     each_leave (Unlock lock words) y c e = absurd c
@@ -561,9 +561,9 @@ module _ {F A G B : Type 0} (r : Relation F A G B) (is : Keeps r) (pays : Pays r
   backs_too ls p q h k alike out xs ys fr (Some vs) (Some ws) same = back_too ls p q h k alike vs out fr (omega arith) ws (all_first vs ws same)
 
   module _ (all : AllFound r.target r.source r.made r.targets r.sources) (all_t : AllFound r.target r.source r.made ins_t ins_s) where
-    heard_too : (ls : List RunLabel) (p q : Past) (h k : Holding) → r.settled p h q k → outward ≡ true → (xs : List (Frame F A)) (ys : List (Frame G B)) → Frames h k p.begun xs ys → (l : RunLabel) → MayBring r.setting.edge ls l → Fol (l ∷ ls) (hears r.target there scene_t xs p h l) (begun T (hears r.target there scene_t xs p h l)) (hears r.source r.setting scene_s ys q k l) (begun S (hears r.source r.setting scene_s ys q k l))
-    heard_too ls p q h k alike out xs ys fr (Enter name crossing) m =
-        let s = is.hears p.begun p q h k alike (crossed ls) m.signature.params crossing m.brings m.values in
+    heard_too : (ls : List RunLabel) (p q : Past) (h k : Holding) → r.settled p h q k → crossed ls ≡ objects_of k.memory q.naming → outward ≡ true → (xs : List (Frame F A)) (ys : List (Frame G B)) → Frames h k p.begun xs ys → (l : RunLabel) → MayBring r.setting.edge ls l → Fol (l ∷ ls) (hears r.target there scene_t xs p h l) (begun T (hears r.target there scene_t xs p h l)) (hears r.source r.setting scene_s ys q k l) (begun S (hears r.source r.setting scene_s ys q k l))
+    heard_too ls p q h k alike shown out xs ys fr (Enter name crossing) m =
+        let s = is.hears p.begun p q h k alike m.signature.params crossing (subst (λ os. Brings r.setting.edge os crossing) shown m.brings) m.values in
         let p' = with_naming p (brought_in r p h crossing).naming in
         let q' = with_naming q (brought_in r q k crossing).naming in
         let h' = heard r p h crossing in
@@ -577,28 +577,28 @@ module _ {F A G B : Type 0} (r : Relation F A G B) (is : Keeps r) (pays : Pays r
             on : (o : Bool) → Based o (Outer (results_of r.setting.edge name) ∷ xs)
             on true = tt
             on false = tt
-    heard_too ls p q h k alike out xs ys fr (Back crossing) m =
-        let s = is.hears p.begun p q h k alike (crossed ls) (returned m.signature.ret) crossing m.brings m.values in
+    heard_too ls p q h k alike shown out xs ys fr (Back crossing) m =
+        let s = is.hears p.begun p q h k alike (returned m.signature.ret) crossing (subst (λ os. Brings r.setting.edge os crossing) shown m.brings) m.values in
         let p' = with_naming p (brought_in r p h crossing).naming in
         let q' = with_naming q (brought_in r q k crossing).naming in
         let h' = heard r p h crossing in
         let k' = heard r q k crossing in
         (backs_too (Back crossing ∷ ls) p' q' h' k' s.0.settled out xs ys (frames_later h k h' k' fr s.0.later)
         (all_taken (brought_in r p h crossing).naming crossing.values) (all_taken (brought_in r q k crossing).naming crossing.values) s.1)
-    heard_too ls p q h k alike out xs ys fr (Lock lock words) m = absurd m
-    heard_too ls p q h k alike out xs ys fr (Unlock lock words) m = absurd m
-    heard_too ls p q h k alike out xs ys fr (Out word) m = absurd m
-    heard_too ls p q h k alike out xs ys fr Done m = absurd m
-    heard_too ls p q h k alike out xs ys fr (Call name crossing) m = absurd m
-    heard_too ls p q h k alike out xs ys fr (Leave crossing) m = absurd m
+    heard_too ls p q h k alike shown out xs ys fr (Lock lock words) m = absurd m
+    heard_too ls p q h k alike shown out xs ys fr (Unlock lock words) m = absurd m
+    heard_too ls p q h k alike shown out xs ys fr (Out word) m = absurd m
+    heard_too ls p q h k alike shown out xs ys fr Done m = absurd m
+    heard_too ls p q h k alike shown out xs ys fr (Call name crossing) m = absurd m
+    heard_too ls p q h k alike shown out xs ys fr (Leave crossing) m = absurd m
 
     -- The simulation.
 
     open_runs : (f : F) (g : G) (x : A) (h : Holding) (y : B) (k : Holding) → r.made f g → Subsequence (called (t_step r x h).last) (called (s_step r y k).last) → Subsequence (Open (r.target.name f) ∷ called (t_step r x h).last) (Open (r.source.name g) ∷ called (s_step r y k).last)
     open_runs f g x h y k made s = subst (λ v. Subsequence (Open (r.target.name f) ∷ called (t_step r x h).last) (Open v ∷ called (s_step r y k).last)) (is.names f g made) (keep s)
 
-    fine_of : (ls : List RunLabel) (x : Thread F A) (b : Block) (z : Thread G B) (c : Block) → Lifted x b z c → BadSoon S z ⊎ Fine r.setting.edge T S Rel x b z c
-    fine_of ls x b z c (away out w alike fr) = inr (record { costs = waiting_costs r.target.tariff r.targets; within = w; opened = frames_open fr [] [] done })
+    fine_of : (ls : List RunLabel) (x : Thread F A) (b : Block) (z : Thread G B) (c : Block) → Lifted ls x b z c → BadSoon S z ⊎ Fine r.setting.edge T S Rel x b z c
+    fine_of ls x b z c (away out w alike shown fr) = inr (record { costs = waiting_costs r.target.tariff r.targets; within = w; opened = frames_open fr [] [] done })
     fine_of ls x b z c (runs {f = f} {g = g} {n = n} {n' = n'} {e = e} {x = a} {y = y} {ys = ys} {p = p} {q = q} {h = h} {k = k} made less same m alike based fr) =
         ⊎_elim (λ bad. inl (fails_soon g n' ys q bad))
         (λ fine. let least = step_costs r.target.tariff r.targets a pays.prices in inr (record { costs = omega (arith, least); within = fine.within; opened = frames_open fr _ _ (open_runs f g a h y k made fine.opened) }))
@@ -607,8 +607,8 @@ module _ {F A G B : Type 0} (r : Relation F A G B) (is : Keeps r) (pays : Pays r
     fine_of ls x b z c (over w) = inr (record { costs = waiting_costs r.target.tariff r.targets; within = w; opened = done })
     fine_of ls x b z c (broken e) = inl (now e)
 
-    answers_of : (ls : List RunLabel) (x : Thread F A) (b : Block) (z : Thread G B) (c : Block) → Lifted x b z c → Ans ls (T.act x) b z c
-    answers_of ls x b z c (away {xs = xs} {ys = ys} {p = p} {q = q} {h = h} {k = k} out w alike fr) = hears_too (hears r.source r.setting scene_s ys q k) refl (heard_too ls p q h k alike out xs ys fr)
+    answers_of : (ls : List RunLabel) (x : Thread F A) (b : Block) (z : Thread G B) (c : Block) → Lifted ls x b z c → Ans ls (T.act x) b z c
+    answers_of ls x b z c (away {xs = xs} {ys = ys} {p = p} {q = q} {h = h} {k = k} out w alike shown fr) = hears_too (hears r.source r.setting scene_s ys q k) refl (heard_too ls p q h k alike shown out xs ys fr)
     answers_of ls x b z c (runs {f = f} {g = g} {n = n} {n' = n'} {e' = e'} {x = a} {y = y} {xs = xs} {ys = ys} {p = p} {q = q} {h = h} {k = k} made less same m alike based fr) =
         ⊎_elim (λ bad. bad_answers (T.act (Runs f n a e' xs p h)) (fails_soon g n' ys q bad))
         (λ fine. at_last all_t ls b c f g n n' e' p q xs ys made less same based h k alike fr fine.within y (t_step r a h).last (t_step r a h).holding (ok.does n f g made p q a h b y k c m alike))

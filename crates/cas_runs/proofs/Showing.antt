@@ -5,8 +5,8 @@ use Rattle.std.proofs.lemmas.Option.{slice_get_within}
 use Rattle.cas_runs.specs.Label.{NameBytes, Shown, Word, Place, Crossing}
 use Rattle.cas_runs.specs.Naming.{Home, Own, Theirs, Value, Number, Pointer, Hidden, Part, Layout, parts_at, Named, Naming, same_home, same_part, is_it, one_later, number_of, is_place, part_by, again, if_new, first_time, named_by, and_then, all_named_by, reaches, some_reaches, reached_in, can_show, can_show_all, objects_of, same_objects}
 use Rattle.cas_runs.specs.Access.{Holding}
-use Rattle.cas_runs.specs.Calls.{Past, if_shown, can_cross, crosses_as}
-use Rattle.cas_runs.proofs.Tests.{and_both, both_true, eq_self, same_objects_self, same_share_self}
+use Rattle.cas_runs.specs.Calls.{Past, same_share, if_shown, can_cross, crosses_as}
+use Rattle.cas_runs.proofs.Tests.{and_both, both_true, eq_self, objects_from, same_objects_self, same_share_self}
 
 -- The part that a place is of.
 
@@ -234,3 +234,19 @@ some_crossing layout values past h e =
           ∙ ap (λ (o : Option Naming). and_then o (λ ns. if_shown (same_objects (objects_of h.memory ns) crossing.objects) ns)) x.named
           ∙ ap (λ (t : Bool). if_shown t x.naming) (same_objects_self crossing.objects);
     }
+
+-- a label shows the objects that have crossed by then
+pub objects_shown : (layout : Layout) (values : List Value) (past : Past) (h : Holding) (crossing : Crossing) (ns : Naming) → crosses_as layout values past h crossing ≡ Some ns → crossing.objects ≡ objects_of h.memory ns
+objects_shown layout values past h crossing ns e = by (same_share h.share crossing.share) e
+  where
+    shown : (ms : Naming) (t : Bool) → same_objects (objects_of h.memory ms) crossing.objects ≡ t → if_shown t ms ≡ Some ns → crossing.objects ≡ objects_of h.memory ns
+    shown ms true is f = let same : ms ≡ ns = cc f in subst (λ v. crossing.objects ≡ objects_of h.memory v) same (sym (objects_from (objects_of h.memory ms) crossing.objects is))
+    shown ms false is f = absurd (cc f)
+
+    named : (o : Option Naming) → and_then o (λ v. if_shown (same_objects (objects_of h.memory v) crossing.objects) v) ≡ Some ns → crossing.objects ≡ objects_of h.memory ns
+    named None f = absurd (cc f)
+    named (Some ms) f = shown ms (same_objects (objects_of h.memory ms) crossing.objects) refl f
+
+    by : (t : Bool) → (if t then and_then (all_named_by (parts_at layout past.begun) past.naming values crossing.values) (λ v. if_shown (same_objects (objects_of h.memory v) crossing.objects) v) else None) ≡ Some ns → crossing.objects ≡ objects_of h.memory ns
+    by true f = named (all_named_by (parts_at layout past.begun) past.naming values crossing.values) f
+    by false f = absurd (cc f)

@@ -68,7 +68,7 @@ module _ {F A G B : Type 0} (target : Activations F A) (source : Activations G B
           ap (λ us. crosses_as setting.layout us p h crossing) (to_equal vs ws s) ∙ ap (λ v. crosses_as setting.layout ws v h crossing) past ∙ ap (λ v. crosses_as setting.layout ws q v crossing) holding ∙ e,
           record { past = ap (λ v. with_naming v ns) past; holding = holding },
         );
-    hears = λ n p q h k a before types crossing brings typed.
+    hears = λ n p q h k a types crossing brings typed.
         let past : p ≡ q = a.past in
         let holding : h ≡ k = a.holding in
         let both : brought_in R p h crossing ≡ brought_in R q k crossing = ap (λ v. brought_in R v h crossing) past ∙ ap (λ v. brought_in R q v crossing) holding in (

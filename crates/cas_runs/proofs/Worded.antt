@@ -7,7 +7,7 @@ use Rattle.cas_base.specs.declared.kind.Ty.TheVariants.{Void, Int, Ptr, Array}
 use Rattle.cas_runs.specs.Label.{NameBytes, Shown, Word, Place, Object, Share}
 use Rattle.cas_runs.specs.Edge.{Edge, IsOfKind, IsOfType, AreOfTypes, IsShare}
 use Rattle.cas_runs.specs.Outside.{AreWordsOf, ChangesTo, NewContents, Continues, AreNew}
-use Rattle.cas_runs.specs.Naming.{Home, Own, Theirs, Value, Number, Named, Naming, Memory, and_then, with_block, died, value_at, taken, all_taken, refilled, overwritten, written, left_in, filled, new_block, brought}
+use Rattle.cas_runs.specs.Naming.{Home, Own, Theirs, Value, Number, Named, Naming, Memory, and_then, with_block, died, value_at, taken, all_taken, refilled, overwritten, written, left_in, filled, new_block, brought, objects_of}
 use Rattle.cas_runs.specs.Machine.{Block}
 use Rattle.cas_runs.specs.Access.{Holding, with_lock, without_lock, value_in}
 use Rattle.cas_runs.specs.Unit.{Setting}
@@ -258,7 +258,7 @@ module _ {F A G B : Type 0} (target : Activations F A) (source : Activations G B
           ap (λ us. crosses_as setting.layout us p h crossing) (to_equal vs ws s) ∙ ap (λ v. crosses_as setting.layout ws v h crossing) past ∙ ap (λ v. crosses_as setting.layout ws q v crossing) holding ∙ e,
           record { past = ap (λ v. with_naming v ns) past; holding = holding; share = a.share; memory = a.memory },
         );
-    hears = λ n p q h k a before types crossing brings typed.
+    hears = λ n p q h k a types crossing brings typed.
         let past : p ≡ q = a.past in
         let holding : h ≡ k = a.holding in
         let both : brought_in R p h crossing ≡ brought_in R q k crossing = ap (λ v. brought_in R v h crossing) past ∙ ap (λ v. brought_in R q v crossing) holding in (
@@ -267,7 +267,7 @@ module _ {F A G B : Type 0} (target : Activations F A) (source : Activations G B
               past = ap (λ (v : Past). with_naming v (brought_in R v h crossing).naming) past ∙ ap (λ (v : Holding). with_naming q (brought_in R q v crossing).naming) holding;
               holding = ap (λ (v : Past). heard R v h crossing) past ∙ ap (λ v. heard R q v crossing) holding;
               share = share_brought setting.edge crossing.share brings.share;
-              memory = memory_brought crossing.objects (brought_words before crossing.objects brings.objects) k.memory a.memory q.naming 0;
+              memory = memory_brought crossing.objects (brought_words (objects_of k.memory q.naming) crossing.objects brings.objects) k.memory a.memory q.naming 0;
             };
             later = tt;
           },

@@ -2,10 +2,10 @@
 use Rattle.std.specs.Prelude.{◌≡◌, ℕ, ◌+◌, ◌≤◌, true, List, [], ◌∷◌, ◌++◌, length, Option, Some, None, ◌⊎◌}
 use Rattle.cas_base.specs.declared.kind.Kind.TheVariants.{U32}
 use Rattle.cas_base.specs.declared.kind.Ty.{Ty}
-use Rattle.cas_runs.specs.Label.{NameBytes, Object, Crossing}
+use Rattle.cas_runs.specs.Label.{NameBytes, Crossing}
 use Rattle.cas_runs.specs.Edge.{IsOfKind, AreGuarded, AreOfTypes, results_of}
 use Rattle.cas_runs.specs.Outside.{Brings}
-use Rattle.cas_runs.specs.Naming.{Value, Number, Layout, Naming, Crossed, all_taken, brought}
+use Rattle.cas_runs.specs.Naming.{Value, Number, Layout, Naming, Crossed, all_taken, objects_of, brought}
 use Rattle.cas_runs.specs.Machine.{Block, and_step}
 use Rattle.cas_runs.specs.Refines.{Within, Subsequence}
 use Rattle.cas_runs.specs.Bounds.{IsTariff, step_price, first_price, waiting_price}
@@ -178,7 +178,7 @@ module _ {F A G B : Type 0} (r : Relation F A G B) where
     pub ends : (n : ℕ) (f : F) (g : G) → r.made f g → (p q : Past) (h k : Holding) → r.settled p h q k → Settles n p q h k (without_own r.target f n h) (without_own r.source g n k)
     pub shows : (p q : Past) (h k : Holding) → r.settled p h q k → (vs ws : List Value) → AllSame vs ws → can_cross r.setting.layout q ws ≡ true → can_cross r.placed p vs ≡ true
     pub crosses : (p q : Past) (h k : Holding) → r.settled p h q k → (vs ws : List Value) → AllSame vs ws → (crossing : Crossing) (ns : Naming) → crosses_as r.setting.layout ws q k crossing ≡ Some ns → (ms : Naming) × (crosses_as r.placed vs p h crossing ≡ Some ms) × r.settled (with_naming p ms) h (with_naming q ns) k
-    pub hears : (n : ℕ) (p q : Past) (h k : Holding) → r.settled p h q k → (before : List Object) (types : List Ty) (crossing : Crossing) → Brings r.setting.edge before crossing → AreOfTypes crossing.objects types crossing.values → Settles n (with_naming p (brought_in p h crossing).naming) (with_naming q (brought_in q k crossing).naming) h k (heard p h crossing) (heard q k crossing) × SameIf (all_taken (brought_in p h crossing).naming crossing.values) (all_taken (brought_in q k crossing).naming crossing.values)
+    pub hears : (n : ℕ) (p q : Past) (h k : Holding) → r.settled p h q k → (types : List Ty) (crossing : Crossing) → Brings r.setting.edge (objects_of k.memory q.naming) crossing → AreOfTypes crossing.objects types crossing.values → Settles n (with_naming p (brought_in p h crossing).naming) (with_naming q (brought_in q k crossing).naming) h k (heard p h crossing) (heard q k crossing) × SameIf (all_taken (brought_in p h crossing).naming crossing.values) (all_taken (brought_in q k crossing).naming crossing.values)
 
   -- the constants are prices, and waiting costs no more than in the source
   pub record Pays : Type 0 where
