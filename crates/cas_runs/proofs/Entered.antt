@@ -1,6 +1,6 @@
 -- Where a unit's functions are its defined declarations, the outside may enter exactly its functions at an edge that fits it.
 use Rattle.std.specs.Prelude.{map}
-use Rattle.std.proofs.Common.{◌≡◌, List, [], ◌∷◌, Bool, true, false, ◌&&◌, if◌then◌else◌, refl, sym, ap, ◌∙◌, subst}
+use Rattle.std.proofs.Common.{◌≡◌, List, [], ◌∷◌, Bool, true, false, ◌&&◌, if◌then◌else◌, refl, sym, ap, ◌∙◌}
 use Rattle.cas_base.specs.declared.decl.Decl.{Decl}
 use Rattle.cas_base.specs.declared.decl.Form.{Form}
 use Rattle.cas_base.specs.declared.decl.Form.TheVariants.{Lock, Shared, Table, Function}
@@ -10,7 +10,7 @@ use Rattle.cas_base.specs.Unit.{IsInOrder}
 use Rattle.cas_runs.specs.Label.{NameBytes, same_name}
 use Rattle.cas_runs.specs.Edge.{Edge, Signature}
 use Rattle.cas_runs.specs.Access.{Words}
-use Rattle.cas_runs.specs.Unit.{Stack, Language, defined_as, defines, has_function, OnlyInside, FitsUnit}
+use Rattle.cas_runs.specs.Unit.{Stack, Language, defines, has_function, OnlyInside, FitsUnit}
 
 -- one of the declarations has this name
 abbrev has_named : List Decl → NameBytes → Bool

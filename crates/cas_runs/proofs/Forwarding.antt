@@ -12,7 +12,7 @@ use Rattle.cas_runs.specs.Forms.{MemoryKeeps, AlikeSince, ShareSelfSame, BothPer
 use Rattle.cas_runs.specs.Calls.{Last, Goes, Takes, Gives, Puts, Calls, Tails, Returns, Past, with_share, with_own, one_begun, called, nothing_touched}
 use Rattle.cas_runs.specs.Passing.{Relation, t_step, s_step, t_on, s_on, Going, matched, fails, goes, Ready, ReadyIf, TailAlike, tail, meets, fails_first, FailsSoon, fails_now, Does, FineAt, Passes, Keeps}
 use Rattle.cas_runs.specs.Stepwise.{AtIf, LastAt, goes_at, takes_at, gives_at, puts_at, calls_at, tails_at, returns_at, HoldsPlainly}
-use Rattle.cas_runs.specs.Forward.{Leads, both_read, both_load, source_reads, source_loads, source_looks, onward, at_last, fails_too, Midway, Forward}
+use Rattle.cas_runs.specs.Forward.{AmountsTo, both_read, both_load, source_reads, source_loads, source_looks, onward, at_last, fails_too, Midway, Forward}
 use Rattle.cas_runs.specs.Unit.{IsEdge}
 use Rattle.cas_runs.proofs.Words.{self_get, self_found, self_with_lock, self_without_lock, guarded_self, table_self}
 use Rattle.cas_runs.proofs.Performing.{foot_same, foot_both, DoingAlike, both_read as both_read_now, loads_too, performed_alike}
@@ -104,7 +104,7 @@ module _ {F A G B : Type 0} (r : Relation F A G B) (At : F → G → A → B →
       holding : p.holding ≡ d.holding
       so_far : q ≡ performed C W left now
       unchanged : now.holding ≡ e.holding
-      leads : Leads r At same_size to from rest (r.target.form next) left
+      leads : AmountsTo r At same_size to from rest (r.target.form next) left
       price : step_price r.target.tariff r.targets next + rest ≤ credit
       footprint : FootIn p.footprint q.footprint
 
@@ -171,7 +171,7 @@ module _ {F A G B : Type 0} (r : Relation F A G B) (At : F → G → A → B →
     load_alone d e credit p go' more None = failing refl
     load_alone d e credit p go' more (Some w) = more w
 
-    front : {credit : ℕ} {x : Accesses (Last A)} {z : Accesses (Last B)} → Leads r At same_size to from credit x z → (d e : Doing) → DoingAlike r.same memory_alike d e → Front d e credit (performed C W x d) (performed C W z e)
+    front : {credit : ℕ} {x : Accesses (Last A)} {z : Accesses (Last B)} → AmountsTo r At same_size to from credit x z → (d e : Doing) → DoingAlike r.same memory_alike d e → Front d e credit (performed C W x d) (performed C W z e)
     front {credit = credit} (both_read {global = global} {offset = offset} f) d e h = number_front d e credit h _ _ (λ v self d' e' h'. front (f v self) d' e' h') (number_in (W global) offset)
     front {credit = credit} (both_load {home = home} {home' = home'} {at = at} {at' = at'} s f) d e h =
         loads_too r.same same_size memory_alike keeps_memory C tables W (Front d e credit) (λ p q. failing) d e h home home' at at' s _ _ (λ v w t. front (f v w t) d e h) (value_in (e.holding.memory home') at') refl
@@ -227,7 +227,7 @@ module _ {F A G B : Type 0} (r : Relation F A G B) (At : F → G → A → B →
       }
 
       -- the footprint of the target's step is in that of the source's, unless that fails
-      step_in : (p q : Past) (h k : Holding) → r.alike p h q k → (x : A) (y : B) (z : Accesses (Last B)) (e : Doing) (credit : ℕ) → s_step R' y k ≡ performed cells words z e → e.holding ≡ k → Leads r At same_size to from credit (r.target.form x) z → ((s_step R' y k).last ≡ None) ⊎ FootIn (t_step R' x h).footprint (s_step R' y k).footprint
+      step_in : (p q : Past) (h k : Holding) → r.alike p h q k → (x : A) (y : B) (z : Accesses (Last B)) (e : Doing) (credit : ℕ) → s_step R' y k ≡ performed cells words z e → e.holding ≡ k → AmountsTo r At same_size to from credit (r.target.form x) z → ((s_step R' y k).last ≡ None) ⊎ FootIn (t_step R' x h).footprint (s_step R' y k).footprint
       step_in p q h k a x y z e credit so_far same leads = by (front r At same_size (since k.memory) (keeps_memory k.memory) tables to from leads (record { holding = h; footprint = nothing_touched }) e (at_start p q h k a e same))
         where
           by : FrontAt tables to from k.memory (record { holding = h; footprint = nothing_touched }) e credit (t_step R' x h) (performed cells words z e) → ((s_step R' y k).last ≡ None) ⊎ FootIn (t_step R' x h).footprint (s_step R' y k).footprint
@@ -235,7 +235,7 @@ module _ {F A G B : Type 0} (r : Relation F A G B) (At : F → G → A → B →
           by (ending g) = inr (subst (λ (v : Performed (Last B)). FootIn (t_step R' x h).footprint v.footprint) (sym so_far) g.footprint)
           by (moving g) = inr (subst (λ (v : Performed (Last B)). FootIn (t_step R' x h).footprint v.footprint) (sym so_far) g.footprint)
 
-      stand : (n : ℕ) (p q : Past) (h0 k0 h k : Holding) → r.later n h0 k0 h k → r.alike p h q k → (x : A) (y : B) (z : Accesses (Last B)) (e : Doing) (credit : ℕ) → s_step R' y k ≡ performed cells words z e → e.holding ≡ k → Leads r At same_size to from credit (r.target.form x) z → (b c : Block) → b.price + credit ≤ c.price → (FootIn (t_step R' x h).footprint (s_step R' y k).footprint → Within b c) → FootIn (s_step R' y k).footprint (record { reads = c.reads; writes = c.writes }) → Going R' to from n p q h0 k0 x h b y k c
+      stand : (n : ℕ) (p q : Past) (h0 k0 h k : Holding) → r.later n h0 k0 h k → r.alike p h q k → (x : A) (y : B) (z : Accesses (Last B)) (e : Doing) (credit : ℕ) → s_step R' y k ≡ performed cells words z e → e.holding ≡ k → AmountsTo r At same_size to from credit (r.target.form x) z → (b c : Block) → b.price + credit ≤ c.price → (FootIn (t_step R' x h).footprint (s_step R' y k).footprint → Within b c) → FootIn (s_step R' y k).footprint (record { reads = c.reads; writes = c.writes }) → Going R' to from n p q h0 k0 x h b y k c
       stand n p q h0 k0 h k l a x y z e credit so_far same leads b c price within touches =
           ⊎_elim (λ bad. fails bad)
           (λ foot. matched ((record { left = z; done = e; credit = credit; so_far = so_far; unchanged = same; leads = leads; price = price; within = within foot; touches = touches })) (record { alike = a; later = l }))

@@ -1,5 +1,5 @@
 -- Functions are found at the same names in lists of which each is made of the other in its place.
-use Rattle.std.proofs.Common.{◌≡◌, List, [], ◌∷◌, Option, Some, None, Bool, true, false, if◌then◌else◌, refl, sym, subst}
+use Rattle.std.proofs.Common.{◌≡◌, List, [], ◌∷◌, Option, Some, None, Bool, true, false, if◌then◌else◌, refl, subst}
 use Rattle.cas_runs.specs.Label.{NameBytes, same_name}
 use Rattle.cas_runs.specs.Unit.{found}
 use Rattle.cas_runs.specs.Calls.{Activations, find}

@@ -6,7 +6,7 @@ use Rattle.cas_runs.specs.Label.{RunLabel, Lock, Unlock, Out, Done}
 use Rattle.cas_runs.specs.Edge.{LockWord, AreGuarded, AreUnder, IsOfKind}
 use Rattle.cas_runs.specs.Outside.{IsAmong, first, later}
 use Rattle.cas_runs.specs.Machine.{Act, Quiet, Says, Crosses, Locks, Hears, Bad, Stops, CanCross, Halt, Ended, Taken, Saying, Unlocks, Prints, Ends, label_of, Leads, Block, Run, starts, quiet, labelled}
-use Rattle.cas_runs.specs.Rules.{and_lock, without_lock, locks_after, IsShared, MaySay, HasEnded, MayHalt, HasCrossed, IsHearing, KeepsRules, AreInKind, KeepsKinds}
+use Rattle.cas_runs.specs.Rules.{and_lock, except_lock, locks_after, IsShared, MaySay, HasEnded, MayHalt, HasCrossed, IsHearing, KeepsRules, SaysInKind, KeepsKinds}
 use Rattle.cas_runs.proofs.Composing.{said_stays}
 use Rattle.cas_runs.specs.Sections.{Instruction, Take, Give, Load, Store, Print, Spin, Standing, At, Over, one_lock, first_of_words, act_of, act_at, footprint_at, sections, StoresWords}
 
@@ -54,7 +54,7 @@ label_holds ls l x y (free {rest = Print ∷ rest} {register = register} s r k) 
 label_holds ls l x y (free {rest = Spin ∷ rest} s r k) e = absurd e
 label_holds ls l x y (taken {rest = []} s r v k) e = same_locks ls Done l Over y e.0 (over refl) e.1
 label_holds ls l x y (taken {rest = Take ∷ rest} s r v k) e = absurd e
-label_holds ls l x y (taken {rest = Give ∷ rest} {register = register} {w = w} s r v k) e = same_locks ls (Unlock 0 (w ∷ [])) l (At rest register None) y e.0 (free s r (ap (λ v. without_lock 0 v) k)) e.1
+label_holds ls l x y (taken {rest = Give ∷ rest} {register = register} {w = w} s r v k) e = same_locks ls (Unlock 0 (w ∷ [])) l (At rest register None) y e.0 (free s r (ap (λ v. except_lock 0 v) k)) e.1
 label_holds ls l x y (taken {rest = Load ∷ rest} s r v k) e = absurd e
 label_holds ls l x y (taken {rest = Store w ∷ rest} s r v k) e = absurd e
 label_holds ls l x y (taken {rest = Print ∷ rest} {register = register} {w = w} s r v k) e = same_locks ls (Out register) l (At rest register (Some w)) y e.0 (taken s r v k) e.1
@@ -124,22 +124,22 @@ says_allowed ls x (taken {rest = Print ∷ rest} {register = register} s r v k) 
 says_allowed ls x (taken {rest = Spin ∷ rest} s r v k) saying y e = absurd (cc e)
 says_allowed ls x (over h) saying y e = absurd (cc e)
 
-says_kinds : (ls : List RunLabel) (x : Standing) → Holds ls x → (saying : Saying) (y : Standing) → act_at x ≡ Says saying y → AreInKind one_lock ls (label_of saying)
-says_kinds ls x (free {rest = []} s r k) saying y e = subst (λ v. AreInKind one_lock ls (label_of v)) (let same : Ends ≡ saying = cc e in same) tt
+says_kinds : (ls : List RunLabel) (x : Standing) → Holds ls x → (saying : Saying) (y : Standing) → act_at x ≡ Says saying y → SaysInKind one_lock ls (label_of saying)
+says_kinds ls x (free {rest = []} s r k) saying y e = subst (λ v. SaysInKind one_lock ls (label_of v)) (let same : Ends ≡ saying = cc e in same) tt
 says_kinds ls x (free {rest = Take ∷ rest} s r k) saying y e = absurd (cc e)
 says_kinds ls x (free {rest = Give ∷ rest} s r k) saying y e = absurd (cc e)
 says_kinds ls x (free {rest = Load ∷ rest} s r k) saying y e = absurd (cc e)
 says_kinds ls x (free {rest = Store w ∷ rest} s r k) saying y e = absurd (cc e)
-says_kinds ls x (free {rest = Print ∷ rest} {register = register} s r k) saying y e = subst (λ v. AreInKind one_lock ls (label_of v)) (let same : Prints register ≡ saying = cc e in same) r
+says_kinds ls x (free {rest = Print ∷ rest} {register = register} s r k) saying y e = subst (λ v. SaysInKind one_lock ls (label_of v)) (let same : Prints register ≡ saying = cc e in same) r
 says_kinds ls x (free {rest = Spin ∷ rest} s r k) saying y e = absurd (cc e)
-says_kinds ls x (taken {rest = []} s r v k) saying y e = subst (λ v. AreInKind one_lock ls (label_of v)) (let same : Ends ≡ saying = cc e in same) tt
+says_kinds ls x (taken {rest = []} s r v k) saying y e = subst (λ v. SaysInKind one_lock ls (label_of v)) (let same : Ends ≡ saying = cc e in same) tt
 says_kinds ls x (taken {rest = Take ∷ rest} s r v k) saying y e = absurd (cc e)
 says_kinds ls x (taken {rest = Give ∷ rest} {w = w} s r v k) saying y e =
     let same : Unlocks 0 (w ∷ []) ≡ saying = cc e in
-    subst (λ v. AreInKind one_lock ls (label_of v)) same (v, tt)
+    subst (λ v. SaysInKind one_lock ls (label_of v)) same (v, tt)
 says_kinds ls x (taken {rest = Load ∷ rest} s r v k) saying y e = absurd (cc e)
 says_kinds ls x (taken {rest = Store w ∷ rest} s r v k) saying y e = absurd (cc e)
-says_kinds ls x (taken {rest = Print ∷ rest} {register = register} s r v k) saying y e = subst (λ v. AreInKind one_lock ls (label_of v)) (let same : Prints register ≡ saying = cc e in same) r
+says_kinds ls x (taken {rest = Print ∷ rest} {register = register} s r v k) saying y e = subst (λ v. SaysInKind one_lock ls (label_of v)) (let same : Prints register ≡ saying = cc e in same) r
 says_kinds ls x (taken {rest = Spin ∷ rest} s r v k) saying y e = absurd (cc e)
 says_kinds ls x (over h) saying y e = absurd (cc e)
 

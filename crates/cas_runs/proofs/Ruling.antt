@@ -257,7 +257,7 @@ module _ {F A : Type 0} (l : Activations F A) (setting : Setting) (scene : Scene
       by (Some ws) g =
           let m = found E h.share c.ordered k ws g in
           let o = without_lock_ordered E h.share c.ordered k in
-          ((subst (λ v. IsAmong k v) c.locks m.among, m.under), runs (share_common ls (Unlock k ws ∷ ls) p h (without_lock h.share k) c refl o.ordered (o.locks_are ∙ ap (λ v. rules.without_lock k v) c.locks)) w)
+          ((subst (λ v. IsAmong k v) c.locks m.among, m.under), runs (share_common ls (Unlock k ws ∷ ls) p h (without_lock h.share k) c refl o.ordered (o.locks_are ∙ ap (λ v. rules.except_lock k v) c.locks)) w)
 
   -- A step.
 

@@ -116,13 +116,13 @@ above_without n lock (k ∷ hs) h = by (nat_eq k.lock lock) (above_without n loc
     by true rest = h.1
     by false rest = (h.0, rest)
 
-pub without_lock_ordered : (edge : Edge) (hs : Share) → IsOrdered edge hs → (lock : ℕ) → OrderedAs edge (without_lock hs lock) (rules.without_lock lock (locks_of hs))
+pub without_lock_ordered : (edge : Edge) (hs : Share) → IsOrdered edge hs → (lock : ℕ) → OrderedAs edge (without_lock hs lock) (rules.except_lock lock (locks_of hs))
 without_lock_ordered edge [] o lock = record { ordered = tt; locks_are = refl }
 without_lock_ordered edge (k ∷ hs) o lock =
-    subst (λ (v : Bool). OrderedAs edge (if nat_eq k.lock lock then hs else k ∷ without_lock hs lock) (if v then locks_of hs else k.lock ∷ rules.without_lock lock (locks_of hs))) (let same : nat_eq k.lock lock ≡ nat_eq lock k.lock = grind (arith, nat_tests) in same)
+    subst (λ (v : Bool). OrderedAs edge (if nat_eq k.lock lock then hs else k ∷ without_lock hs lock) (if v then locks_of hs else k.lock ∷ rules.except_lock lock (locks_of hs))) (let same : nat_eq k.lock lock ≡ nat_eq lock k.lock = grind (arith, nat_tests) in same)
     (by (nat_eq k.lock lock) (without_lock_ordered edge hs o.2 lock))
   where
-    by : (t : Bool) → OrderedAs edge (without_lock hs lock) (rules.without_lock lock (locks_of hs)) → OrderedAs edge (if t then hs else k ∷ without_lock hs lock) (if t then locks_of hs else k.lock ∷ rules.without_lock lock (locks_of hs))
+    by : (t : Bool) → OrderedAs edge (without_lock hs lock) (rules.except_lock lock (locks_of hs)) → OrderedAs edge (if t then hs else k ∷ without_lock hs lock) (if t then locks_of hs else k.lock ∷ rules.except_lock lock (locks_of hs))
     by true m = record { ordered = o.2; locks_are = refl }
     by false m = record { ordered = (o.0, above_without k.lock lock hs o.1, m.ordered); locks_are = ap (λ v. k.lock ∷ v) m.locks_are }
 

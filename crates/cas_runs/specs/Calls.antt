@@ -29,6 +29,11 @@ pub record Activations (F A : Type 0) : Type 0 where
   pub form : A → Accesses (Last A)
   pub tariff : Tariff F A
 
+-- the blocks of a function that has one block of this size: none where it is 0
+abbrev pub one_block : ℕ → List ℕ
+one_block zero = []
+one_block (suc n) = suc n ∷ []
+
 -- which functions run together, which of them a call within finds, and whether the other calls cross
 pub record Scene (F : Type 0) : Type 0 where
   pub functions : List F

@@ -13,15 +13,15 @@ abbrev pub and_lock : ℕ → List ℕ → List ℕ
 and_lock lock [] = lock ∷ []
 and_lock lock (l ∷ ls) = if nat_lt lock l then lock ∷ l ∷ ls else l ∷ and_lock lock ls
 
-abbrev pub without_lock : ℕ → List ℕ → List ℕ
-without_lock lock [] = []
-without_lock lock (l ∷ ls) = if nat_eq lock l then ls else l ∷ without_lock lock ls
+abbrev pub except_lock : ℕ → List ℕ → List ℕ
+except_lock lock [] = []
+except_lock lock (l ∷ ls) = if nat_eq lock l then ls else l ∷ except_lock lock ls
 
 -- the locks of the share after these labels, in ascending order. A thread begins with none
 abbrev pub locks_after : List RunLabel → List ℕ
 locks_after [] = []
 locks_after (Lock l words ∷ ls) = and_lock l (locks_after ls)
-locks_after (Unlock l words ∷ ls) = without_lock l (locks_after ls)
+locks_after (Unlock l words ∷ ls) = except_lock l (locks_after ls)
 locks_after (Enter f crossing ∷ ls) = locks_of crossing.share
 locks_after (Back crossing ∷ ls) = locks_of crossing.share
 locks_after (Call f crossing ∷ ls) = locks_of crossing.share
@@ -174,18 +174,18 @@ pub record CrossInKind (edge : Edge) (types : List Ty) (crossing : Crossing) : T
   pub objects : AllShowWords crossing.objects
 
 -- what the label carries is in kind: arguments are of the parameters' types, and a result is of the type of the function that was entered
-abbrev pub AreInKind : Edge → List RunLabel → RunLabel → Type 0
-AreInKind edge before (Unlock l words) = AreOfKinds words (guarded l edge.cells)
-AreInKind edge before (Out w) = IsOfKind w U32
-AreInKind edge before (Call f crossing) = (s : Signature) → signature_of edge.functions f ≡ Some s → CrossInKind edge s.params crossing
-AreInKind edge before (Leave crossing) = (g : NameBytes) (older : List Pending) (s : Signature) → pending before ≡ Entered g ∷ older → signature_of edge.functions g ≡ Some s → CrossInKind edge (returned s.ret) crossing
-AreInKind edge before (Lock l words) = Unit {0}
-AreInKind edge before Done = Unit {0}
-AreInKind edge before (Enter f crossing) = Unit {0}
-AreInKind edge before (Back crossing) = Unit {0}
+abbrev pub SaysInKind : Edge → List RunLabel → RunLabel → Type 0
+SaysInKind edge before (Unlock l words) = AreOfKinds words (guarded l edge.cells)
+SaysInKind edge before (Out w) = IsOfKind w U32
+SaysInKind edge before (Call f crossing) = (s : Signature) → signature_of edge.functions f ≡ Some s → CrossInKind edge s.params crossing
+SaysInKind edge before (Leave crossing) = (g : NameBytes) (older : List Pending) (s : Signature) → pending before ≡ Entered g ∷ older → signature_of edge.functions g ≡ Some s → CrossInKind edge (returned s.ret) crossing
+SaysInKind edge before (Lock l words) = Unit {0}
+SaysInKind edge before Done = Unit {0}
+SaysInKind edge before (Enter f crossing) = Unit {0}
+SaysInKind edge before (Back crossing) = Unit {0}
 
 -- what the source keeps besides: what it says and shows is in kind, since it is typed and converts what it writes. A language between may keep any
 -- words in a cell, and says what its source says
 pub record KeepsKinds {S : Type 0} (edge : Edge) (m : Machine S) : Type 0 where
-  pub says : (ls : List RunLabel) (bs : List Block) (b : Block) (x : S) → Run edge m ls bs b x → (saying : Saying) (y : S) → m.act x ≡ Says saying y → AreInKind edge ls (label_of saying)
-  pub crosses : (ls : List RunLabel) (bs : List Block) (b : Block) (x : S) → Run edge m ls bs b x → (next : RunLabel → Option S) → m.act x ≡ Crosses next → (l : RunLabel) (y : S) → CanCross l → next l ≡ Some y → AreInKind edge ls l
+  pub says : (ls : List RunLabel) (bs : List Block) (b : Block) (x : S) → Run edge m ls bs b x → (saying : Saying) (y : S) → m.act x ≡ Says saying y → SaysInKind edge ls (label_of saying)
+  pub crosses : (ls : List RunLabel) (bs : List Block) (b : Block) (x : S) → Run edge m ls bs b x → (next : RunLabel → Option S) → m.act x ≡ Crosses next → (l : RunLabel) (y : S) → CanCross l → next l ≡ Some y → SaysInKind edge ls l

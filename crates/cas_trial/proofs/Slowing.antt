@@ -10,7 +10,7 @@ use Rattle.cas_runs.specs.Forms.{last}
 use Rattle.cas_runs.specs.Passing.{Relation, AllSame, IsPass, AllMade, MadeAmong, relation, Keeps}
 use Rattle.cas_runs.specs.Unmoved.{Equal}
 use Rattle.cas_runs.specs.Stepwise.{AtIf, calls_at, returns_at, HoldsPlainly}
-use Rattle.cas_runs.specs.Forward.{Leads, onward, at_last, Midway, Forward}
+use Rattle.cas_runs.specs.Forward.{AmountsTo, onward, at_last, Midway, Forward}
 use Rattle.cas_runs.proofs.Unmoved.{equal_keeps, to_equal, all_equal, memory_equal}
 use Rattle.cas_runs.proofs.Words.{all_self}
 use Rattle.cas_runs.proofs.Performing.{keeps_nothing}
@@ -37,7 +37,7 @@ module _ (setting : Setting) (ts : List Relaying) (ss : List Relaying) where
   result_at : (f g : Relaying) (us xs : List Value) → AllSame R0 us xs → AtIf R0 (λ f g. AtStep) f g (with_result us) (with_result xs)
   result_at f g us xs s = subst (λ v. AtStep (Hands us) (Hands v)) (to_equal slow fast setting ts ss (MadeAmong slow fast IsSame ts ss) (λ f g n x h b y k c. Unit {0}) (λ f g m. refl) (λ f g m. refl) refl us xs s) returns
 
-  forms : (f g : Relaying) (x y : Pace) → AtStep x y → (credit : ℕ) × (1 + credit ≤ 2) × Leads R0 (λ f g. AtStep) SameSize f g credit (slow_form x) (fast_form y)
+  forms : (f g : Relaying) (x y : Pace) → AtStep x y → (credit : ℕ) × (1 + credit ≤ 2) × AmountsTo R0 (λ f g. AtStep) SameSize f g credit (slow_form x) (fast_form y)
   forms f g x y (begins {word = word}) = (1, omega arith, onward (Calling word) 0 (omega arith) (at_last (last (calls_at (refl, tt) (λ us xs s count. result_at f g us xs s)))))
   forms f g x y (returns {values = values}) = (1, omega arith, at_last (last (returns_at (all_equal slow fast setting ts ss (MadeAmong slow fast IsSame ts ss) (λ f g n x h b y k c. Unit {0}) (λ f g m. refl) (λ f g m. refl) refl values))))
 

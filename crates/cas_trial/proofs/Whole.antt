@@ -1,5 +1,5 @@
 -- The whole program fits an edge, and its thread goes on after the call.
-use Rattle.std.proofs.Common.{◌≡◌, ℕ, List, [], ◌∷◌, Bool, true, false, ◌&&◌, if◌then◌else◌, refl, arith}
+use Rattle.std.proofs.Common.{◌≡◌, List, [], ◌∷◌, Bool, true, false, ◌&&◌, if◌then◌else◌, refl, arith}
 use Rattle.cas_base.specs.declared.decl.Decl.{Decl}
 use Rattle.cas_runs.specs.Label.{same_name, RunLabel, Out, Done}
 use Rattle.cas_runs.specs.Machine.{Quiet, Machine, Leads, begun, onward, starts, quiet, labelled}

@@ -5,7 +5,7 @@ use Rattle.cas_runs.specs.Label.{NameBytes}
 use Rattle.cas_runs.specs.Naming.{Own, Value, Number, Pointer, Hidden}
 use Rattle.cas_runs.specs.Bounds.{ByForms}
 use Rattle.cas_runs.specs.Access.{Accesses, Writes, Loads, Stores, Then, Fails}
-use Rattle.cas_runs.specs.Calls.{Last, Goes, Takes, Gives, Puts, Calls, Returns, Activations}
+use Rattle.cas_runs.specs.Calls.{Last, Goes, Takes, Gives, Puts, Calls, Returns, Activations, one_block}
 use Rattle.cas_trial.specs.declared.joining.Apart.{Apart}
 use Rattle.cas_trial.specs.declared.joining.Joined.{Joined}
 
@@ -83,7 +83,7 @@ apart = record {
 abbrev pub joined : Activations Joined Stage
 joined = record {
   name = λ f. main_name;
-  blocks = λ f. 2 ∷ [];
+  blocks = λ f. one_block 2;
   first_word = Number 0;
   enter = λ f serial values. enters f.cells.0 f.cells.1 serial values;
   form = form 0 1;

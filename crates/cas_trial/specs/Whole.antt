@@ -1,5 +1,5 @@
 -- A whole program of two functions, `void f(void) { }` and `void main(int me) { f(); print(1); }`, an edge that fits it, and the labels of its thread.
-use Rattle.std.specs.Prelude.{ℕ, false, true, List, [], ◌∷◌, Option, Some, None}
+use Rattle.std.specs.Prelude.{false, true, List, [], ◌∷◌, Option, Some, None}
 use Rattle.cas_base.specs.declared.kind.Kind.TheVariants.{I32}
 use Rattle.cas_base.specs.declared.kind.Ty.TheVariants.{Void, Int}
 use Rattle.cas_base.specs.declared.decl.Decl.{Decl}
