@@ -94,7 +94,7 @@ module _ {S : Type 0} (edge : Edge) (m : Machine S) where
   pub comes_first : Comes edge m [] m.start
   comes_first = record { blocks = []; block = begun m m.start; run = starts }
 
-  comes_on : (ls : List RunLabel) (x y : S) → Comes edge m ls x → m.act x ≡ Quiet y → Comes edge m ls y
+  pub comes_on : (ls : List RunLabel) (x y : S) → Comes edge m ls x → m.act x ≡ Quiet y → Comes edge m ls y
   comes_on ls x y c e = record { blocks = c.blocks; block = onward m c.block y; run = quiet y c.run e }
 
   pub comes_by : (ls : List RunLabel) (l : RunLabel) (x y : S) → Comes edge m ls x → Leads edge ls (m.act x) l y → Comes edge m (l ∷ ls) y
@@ -106,7 +106,7 @@ module _ {S : Type 0} (edge : Edge) (m : Machine S) where
   pub not_bad : (ls : List RunLabel) (y : S) → Comes edge m ls y → (IsQuiet (m.act y) → ⊥) → (IsBad (m.act y) → ⊥) → BadAt edge m ls → ⊥
   not_bad ls y c n b h = not_bad_at edge m ls c.blocks c.block y c.run n b h
 
-  no_label : (ls : List RunLabel) (y : S) → Comes edge m ls y → (IsQuiet (m.act y) → ⊥) → (l : RunLabel) → ((z : S) → Leads edge ls (m.act y) l z → ⊥) → HasRun edge m (l ∷ ls) → ⊥
+  pub no_label : (ls : List RunLabel) (y : S) → Comes edge m ls y → (IsQuiet (m.act y) → ⊥) → (l : RunLabel) → ((z : S) → Leads edge ls (m.act y) l z → ⊥) → HasRun edge m (l ∷ ls) → ⊥
   no_label ls y c n l h has = no_other_label edge m ls c.blocks c.block y c.run n l h has
 
 pub dropped_store : (p q : ℕ) → Refines one_lock (sections q not_storing) (sections p storing) → ⊥

@@ -1,5 +1,5 @@
--- A whole program of two functions, `void f(void) { }` and `void main(int me) { f(); print(1); }`, an edge that fits it, and the labels of its thread.
-use Rattle.std.specs.Prelude.{false, true, List, [], ◌∷◌, Option, Some, None}
+-- A whole program of two functions, `void f(void) { }` and `void main(int me) { f(); print(..); }`, an edge that fits it, and the labels of its thread.
+use Rattle.std.specs.Prelude.{ℕ, false, true, List, [], ◌∷◌, Option, Some, None}
 use Rattle.cas_base.specs.declared.kind.Kind.TheVariants.{I32}
 use Rattle.cas_base.specs.declared.kind.Ty.TheVariants.{Void, Int}
 use Rattle.cas_base.specs.declared.decl.Decl.{Decl}
@@ -38,18 +38,19 @@ enters_routine Main (v ∷ w ∷ vs) = None
 enters_routine Helper [] = Some AtEnd
 enters_routine Helper (v ∷ vs) = None
 
-abbrev pub routine_form : Point → Accesses (Last Point)
-routine_form AtCall = Then (Calls helper_name [] (λ values. Some AtPrint))
-routine_form AtPrint = Then (Puts 1 AtEnd)
-routine_form AtEnd = Then (Returns [])
+-- the steps, where this word is put out
+abbrev pub routine_form : ℕ → Point → Accesses (Last Point)
+routine_form word AtCall = Then (Calls helper_name [] (λ values. Some AtPrint))
+routine_form word AtPrint = Then (Puts word AtEnd)
+routine_form word AtEnd = Then (Returns [])
 
-abbrev pub routines : Activations Routine Point
-routines = record {
+abbrev pub routines : (word : ℕ) → Activations Routine Point
+routines word = record {
   name = routine_name;
   blocks = λ f. [];
   first_word = Number 0;
   enter = λ f serial values. enters_routine f values;
-  form = routine_form;
+  form = routine_form word;
   tariff = ByForms (λ a. 1) (λ a. []) 0 (λ f. 0) (λ f. 0) (λ f. 1 ∷ 1 ∷ 1 ∷ []);
 }
 
