@@ -1,12 +1,13 @@
 -- At an edge that fits a program it is known of each of its functions how many values it returns.
 use Rattle.std.proofs.Common.{◌≡◌, ℕ, List, [], ◌∷◌, length, Bool, true, false, ◌&&◌, if◌then◌else◌, Some, refl, ap, subst}
 use Rattle.cas_base.specs.declared.decl.Decl.{Decl}
+use Rattle.cas_base.specs.declared.decl.Unit.{Unit as UnitOf}
 use Rattle.cas_base.specs.declared.decl.Form.{Form}
 use Rattle.cas_base.specs.declared.decl.Form.TheVariants.{Lock, Shared, Table, Function}
 use Rattle.cas_runs.specs.Label.{NameBytes, same_name}
 use Rattle.cas_runs.specs.Edge.{Edge, Signature, signature_of, returned, count_of, results_of}
 use Rattle.cas_runs.specs.Access.{Words}
-use Rattle.cas_runs.specs.Unit.{Language, IsDeclared, AreDeclared, defined_as, defines, has_function, FitsProgram}
+use Rattle.cas_runs.specs.Unit.{Language, IsDeclared, AreDeclared, defined_as, defines, has_function, all_decls, all_functions, FitsProgram}
 use Rattle.cas_runs.proofs.Tests.{and_both, same_name_from}
 
 -- a declaration that defines a function of this name makes it known
@@ -28,7 +29,7 @@ declared_known edge words (d ∷ ds) name h e = by (same_name d.name name && def
     by false is rest k = rest k
 
 module _ {F S : Type 0} (l : Language F S) where
-  pub results_known : (edge : Edge) (words : Words) (decls : List Decl) (fs : List F) (entry : NameBytes) → FitsProgram l edge words decls fs entry → (name : NameBytes) → has_function l fs name ≡ true → (n : ℕ) × (results_of edge name ≡ Some n)
-  results_known edge words decls fs entry fits name there =
-      let known = declared_known edge words decls name fits.declared (fits.defined name there) in
+  pub results_known : (edge : Edge) (words : Words) (units : List (UnitOf F)) (entry : NameBytes) → FitsProgram l edge words units entry → (name : NameBytes) → has_function l (all_functions units) name ≡ true → (n : ℕ) × (results_of edge name ≡ Some n)
+  results_known edge words units entry fits name there =
+      let known = declared_known edge words (all_decls units) name fits.declared (fits.defined name there) in
       (length (returned known.0.ret), ap count_of known.1)

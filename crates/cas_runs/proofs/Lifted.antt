@@ -10,7 +10,7 @@ use Rattle.cas_runs.specs.Machine.{Block}
 use Rattle.cas_runs.specs.Refines.{Refines}
 use Rattle.cas_runs.specs.Simulation.{related}
 use Rattle.cas_runs.specs.Access.{Holding, Words}
-use Rattle.cas_runs.specs.Unit.{Setting, laid_out, names_of, IsEdge, FitsProgram, IsLayout, UnitRefines, FunctionRefines, ThreadRefines}
+use Rattle.cas_runs.specs.Unit.{Setting, laid_out, names_of, IsEdge, all_decls, all_globals, all_functions, FitsProgram, IsLayout, UnitRefines, FunctionRefines, ThreadRefines}
 use Rattle.cas_runs.specs.Calls.{Activations, Past, machine, outside_first, starts, find, no_past, no_holding, language}
 use Rattle.cas_runs.specs.Passing.{Relation, IsPass, AllMade, relation}
 use Rattle.cas_runs.proofs.Lifting.{away, bottom, waits_within, lifted_refines, enters_too}
@@ -61,12 +61,16 @@ module _ {F A G B : Type 0} (target : Activations F A) (source : Activations G B
     refines = λ setting fits laid. outward_refines (relation target source made naming same alike settled later match (f ∷ []) (g ∷ []) setting) (passes setting (f ∷ []) (g ∷ []) (h, tt) fits.edge_is laid) (found_among target source made names (f ∷ []) (g ∷ []) (h, tt)) [] [] (λ name. tt);
   }
 
-  pub threads_pass : (edge : Edge) (words : Words) (decls : List Decl) (ts : List F) (ss : List G) (entry : NameBytes) (thread : ℕ) → FitsProgram (language source) edge words decls ss entry → IsOfKind thread U32 → AllMade made ts ss → ThreadRefines (language target) (language source) edge words decls ts ss entry thread
-  threads_pass edge words decls ts ss entry thread fits word all = record {
+  pub threads_pass : (edge : Edge) (words : Words) (ts : List (UnitOf F)) (ss : List (UnitOf G)) (entry : NameBytes) (thread : ℕ) → FitsProgram (language source) edge words ss entry → IsOfKind thread U32 → all_decls ts ≡ all_decls ss → all_globals ts ≡ all_globals ss → AllMade made (all_functions ts) (all_functions ss) → ThreadRefines (language target) (language source) edge words ts ss entry thread
+  threads_pass edge words ts ss entry thread fits word d v all = record {
     fits = fits;
-    naming = naming ss;
-    laid_out_too = laid_out_too ts ss all;
+    decls = d;
+    globals = v;
+    naming = naming (all_functions ss);
+    laid_out_too = laid_out_too (all_functions ts) (all_functions ss) all;
     refines = λ layout stack code unknown is laid.
         let setting : Setting = record { edge = edge; words = words; layout = layout; stack = stack; code = code; unknown = unknown } in
-        thread_refines (relation target source made naming same alike settled later match ts ss setting) (passes setting ts ss all fits.edge_is laid) (found_among target source made names ts ss all) entry thread word;
+        let fs = all_functions ts in
+        let gs = all_functions ss in
+        thread_refines (relation target source made naming same alike settled later match fs gs setting) (passes setting fs gs all fits.edge_is laid) (found_among target source made names fs gs all) entry thread word;
   }

@@ -5,7 +5,7 @@ use Rattle.cas_runs.specs.Label.{NameBytes}
 use Rattle.cas_runs.specs.Edge.{Edge}
 use Rattle.cas_base.specs.declared.decl.Decl.{Decl}
 use Rattle.cas_runs.specs.Access.{Words}
-use Rattle.cas_runs.specs.Unit.{laid_out, Language, FitsUnit, UnitRefines, FunctionRefines, ThreadRefines}
+use Rattle.cas_runs.specs.Unit.{laid_out, all_functions, Language, FitsUnit, UnitRefines, FunctionRefines, ThreadRefines}
 use Rattle.cas_runs.proofs.Composing.{refines_both}
 
 module _ {F G H T S R : Type 0} (lt : Language F T) (ls : Language G S) (lr : Language H R) where
@@ -33,14 +33,16 @@ module _ {F G H T S R : Type 0} (lt : Language F T) (ls : Language G S) (lr : La
         (h.refines (laid_out setting (k.naming setting.layout)) fits (k.laid_out_too setting.layout laid)) (k.refines setting fits laid);
   }
 
-  pub threads_both : (edge : Edge) (words : Words) (decls : List Decl) (ts : List F) (ss : List G) (rs : List H) (entry : NameBytes) (thread : ℕ) → ThreadRefines lt ls edge words decls ts ss entry thread → ThreadRefines ls lr edge words decls ss rs entry thread → ThreadRefines lt lr edge words decls ts rs entry thread
-  threads_both edge words decls ts ss rs entry thread h k = record {
+  pub threads_both : (edge : Edge) (words : Words) (ts : List (UnitOf F)) (ss : List (UnitOf G)) (rs : List (UnitOf H)) (entry : NameBytes) (thread : ℕ) → ThreadRefines lt ls edge words ts ss entry thread → ThreadRefines ls lr edge words ss rs entry thread → ThreadRefines lt lr edge words ts rs entry thread
+  threads_both edge words ts ss rs entry thread h k = record {
     fits = k.fits;
+    decls = h.decls ∙ k.decls;
+    globals = h.globals ∙ k.globals;
     naming = λ l. h.naming (k.naming l);
     laid_out_too = λ l p. h.laid_out_too (k.naming l) (k.laid_out_too l p);
     refines = λ layout stack code unknown is laid. refines_both edge
-        (lt.thread (record { edge = edge; words = words; layout = h.naming (k.naming layout); stack = stack; code = code; unknown = unknown }) ts entry thread)
-        (ls.thread (record { edge = edge; words = words; layout = k.naming layout; stack = stack; code = code; unknown = unknown }) ss entry thread)
-        (lr.thread (record { edge = edge; words = words; layout = layout; stack = stack; code = code; unknown = unknown }) rs entry thread)
+        (lt.thread (record { edge = edge; words = words; layout = h.naming (k.naming layout); stack = stack; code = code; unknown = unknown }) (all_functions ts) entry thread)
+        (ls.thread (record { edge = edge; words = words; layout = k.naming layout; stack = stack; code = code; unknown = unknown }) (all_functions ss) entry thread)
+        (lr.thread (record { edge = edge; words = words; layout = layout; stack = stack; code = code; unknown = unknown }) (all_functions rs) entry thread)
         (h.refines (k.naming layout) stack code unknown is (k.laid_out_too layout laid)) (k.refines layout stack code unknown is laid);
   }

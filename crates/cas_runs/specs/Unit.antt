@@ -1,5 +1,5 @@
 -- Refinement of units, of functions and of threads, in any two languages of the compiler.
-use Rattle.std.specs.Prelude.{◌≡◌, ℕ, ◌+◌, ◌*◌, ◌^◌, ◌<◌, ◌≤◌, Bool, true, false, ◌&&◌, if◌then◌else◌, List, [], ◌∷◌, length, Option, Some, None, slice_get, ◌⊎◌}
+use Rattle.std.specs.Prelude.{◌≡◌, ℕ, ◌+◌, ◌*◌, ◌^◌, ◌<◌, ◌≤◌, Bool, true, false, ◌&&◌, if◌then◌else◌, List, [], ◌∷◌, ◌++◌, length, Option, Some, None, slice_get, ◌⊎◌}
 use Rattle.cas_base.specs.declared.kind.Kind.TheVariants.{I32, U32}
 use Rattle.cas_base.specs.declared.kind.Ty.{Ty}
 use Rattle.cas_base.specs.declared.kind.Ty.TheVariants.{Void, Int, Ptr, Array}
@@ -232,14 +232,30 @@ pub record IsEntry (edge : Edge) (entry : NameBytes) : Type 0 where
   pub params : signature.params ≡ Int I32 ∷ []
   pub holds : signature.holds ≡ []
 
--- an edge at which a thread of a whole program may run: the edge has all that the program declares, each of the program's functions is declared as
--- defined, and the entry is one of them
-pub record FitsProgram {F S : Type 0} (l : Language F S) (edge : Edge) (words : Words) (decls : List Decl) (fs : List F) (entry : NameBytes) : Type 0 where
+-- what these units declare, one unit after another
+abbrev pub all_decls : {F : Type 0} → List (UnitOf F) → List Decl
+all_decls [] = []
+all_decls (u ∷ us) = u.decls ++ all_decls us
+
+-- their data
+abbrev pub all_globals : {F : Type 0} → List (UnitOf F) → List Global
+all_globals [] = []
+all_globals (u ∷ us) = u.globals ++ all_globals us
+
+-- their functions
+abbrev pub all_functions : {F : Type 0} → List (UnitOf F) → List F
+all_functions [] = []
+all_functions (u ∷ us) = u.funs ++ all_functions us
+
+-- an edge at which a thread of the whole program of these units may run: the edge has all that they declare, with their data, each of their functions
+-- is declared as defined, and the entry is one of them
+pub record FitsProgram {F S : Type 0} (l : Language F S) (edge : Edge) (words : Words) (units : List (UnitOf F)) (entry : NameBytes) : Type 0 where
   pub edge_is : IsEdge edge
-  pub declared : AreDeclared edge words decls
-  pub apart : AllApart words decls
-  pub defined : (name : NameBytes) → has_function l fs name ≡ true → defines decls name ≡ true
-  pub there : has_function l fs entry ≡ true
+  pub declared : AreDeclared edge words (all_decls units)
+  pub data_there : HaveData edge words (all_globals units)
+  pub apart : AllApart words (all_decls units)
+  pub defined : (name : NameBytes) → has_function l (all_functions units) name ≡ true → defines (all_decls units) name ≡ true
+  pub there : has_function l (all_functions units) entry ≡ true
   pub entry_is : IsEntry edge entry
 
 -- the unit t refines the unit s: their declarations, their data and the names of their functions are equal, and its runs refine those of s in each setting of s, where its own objects are
@@ -260,9 +276,11 @@ pub record FunctionRefines {F G S T : Type 0} (lt : Language F T) (ls : Language
   pub laid_out_too : (layout : Layout) → IsLayout ls (s ∷ []) layout → IsLayout lt (t ∷ []) (naming layout)
   pub refines : (setting : Setting) → FitsFunction setting.edge setting.words setting.stack decl → IsLayout ls (s ∷ []) setting.layout → Refines setting.edge (lt.alone (laid_out setting (naming setting.layout)) t) (ls.alone setting s)
 
--- at an edge that fits the program s of these declarations, the thread of this entry and number of the program t refines that of s, on each stack that it can have
-pub record ThreadRefines {F G S T : Type 0} (lt : Language F T) (ls : Language G S) (edge : Edge) (words : Words) (decls : List Decl) (ts : List F) (ss : List G) (entry : NameBytes) (thread : ℕ) : Type 0 where
-  pub fits : FitsProgram ls edge words decls ss entry
+-- at an edge that fits the program of the units ss, the thread of this entry and number of the program of ts, with equal declarations and data, refines that of ss, on each stack that it can have
+pub record ThreadRefines {F G S T : Type 0} (lt : Language F T) (ls : Language G S) (edge : Edge) (words : Words) (ts : List (UnitOf F)) (ss : List (UnitOf G)) (entry : NameBytes) (thread : ℕ) : Type 0 where
+  pub fits : FitsProgram ls edge words ss entry
+  pub decls : all_decls ts ≡ all_decls ss
+  pub globals : all_globals ts ≡ all_globals ss
   pub naming : Layout → Layout
-  pub laid_out_too : (layout : Layout) → IsLayout ls ss layout → IsLayout lt ts (naming layout)
-  pub refines : (layout : Layout) (stack : Stack) (code : NameBytes → ℕ) (unknown : (occasion place : ℕ) → ℕ) → IsStack edge stack → IsLayout ls ss layout → Refines edge (lt.thread (record { edge = edge; words = words; layout = naming layout; stack = stack; code = code; unknown = unknown }) ts entry thread) (ls.thread (record { edge = edge; words = words; layout = layout; stack = stack; code = code; unknown = unknown }) ss entry thread)
+  pub laid_out_too : (layout : Layout) → IsLayout ls (all_functions ss) layout → IsLayout lt (all_functions ts) (naming layout)
+  pub refines : (layout : Layout) (stack : Stack) (code : NameBytes → ℕ) (unknown : (occasion place : ℕ) → ℕ) → IsStack edge stack → IsLayout ls (all_functions ss) layout → Refines edge (lt.thread (record { edge = edge; words = words; layout = naming layout; stack = stack; code = code; unknown = unknown }) (all_functions ts) entry thread) (ls.thread (record { edge = edge; words = words; layout = layout; stack = stack; code = code; unknown = unknown }) (all_functions ss) entry thread)

@@ -33,7 +33,7 @@ pub fn functions_compose<F, G, H, T, S, R>()
 /// Refinements of threads compose.
 #[tactic(auto, using(crate::proofs::Units::threads_both))]
 pub fn threads_compose<F, G, H, T, S, R>()
-    ensures { (lt : Language F T) (ls : Language G S) (lr : Language H R) (edge : Edge) (words : Words) (decls : List Decl) (ts : List F) (ss : List G) (rs : List H) (entry : NameBytes) (thread : ℕ) → ThreadRefines lt ls edge words decls ts ss entry thread → ThreadRefines ls lr edge words decls ss rs entry thread → ThreadRefines lt lr edge words decls ts rs entry thread }
+    ensures { (lt : Language F T) (ls : Language G S) (lr : Language H R) (edge : Edge) (words : Words) (ts : List (UnitOf F)) (ss : List (UnitOf G)) (rs : List (UnitOf H)) (entry : NameBytes) (thread : ℕ) → ThreadRefines lt ls edge words ts ss entry thread → ThreadRefines ls lr edge words ss rs entry thread → ThreadRefines lt lr edge words ts rs entry thread }
 {}
 
 /// Where each Call and Leave of the target has one label, each of its runs is kept by the source, or the

@@ -9,7 +9,7 @@ ghost use Rattle.cas_runs.specs.Label.{NameBytes};
 ghost use Rattle.cas_runs.specs.Machine.{Block};
 ghost use Rattle.cas_runs.specs.Naming.{Layout, Value};
 ghost use Rattle.cas_runs.specs.Passing.{AllMade, IsPass, relation};
-ghost use Rattle.cas_runs.specs.Unit.{FitsProgram, FunctionRefines, IsEdge, IsLayout, Setting, ThreadRefines, UnitRefines};
+ghost use Rattle.cas_runs.specs.Unit.{FitsProgram, FunctionRefines, IsEdge, IsLayout, Setting, ThreadRefines, UnitRefines, all_decls, all_functions, all_globals};
 
 use cas_base::NoMemory;
 use std::alloc::Global;
@@ -80,10 +80,10 @@ pub fn units_refine<P: FunctionPass>()
     P::passes();
 }
 
-/// Each thread of a whole program of such functions refines the thread of the other program, at an edge that
-/// fits that. The thread's number is a word.
+/// Each thread of a whole program of units of such functions, with the same declarations and data, refines the
+/// thread of the other program, at an edge that fits that. The thread's number is a word.
 pub fn threads_refine<P: FunctionPass>()
-    ensures { (edge : Edge) (words : Words) (decls : List Decl) (ss : List P.Source) (ts : List P.Target) (entry : NameBytes) (thread : ℕ) → FitsProgram (language P.source) edge words decls ss entry → IsOfKind thread U32 → AllMade P.made ts ss → ThreadRefines (language P.target) (language P.source) edge words decls ts ss entry thread }
+    ensures { (edge : Edge) (words : Words) (ss : List (UnitOf P.Source)) (ts : List (UnitOf P.Target)) (entry : NameBytes) (thread : ℕ) → FitsProgram (language P.source) edge words ss entry → IsOfKind thread U32 → all_decls ts ≡ all_decls ss → all_globals ts ≡ all_globals ss → AllMade P.made (all_functions ts) (all_functions ss) → ThreadRefines (language P.target) (language P.source) edge words ts ss entry thread }
 {
     P::names_stay();
     P::laid_out_too();

@@ -10,7 +10,7 @@ ghost use Rattle.cas_runs.specs.Label.{ArePlain, NameBytes, RunLabel};
 ghost use Rattle.cas_runs.specs.Machine.{Block, Run};
 ghost use Rattle.cas_runs.specs.Rules.{CallsOut, KeepsKinds, KeepsRules};
 ghost use Rattle.cas_runs.specs.Sections.{Instruction, StoresWords, one_lock, sections};
-ghost use Rattle.cas_runs.specs.Unit.{FitsProgram, FitsUnit, IsLayout, Language, Setting, has_function};
+ghost use Rattle.cas_runs.specs.Unit.{FitsProgram, FitsUnit, IsLayout, Language, Setting, all_functions, has_function};
 
 /// The rules can be kept: a small language of critical sections keeps them, whatever its program does.
 pub fn sections_keep_rules()
@@ -54,5 +54,5 @@ pub fn units_call_out<F, A>()
 /// At an edge that fits a whole program it is known of each of its functions how many values it returns. So a
 /// return to a function of the program is no step without a meaning for want of that.
 pub fn programs_know_results<F, S>()
-    ensures { (l : Language F S) (edge : Edge) (words : Words) (decls : List Decl) (fs : List F) (entry : NameBytes) → FitsProgram l edge words decls fs entry → (name : NameBytes) → has_function l fs name ≡ true → (n : ℕ) × (results_of edge name ≡ Some n) }
+    ensures { (l : Language F S) (edge : Edge) (words : Words) (units : List (UnitOf F)) (entry : NameBytes) → FitsProgram l edge words units entry → (name : NameBytes) → has_function l (all_functions units) name ≡ true → (n : ℕ) × (results_of edge name ≡ Some n) }
 {}

@@ -1,29 +1,44 @@
 -- The whole program fits an edge, and its thread goes on after the call.
-use Rattle.std.proofs.Common.{◌≡◌, ⊎_elim, List, [], ◌∷◌, Bool, true, false, ◌&&◌, if◌then◌else◌, refl, arith}
+use Rattle.std.specs.Prelude.{slice_get}
+use Rattle.std.proofs.Common.{◌≡◌, ℕ, zero, suc, ◌+◌, ◌<◌, Some, None, ap, subst, sym, ◌∙◌, ⊎_elim, List, [], ◌∷◌, Bool, true, false, ◌&&◌, if◌then◌else◌, refl, arith}
 use Rattle.cas_base.specs.declared.decl.Decl.{Decl}
+use Rattle.cas_base.specs.declared.kind.Kind.TheVariants.{U32}
+use Rattle.cas_base.specs.declared.kind.Ty.TheVariants.{Int}
+use Rattle.cas_runs.specs.Access.{Stretch, Words}
+use Rattle.cas_runs.specs.Edge.{Edge, Cell, TableWord}
 use Rattle.cas_runs.specs.Label.{same_name, RunLabel, Out, Done}
 use Rattle.cas_runs.specs.Machine.{Quiet, Machine, Leads, begun, onward, starts, quiet, labelled}
 use Rattle.cas_runs.specs.Refines.{HasRun}
-use Rattle.cas_runs.specs.Unit.{laid_out, IsStack, IsLayout, AreApart, FitsProgram, ThreadRefines}
+use Rattle.cas_runs.specs.Unit.{laid_out, all_functions, IsStack, IsLayout, AreApart, first_value, IsTableCell, FitsProgram, ThreadRefines}
 use Rattle.cas_runs.specs.Calls.{Thread, language}
 use Rattle.cas_runs.proofs.Sanity.{comes_first, comes_on, has_of, not_bad, no_label, bad_first}
-use Rattle.cas_trial.specs.Stages.{main_name}
-use Rattle.cas_trial.specs.Whole.{Routine, Point, routines, helper_name, helper_decl, main_decl, program, decls, edge, words, setting, labels}
+use Rattle.cas_trial.specs.Stages.{main_name, global_name}
+use Rattle.cas_trial.specs.Whole.{Routine, Point, routines, helper_name, helper_decl, main_decl, table_decl, program, edge, words, setting, labels}
 
-no_words : (d e : Decl) → AreApart words d e
-no_words d e = λ s t f g. absurd (cc f)
+-- a name without words is apart from all
+no_words : (d e : Decl) → words e.name ≡ None → AreApart words d e
+no_words d e none = λ s t f g. absurd (cc (none, g))
+
+at_table : (k : ℕ) → k < 1 → (c : Cell) × (slice_get edge.cells (0 + k) ≡ Some c) × IsTableCell (Int U32) c
+at_table zero less = (TableWord 1, refl, (1, refl, refl))
+at_table (suc k) less = absurd (omega (arith, less))
 
 one_of_both : (s t : Bool) → (if s then true else if t then true else false) ≡ true → (if s && true then true else if t && true then true else false) ≡ true
 one_of_both true t e = refl
 one_of_both false true e = refl
 one_of_both false false e = absurd (cc e)
 
-pub routines_fit : FitsProgram (language (routines 1)) edge words decls program main_name
+not_table : (t x : Bool) → x ≡ true → (if t && false then true else x) ≡ true
+not_table true x e = e
+not_table false x e = e
+
+pub routines_fit : FitsProgram (language (routines 0)) edge words program main_name
 routines_fit = record {
-  edge_is = record { few = omega arith; kinds = tt };
-  declared = ((_, refl, refl, refl, (tt, tt)), ((_, refl, refl, refl, (tt, tt)), tt));
-  apart = ((no_words helper_decl main_decl, tt), (tt, tt));
-  defined = λ name e. one_of_both (same_name helper_name name) (same_name main_name name) e;
+  edge_is = record { few = omega arith; kinds = (refl, tt) };
+  declared = ((record { first = 0; size = 1 }, refl, refl, λ k less. at_table k less), ((_, refl, refl, refl, (tt, tt)), ((_, refl, refl, refl, (tt, tt)), tt)));
+  data_there = ((record { first = 0; size = 1 }, refl, ((TableWord 1, refl, refl), tt)), tt);
+  apart = ((no_words table_decl helper_decl refl, (no_words table_decl main_decl refl, tt)), ((no_words helper_decl main_decl refl, tt), (tt, tt)));
+  defined = λ name e. not_table (same_name global_name name) _ (one_of_both (same_name helper_name name) (same_name main_name name) e);
   there = refl;
   entry_is = record { signature = _; known = refl; ret = refl; params = refl; holds = refl };
 }
@@ -31,12 +46,12 @@ routines_fit = record {
 pub routines_stack : IsStack edge setting.stack
 routines_stack = record { words_before = 67108864; aligned = omega arith; past_words = omega arith; in_reach = omega arith; least = omega arith; most = omega arith }
 
-pub routines_laid_out : IsLayout (language (routines 1)) program setting.layout
+pub routines_laid_out : IsLayout (language (routines 0)) (all_functions program) setting.layout
 routines_laid_out name f e j le = refl
 
 -- the thread that puts out 1
 abbrev m : Machine (Thread Routine Point)
-m = (language (routines 1)).thread setting program main_name 0
+m = (language (routines 0)).thread setting (all_functions program) main_name 0
 
 abbrev on : (ls : List RunLabel) (h : HasRun edge m ls) (y : Thread Routine Point) → m.act h.at ≡ Quiet y → HasRun edge m ls
 on ls h y e = record { blocks = h.blocks; block = onward m h.block y; at = y; run = quiet y h.run e }
@@ -56,11 +71,30 @@ printed = by_label [] (Out 1) came_back _ (refl, refl)
 pub goes_on : HasRun edge m labels
 goes_on = by_label (Out 1 ∷ []) Done printed _ (refl, refl)
 
-pub another_word : ThreadRefines (language (routines 2)) (language (routines 1)) edge words decls program program main_name 0 → ⊥
+pub another_word : ThreadRefines (language (routines 1)) (language (routines 0)) edge words program program main_name 0 → ⊥
 another_word h =
-    let t : Machine (Thread Routine Point) = (language (routines 2)).thread (laid_out setting (h.naming setting.layout)) program main_name 0 in
+    let t : Machine (Thread Routine Point) = (language (routines 1)).thread (laid_out setting (h.naming setting.layout)) (all_functions program) main_name 0 in
     let refines = h.refines setting.layout setting.stack setting.code setting.unknown routines_stack routines_laid_out in
     let there = comes_on edge t [] _ _ (comes_on edge t [] _ _ (comes_first edge t) refl) refl in
     let here = comes_on edge m [] _ _ (comes_on edge m [] _ _ (comes_first edge m) refl) refl in
     ⊎_elim (λ b. not_bad edge m [] _ here (λ q. q) (λ q. q) (bad_first edge m b)) (λ has. no_label edge m [] _ here (λ q. q) (Out 2) (λ z l. let no : Out 1 ≡ Out 2 = l.0 in absurd (cc no)) has)
     (refines.follows [] there.blocks there.block _ there.run (has_of edge m [] m.start (comes_first edge m)) (λ c. c) (Out 2) _ (refl, refl))
+
+-- the first cell of the table is a table's, and has this value
+of_table : (edge : Edge) (n : ℕ) (c d : Cell) → IsTableCell (Int U32) c → slice_get edge.cells n ≡ Some c → slice_get edge.cells n ≡ Some d → first_value d ≡ 1 → slice_get edge.cells n ≡ Some (TableWord 1)
+of_table edge n c d is here there value =
+    let same : Some c ≡ Some d = sym here ∙ there in
+    let one : c ≡ d = cc same in
+    let word : first_value (TableWord is.0) ≡ 1 = ap first_value (sym is.2) ∙ ap first_value one ∙ value in
+    here ∙ ap Some is.2 ∙ ap (λ w. Some (TableWord w)) word
+
+pub table_there : (edge : Edge) (words : Words) → FitsProgram (language (routines 0)) edge words program main_name → (s : Stretch) × (words global_name ≡ Some s) × (slice_get edge.cells s.first ≡ Some (TableWord 1))
+table_there edge words fits =
+    let words_there = fits.data_there.0 in
+    let value = words_there.2.0 in
+    let declared = fits.declared.0 in
+    let stretch : Some declared.0 ≡ Some words_there.0 = sym declared.1 ∙ words_there.1 in
+    let same : declared.0 ≡ words_there.0 = cc stretch in
+    let cell = declared.3 0 (omega (arith, declared.2)) in
+    let at : declared.0.first + 0 ≡ words_there.0.first = ap (λ (s : Stretch). s.first + 0) same ∙ omega arith in
+    (words_there.0, words_there.1, of_table edge words_there.0.first cell.0 value.0 cell.2 (subst (λ n. slice_get edge.cells n ≡ Some cell.0) at cell.1) value.1 value.2)

@@ -10,7 +10,7 @@ ghost use Rattle.cas_runs.specs.Label.{NameBytes};
 ghost use Rattle.cas_runs.specs.Passing.{AllMade};
 ghost use Rattle.cas_runs.specs.Placing.{AlikeMoved, KeepsUnplaced, SameMoved};
 ghost use Rattle.cas_runs.specs.Stepwise.{match_at};
-ghost use Rattle.cas_runs.specs.Unit.{FitsProgram, FunctionRefines, ThreadRefines, UnitRefines};
+ghost use Rattle.cas_runs.specs.Unit.{FitsProgram, FunctionRefines, ThreadRefines, UnitRefines, all_decls, all_functions, all_globals};
 ghost use Rattle.cas_trial.specs.Places.{IsJoined, SameStage, joins, one_word, places};
 ghost use Rattle.cas_trial.specs.Stages.{Stage, apart, joined, main_name};
 
@@ -98,7 +98,7 @@ pub fn units_join()
 
 /// So do the threads of whole programs.
 pub fn threads_join()
-    ensures { (edge : Edge) (words : Words) (decls : List Decl) (ss : List Apart) (ts : List Joined) (entry : NameBytes) (thread : ℕ) → FitsProgram (language apart) edge words decls ss entry → IsOfKind thread U32 → AllMade IsJoined ts ss → ThreadRefines (language joined) (language apart) edge words decls ts ss entry thread }
+    ensures { (edge : Edge) (words : Words) (ss : List (UnitOf Apart)) (ts : List (UnitOf Joined)) (entry : NameBytes) (thread : ℕ) → FitsProgram (language apart) edge words ss entry → IsOfKind thread U32 → all_decls ts ≡ all_decls ss → all_globals ts ≡ all_globals ss → AllMade IsJoined (all_functions ts) (all_functions ss) → ThreadRefines (language joined) (language apart) edge words ts ss entry thread }
 {
     threads_refine::<Joining>();
 }
