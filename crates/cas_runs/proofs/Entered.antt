@@ -10,7 +10,7 @@ use Rattle.cas_base.specs.Unit.{IsInOrder}
 use Rattle.cas_runs.specs.Label.{NameBytes, same_name}
 use Rattle.cas_runs.specs.Edge.{Edge, Signature}
 use Rattle.cas_runs.specs.Access.{Words}
-use Rattle.cas_runs.specs.Unit.{Stack, Language, defines, has_function, OnlyInside, FitsUnit}
+use Rattle.cas_runs.specs.Unit.{Stack, Code, Language, defines, has_function, OnlyInside, FitsUnit}
 
 -- one of the declarations has this name
 abbrev has_named : List Decl → NameBytes → Bool
@@ -48,6 +48,6 @@ module _ {F S : Type 0} (l : Language F S) (decl_of : F → Decl) (names : (f : 
   only_these test other same [] h = tt
   only_these test other same (g ∷ gs) h = (h.0 ∙ same g.name, only_these test other same gs h.1)
 
-  pub entered_functions : (unit : UnitOf F) → IsInOrder decl_of unit → (edge : Edge) (words : Words) (stack : Stack) → FitsUnit edge words stack unit.decls unit.globals → OnlyInside (has_function l unit.funs) edge.functions
-  entered_functions unit order edge words stack fits =
+  pub entered_functions : (unit : UnitOf F) → IsInOrder decl_of unit → (edge : Edge) (words : Words) (stack : Stack) (code : Code) → FitsUnit edge words stack code unit.decls unit.globals → OnlyInside (has_function l unit.funs) edge.functions
+  entered_functions unit order edge words stack code fits =
       only_these (defines unit.decls) (has_function l unit.funs) (λ name. sym (defined_named unit.decls name) ∙ ap (λ ds. has_named ds name) (sym order.functions) ∙ named_too unit.funs name) edge.functions fits.entered

@@ -68,7 +68,7 @@ module _ {F A G B : Type 0} (target : Activations F A) (source : Activations G B
     globals = v;
     naming = naming (all_functions ss);
     laid_out_too = laid_out_too (all_functions ts) (all_functions ss) all;
-    refines = λ layout stack code unknown is laid.
+    refines = λ layout stack code unknown is places laid.
         let setting : Setting = record { edge = edge; words = words; layout = layout; stack = stack; code = code; unknown = unknown } in
         let fs = all_functions ts in
         let gs = all_functions ss in

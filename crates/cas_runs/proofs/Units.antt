@@ -17,7 +17,7 @@ module _ {F G H T S R : Type 0} (lt : Language F T) (ls : Language G S) (lr : La
     naming = λ l. h.naming (k.naming l);
     laid_out_too = λ l p. h.laid_out_too (k.naming l) (k.laid_out_too l p);
     refines = λ setting fits laid.
-        let middle : FitsUnit setting.edge setting.words setting.stack s.decls s.globals = subst (λ g. FitsUnit setting.edge setting.words setting.stack s.decls g) (sym k.globals) (subst (λ d. FitsUnit setting.edge setting.words setting.stack d r.globals) (sym k.decls) fits) in
+        let middle : FitsUnit setting.edge setting.words setting.stack setting.code s.decls s.globals = subst (λ g. FitsUnit setting.edge setting.words setting.stack setting.code s.decls g) (sym k.globals) (subst (λ d. FitsUnit setting.edge setting.words setting.stack setting.code d r.globals) (sym k.decls) fits) in
         refines_both setting.edge (lt.unit (laid_out setting (h.naming (k.naming setting.layout))) t.funs) (ls.unit (laid_out setting (k.naming setting.layout)) s.funs) (lr.unit setting r.funs)
         (h.refines (laid_out setting (k.naming setting.layout)) middle (k.laid_out_too setting.layout laid)) (k.refines setting fits laid);
   }
@@ -40,9 +40,9 @@ module _ {F G H T S R : Type 0} (lt : Language F T) (ls : Language G S) (lr : La
     globals = h.globals ∙ k.globals;
     naming = λ l. h.naming (k.naming l);
     laid_out_too = λ l p. h.laid_out_too (k.naming l) (k.laid_out_too l p);
-    refines = λ layout stack code unknown is laid. refines_both edge
+    refines = λ layout stack code unknown is places laid. refines_both edge
         (lt.thread (record { edge = edge; words = words; layout = h.naming (k.naming layout); stack = stack; code = code; unknown = unknown }) (all_functions ts) entry thread)
         (ls.thread (record { edge = edge; words = words; layout = k.naming layout; stack = stack; code = code; unknown = unknown }) (all_functions ss) entry thread)
         (lr.thread (record { edge = edge; words = words; layout = layout; stack = stack; code = code; unknown = unknown }) (all_functions rs) entry thread)
-        (h.refines (k.naming layout) stack code unknown is (k.laid_out_too layout laid)) (k.refines layout stack code unknown is laid);
+        (h.refines (k.naming layout) stack code unknown is places (k.laid_out_too layout laid)) (k.refines layout stack code unknown is places laid);
   }

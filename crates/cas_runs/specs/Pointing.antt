@@ -52,7 +52,7 @@ one_object zero = record { from = 0; size = 1; kind = I32 } ∷ []
 one_object (suc block) = []
 
 abbrev pub setting : Setting
-setting = record { edge = edge; words = λ name. None; layout = λ name. one_object; stack = record { address = 268435456; size = 16 }; code = λ name. 8; unknown = λ occasion place. 0 }
+setting = record { edge = edge; words = λ name. None; layout = λ name. one_object; stack = record { address = 268435456; size = 16 }; code = λ name. record { first = 8; size = 16 }; unknown = λ occasion place. 0 }
 
 -- the unit whose function shows this place
 abbrev pub shows : (place : ℕ) → Machine (Thread ℕ Pointing)

@@ -35,15 +35,40 @@ pub record IsStack (edge : Edge) (stack : Stack) : Type 0 where
   pub least : 16 ≤ stack.size
   pub most : stack.size ≤ most_live
 
--- where a machine runs: the edge, where the words of each global and lock stand, which stretches of blocks are objects, the stack, the place of each
--- function's first instruction, and the values that nothing fixes, at each occasion one for each place. Those are flags and words below the stack's top
+-- where the instructions of each function stand: the place of the first, and how many places are theirs
+abbrev pub Code : Type 0
+Code = NameBytes → Stretch
+
+-- the places before this one are those of Lock and Unlock
+abbrev pub first_place : ℕ
+first_place = 8
+
+-- a thread ends by a return to this place
+abbrev pub end_place : ℕ
+end_place = 4294967295
+
+-- the places of two functions are apart
+abbrev pub ArePlacesApart : Code → (f g : NameBytes) → Type 0
+ArePlacesApart code f g = (f ≡ g) ⊎ ((code f).first + (code f).size ≤ (code g).first) ⊎ ((code g).first + (code g).size ≤ (code f).first)
+
+abbrev pub PlacesFrom : Code → NameBytes → List Signature → Type 0
+PlacesFrom code name [] = Unit {0}
+PlacesFrom code name (f ∷ fs) = ArePlacesApart code name f.name × PlacesFrom code name fs
+
+-- the functions stand past Lock and Unlock and before the place that ends a thread, each apart from the others
+abbrev pub IsCode : Code → List Signature → Type 0
+IsCode code [] = Unit {0}
+IsCode code (f ∷ fs) = ((first_place ≤ (code f.name).first) × ((code f.name).first + (code f.name).size < end_place)) × PlacesFrom code f.name fs × IsCode code fs
+
+-- where a machine runs: the edge, where the words of each global and lock stand, which stretches of blocks are objects, the stack, where the
+-- instructions of each function stand, and the values that nothing fixes, at each occasion one for each place. Those are flags and words below the stack's top
 -- after a call of the lock; and at Enter and Back esp, the registers that a function keeps, the return word and the addresses of the outside's objects
 pub record Setting : Type 0 where
   pub edge : Edge
   pub words : Words
   pub layout : Layout
   pub stack : Stack
-  pub code : NameBytes → ℕ
+  pub code : Code
   pub unknown : (occasion place : ℕ) → ℕ
 
 -- the setting with another layout
@@ -208,19 +233,21 @@ pub record IsEdge (edge : Edge) : Type 0 where
   pub few : length edge.cells ≤ most_words
   pub kinds : AreInKind edge.cells
 
--- an edge and a stack at which a unit with these declarations and data may run
-pub record FitsUnit (edge : Edge) (words : Words) (stack : Stack) (decls : List Decl) (globals : List Global) : Type 0 where
+-- an edge, a stack and places of code at which a unit with these declarations and data may run
+pub record FitsUnit (edge : Edge) (words : Words) (stack : Stack) (code : Code) (decls : List Decl) (globals : List Global) : Type 0 where
   pub edge_is : IsEdge edge
   pub stack_is : IsStack edge stack
+  pub code_is : IsCode code edge.functions
   pub declared : AreDeclared edge words decls
   pub data_there : HaveData edge words globals
   pub apart : AllApart words decls
   pub entered : OnlyInside (defines decls) edge.functions
 
--- an edge and a stack at which a function of this declaration may run alone
-pub record FitsFunction (edge : Edge) (words : Words) (stack : Stack) (decl : Decl) : Type 0 where
+-- an edge, a stack and places of code at which a function of this declaration may run alone
+pub record FitsFunction (edge : Edge) (words : Words) (stack : Stack) (code : Code) (decl : Decl) : Type 0 where
   pub edge_is : IsEdge edge
   pub stack_is : IsStack edge stack
+  pub code_is : IsCode code edge.functions
   pub declared : IsDeclared edge words decl.name decl.form
   pub entered : OnlyInside (same_name decl.name) edge.functions
 
@@ -266,7 +293,7 @@ pub record UnitRefines {F G S T : Type 0} (lt : Language F T) (ls : Language G S
   pub names : names_of lt t.funs ≡ names_of ls s.funs
   pub naming : Layout → Layout
   pub laid_out_too : (layout : Layout) → IsLayout ls s.funs layout → IsLayout lt t.funs (naming layout)
-  pub refines : (setting : Setting) → FitsUnit setting.edge setting.words setting.stack s.decls s.globals → IsLayout ls s.funs setting.layout → Refines setting.edge (lt.unit (laid_out setting (naming setting.layout)) t.funs) (ls.unit setting s.funs)
+  pub refines : (setting : Setting) → FitsUnit setting.edge setting.words setting.stack setting.code s.decls s.globals → IsLayout ls s.funs setting.layout → Refines setting.edge (lt.unit (laid_out setting (naming setting.layout)) t.funs) (ls.unit setting s.funs)
 
 -- the function t refines the function s, where this is the declaration of both
 pub record FunctionRefines {F G S T : Type 0} (lt : Language F T) (ls : Language G S) (decl : Decl) (t : F) (s : G) : Type 0 where
@@ -274,13 +301,13 @@ pub record FunctionRefines {F G S T : Type 0} (lt : Language F T) (ls : Language
   pub source_name : ls.name s ≡ decl.name
   pub naming : Layout → Layout
   pub laid_out_too : (layout : Layout) → IsLayout ls (s ∷ []) layout → IsLayout lt (t ∷ []) (naming layout)
-  pub refines : (setting : Setting) → FitsFunction setting.edge setting.words setting.stack decl → IsLayout ls (s ∷ []) setting.layout → Refines setting.edge (lt.alone (laid_out setting (naming setting.layout)) t) (ls.alone setting s)
+  pub refines : (setting : Setting) → FitsFunction setting.edge setting.words setting.stack setting.code decl → IsLayout ls (s ∷ []) setting.layout → Refines setting.edge (lt.alone (laid_out setting (naming setting.layout)) t) (ls.alone setting s)
 
--- at an edge that fits the program of the units ss, the thread of this entry and number of the program of ts, with equal declarations and data, refines that of ss, on each stack that it can have
+-- at an edge that fits the program of the units ss, the thread of this entry and number of the program of ts, with equal declarations and data, refines that of ss, on each stack that it can have and wherever its code can stand
 pub record ThreadRefines {F G S T : Type 0} (lt : Language F T) (ls : Language G S) (edge : Edge) (words : Words) (ts : List (UnitOf F)) (ss : List (UnitOf G)) (entry : NameBytes) (thread : ℕ) : Type 0 where
   pub fits : FitsProgram ls edge words ss entry
   pub decls : all_decls ts ≡ all_decls ss
   pub globals : all_globals ts ≡ all_globals ss
   pub naming : Layout → Layout
   pub laid_out_too : (layout : Layout) → IsLayout ls (all_functions ss) layout → IsLayout lt (all_functions ts) (naming layout)
-  pub refines : (layout : Layout) (stack : Stack) (code : NameBytes → ℕ) (unknown : (occasion place : ℕ) → ℕ) → IsStack edge stack → IsLayout ls (all_functions ss) layout → Refines edge (lt.thread (record { edge = edge; words = words; layout = naming layout; stack = stack; code = code; unknown = unknown }) (all_functions ts) entry thread) (ls.thread (record { edge = edge; words = words; layout = layout; stack = stack; code = code; unknown = unknown }) (all_functions ss) entry thread)
+  pub refines : (layout : Layout) (stack : Stack) (code : Code) (unknown : (occasion place : ℕ) → ℕ) → IsStack edge stack → IsCode code edge.functions → IsLayout ls (all_functions ss) layout → Refines edge (lt.thread (record { edge = edge; words = words; layout = naming layout; stack = stack; code = code; unknown = unknown }) (all_functions ts) entry thread) (ls.thread (record { edge = edge; words = words; layout = layout; stack = stack; code = code; unknown = unknown }) (all_functions ss) entry thread)

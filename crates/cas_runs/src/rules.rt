@@ -48,7 +48,7 @@ pub fn threads_never_cross<F, A>()
 /// The machine of a unit whose functions are its defined declarations calls over its edge no function that the
 /// edge has inside.
 pub fn units_call_out<F, A>()
-    ensures { (l : Activations F A) (decl_of : F → Decl) (unit : UnitOf F) (setting : Setting) → ((f : F) → (decl_of f).name ≡ l.name f) → IsInOrder decl_of unit → FitsUnit setting.edge setting.words setting.stack unit.decls unit.globals → CallsOut setting.edge ((language l).unit setting unit.funs) }
+    ensures { (l : Activations F A) (decl_of : F → Decl) (unit : UnitOf F) (setting : Setting) → ((f : F) → (decl_of f).name ≡ l.name f) → IsInOrder decl_of unit → FitsUnit setting.edge setting.words setting.stack setting.code unit.decls unit.globals → CallsOut setting.edge ((language l).unit setting unit.funs) }
 {}
 
 /// At an edge that fits a whole program it is known of each of its functions how many values it returns. So a

@@ -36,10 +36,11 @@ at_global : (k : ℕ) → k < 1 → (c : Cell) × (slice_get edge.cells (1 + k) 
 at_global zero less = (SharedWord I32 (Some 0) 5, refl, (5, refl, refl))
 at_global (suc k) less = absurd (omega (arith, less))
 
-pub unit_fits : FitsUnit edge words setting.stack decls globals
+pub unit_fits : FitsUnit edge words setting.stack setting.code decls globals
 unit_fits = record {
   edge_is = record { few = omega arith; kinds = (tt, (refl, tt)) };
   stack_is = record { words_before = 67108864; aligned = omega arith; past_words = omega arith; in_reach = omega arith; least = omega arith; most = omega arith };
+  code_is = ((omega arith, omega arith), (inr (inl (omega arith)), tt), ((omega arith, omega arith), tt, tt));
   declared = ((record { first = 0; size = 1 }, refl, refl, λ k less. at_lock k less), ((record { first = 1; size = 1 }, refl, refl, λ k less. at_global k less), ((_, refl, refl, refl, (tt, tt)), ((_, refl, refl, refl, (tt, tt)), tt))));
   data_there = ((record { first = 0; size = 1 }, refl, tt), ((record { first = 1; size = 1 }, refl, ((SharedWord I32 (Some 0) 5, refl, refl), tt)), tt));
   apart = ((lock_and_global, (no_words lock_decl main_decl (inr refl), (no_words lock_decl show_decl (inr refl), tt))), ((no_words global_decl main_decl (inr refl), (no_words global_decl show_decl (inr refl), tt)), ((no_words main_decl show_decl (inr refl), tt), (tt, tt))));

@@ -1,6 +1,6 @@
 -- The whole program fits an edge, and its thread goes on after the call.
 use Rattle.std.specs.Prelude.{slice_get}
-use Rattle.std.proofs.Common.{◌≡◌, ℕ, zero, suc, ◌+◌, ◌<◌, Some, None, ap, subst, sym, ◌∙◌, ⊎_elim, List, [], ◌∷◌, Bool, true, false, ◌&&◌, if◌then◌else◌, refl, arith}
+use Rattle.std.proofs.Common.{◌≡◌, ℕ, zero, suc, ◌+◌, ◌<◌, Some, None, ap, subst, sym, ◌∙◌, ⊎_elim, inl, inr, List, [], ◌∷◌, Bool, true, false, ◌&&◌, if◌then◌else◌, refl, arith}
 use Rattle.cas_base.specs.declared.decl.Decl.{Decl}
 use Rattle.cas_base.specs.declared.kind.Kind.TheVariants.{U32}
 use Rattle.cas_base.specs.declared.kind.Ty.TheVariants.{Int}
@@ -9,7 +9,7 @@ use Rattle.cas_runs.specs.Edge.{Edge, Cell, TableWord}
 use Rattle.cas_runs.specs.Label.{same_name, RunLabel, Out, Done}
 use Rattle.cas_runs.specs.Machine.{Quiet, Machine, Leads, begun, onward, starts, quiet, labelled}
 use Rattle.cas_runs.specs.Refines.{HasRun}
-use Rattle.cas_runs.specs.Unit.{laid_out, all_functions, IsStack, IsLayout, AreApart, first_value, IsTableCell, FitsProgram, ThreadRefines}
+use Rattle.cas_runs.specs.Unit.{laid_out, IsCode, all_functions, IsStack, IsLayout, AreApart, first_value, IsTableCell, FitsProgram, ThreadRefines}
 use Rattle.cas_runs.specs.Calls.{Thread, language}
 use Rattle.cas_runs.proofs.Sanity.{comes_first, comes_on, has_of, not_bad, no_label, bad_first}
 use Rattle.cas_trial.specs.Stages.{main_name, global_name}
@@ -46,6 +46,9 @@ routines_fit = record {
 pub routines_stack : IsStack edge setting.stack
 routines_stack = record { words_before = 67108864; aligned = omega arith; past_words = omega arith; in_reach = omega arith; least = omega arith; most = omega arith }
 
+pub routines_code : IsCode setting.code edge.functions
+routines_code = ((omega arith, omega arith), (inr (inr (omega arith)), tt), ((omega arith, omega arith), tt, tt))
+
 pub routines_laid_out : IsLayout (language (routines 0)) (all_functions program) setting.layout
 routines_laid_out name f e j le = refl
 
@@ -74,7 +77,7 @@ goes_on = by_label (Out 1 ∷ []) Done printed _ (refl, refl)
 pub another_word : ThreadRefines (language (routines 1)) (language (routines 0)) edge words program program main_name 0 → ⊥
 another_word h =
     let t : Machine (Thread Routine Point) = (language (routines 1)).thread (laid_out setting (h.naming setting.layout)) (all_functions program) main_name 0 in
-    let refines = h.refines setting.layout setting.stack setting.code setting.unknown routines_stack routines_laid_out in
+    let refines = h.refines setting.layout setting.stack setting.code setting.unknown routines_stack routines_code routines_laid_out in
     let there = comes_on edge t [] _ _ (comes_on edge t [] _ _ (comes_first edge t) refl) refl in
     let here = comes_on edge m [] _ _ (comes_on edge m [] _ _ (comes_first edge m) refl) refl in
     ⊎_elim (λ b. not_bad edge m [] _ here (λ q. q) (λ q. q) (bad_first edge m b)) (λ has. no_label edge m [] _ here (λ q. q) (Out 2) (λ z l. let no : Out 1 ≡ Out 2 = l.0 in absurd (cc no)) has)

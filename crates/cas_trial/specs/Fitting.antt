@@ -53,7 +53,7 @@ abbrev pub one_word_each : Layout
 one_word_each = λ function. two_words
 
 abbrev pub setting : Setting
-setting = record { edge = edge; words = words; layout = one_word_each; stack = record { address = 268435456; size = 16 }; code = λ name. 8; unknown = λ occasion place. 0 }
+setting = record { edge = edge; words = words; layout = one_word_each; stack = record { address = 268435456; size = 16 }; code = λ name. if same_name name main_name then record { first = 8; size = 16 } else record { first = 24; size = 16 }; unknown = λ occasion place. 0 }
 
 -- the first variable with this word
 abbrev pub first_object : ℕ → Object

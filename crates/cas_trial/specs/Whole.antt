@@ -83,7 +83,7 @@ abbrev pub words : Words
 words = λ name. if same_name name global_name then Some (record { first = 0; size = 1 }) else None
 
 abbrev pub setting : Setting
-setting = record { edge = edge; words = words; layout = λ function block. []; stack = record { address = 268435456; size = 16 }; code = λ name. 8; unknown = λ occasion place. 0 }
+setting = record { edge = edge; words = words; layout = λ function block. []; stack = record { address = 268435456; size = 16 }; code = λ name. if same_name name main_name then record { first = 8; size = 16 } else record { first = 24; size = 16 }; unknown = λ occasion place. 0 }
 
 abbrev pub labels : List RunLabel
 labels = Done ∷ Out 1 ∷ []

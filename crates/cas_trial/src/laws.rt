@@ -16,7 +16,7 @@ ghost use Rattle.cas_trial.specs.declared.tailing.Relaying.{Relaying};
 /// out as objects.
 #[tactic(auto, using(crate::proofs::Fits::unit_fits, crate::proofs::Fits::unit_laid_out))]
 pub fn a_unit_fits()
-    ensures fits { FitsUnit edge words setting.stack decls globals }
+    ensures fits { FitsUnit edge words setting.stack setting.code decls globals }
     ensures objects { IsLayout (language apart) (program ∷ []) setting.layout }
 {}
 

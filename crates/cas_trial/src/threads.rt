@@ -3,15 +3,16 @@ ghost use Rattle.cas_runs.specs.Access.{Stretch, Words};
 ghost use Rattle.cas_runs.specs.Calls.{language};
 ghost use Rattle.cas_runs.specs.Edge.{Edge, TableWord};
 ghost use Rattle.cas_runs.specs.Refines.{HasRun};
-ghost use Rattle.cas_runs.specs.Unit.{FitsProgram, IsLayout, IsStack, ThreadRefines, all_functions};
+ghost use Rattle.cas_runs.specs.Unit.{FitsProgram, IsCode, IsLayout, IsStack, ThreadRefines, all_functions};
 ghost use Rattle.cas_trial.specs.Stages.{global_name, main_name};
 ghost use Rattle.cas_trial.specs.Whole.{edge, labels, program, routines, setting, words};
 
-/// A whole program of a table and two functions, one of which calls the other, fits an edge and a stack.
-#[tactic(auto, using(crate::proofs::Whole::routines_fit, crate::proofs::Whole::routines_stack, crate::proofs::Whole::routines_laid_out))]
+/// A whole program of a table and two functions, one of which calls the other, fits an edge, a stack and places of code.
+#[tactic(auto, using(crate::proofs::Whole::routines_fit, crate::proofs::Whole::routines_stack, crate::proofs::Whole::routines_code, crate::proofs::Whole::routines_laid_out))]
 pub fn a_thread_fits()
     ensures fits { FitsProgram (language (routines 0)) edge words program main_name }
     ensures stack { IsStack edge setting.stack }
+    ensures code { IsCode setting.code edge.functions }
     ensures objects { IsLayout (language (routines 0)) (all_functions program) setting.layout }
 {}
 
