@@ -6,6 +6,8 @@ use Rattle.cas_runs.specs.Label.{NameBytes, RunLabel, Lock, plain_label, ArePlai
 use Rattle.cas_runs.specs.Edge.{results_of}
 use Rattle.cas_runs.specs.Naming.{Value, Number, and_then}
 use Rattle.cas_runs.specs.Machine.{Act, Quiet, Says, Crosses, Locks, Hears, Bad, Stops, Saying, Unlocks, Prints, Ends, label_of, Machine, Leads, Block, Run, starts as begins_run, quiet, labelled}
+use Rattle.cas_runs.specs.Refines.{Refines, NamesAlone, EachKept}
+use Rattle.cas_runs.proofs.Composing.{each_kept}
 use Rattle.cas_runs.specs.Access.{Holding, words_in, with_lock, without_lock}
 use Rattle.cas_runs.specs.Unit.{Setting, guard_of}
 use Rattle.cas_runs.specs.Calls.{Last, Goes, Takes, Gives, Puts, Calls, Tails, Returns, Activations, Scene, Frame, Waits, Outer, Past, Thread, Away, Runs, Leaves, Over, Wrong, goes_back, kept_results, returns, with_share, takes_lock, takes, gives_lock, gives, find, without_own, calls_in, enters_at, step_at, calls, acts, machine, no_past, no_holding, starts, language}
@@ -134,3 +136,17 @@ threads_plain l setting fs entry thread ls bs b x r =
     let start = starts l (find l fs entry) thread in
     let h = plain_run l setting fs start (starts_closed l setting fs thread (find l fs entry) start) r in
     h.are_plain
+
+-- so no Call and no Leave of it has two labels
+thread_names_alone : {F A : Type 0} (l : Activations F A) (setting : Setting) (fs : List F) (entry : NameBytes) (thread : ℕ) → NamesAlone setting.edge ((language l).thread setting fs entry thread)
+thread_names_alone {F = F} {A = A} l setting fs entry thread = record {
+  alone = λ ls bs b x r next e j k y z cj ej ck ek.
+      let start = starts l (find l fs entry) thread in
+      let h = plain_run l setting fs start (starts_closed l setting fs thread (find l fs entry) start) r in
+      let no : ClosedAct l setting fs start (Crosses next) = subst (λ (v : Act (Thread F A)). ClosedAct l setting fs start v) e (act_closed l setting fs start x h.closed) in
+      absurd no;
+}
+
+-- what a thread refines keeps each of its runs
+pub thread_each_kept : {F A S : Type 0} (l : Activations F A) (setting : Setting) (fs : List F) (entry : NameBytes) (thread : ℕ) (s : Machine S) → Refines setting.edge ((language l).thread setting fs entry thread) s → EachKept setting.edge ((language l).thread setting fs entry thread) s
+thread_each_kept l setting fs entry thread s h = each_kept setting.edge ((language l).thread setting fs entry thread) s h (thread_names_alone l setting fs entry thread)

@@ -494,3 +494,15 @@ module _ {F A : Type 0} (l : Activations F A) (setting : Setting) (prices : IsTa
   unit_itself fs laid =
       let rules = unit_rules fs laid in
       refines_itself setting.edge ((language l).unit setting fs) rules.proceeds
+
+  -- so does a function alone
+  pub alone_itself : (f : F) → IsLayout (language l) (f ∷ []) setting.layout → Refines setting.edge ((language l).alone setting f) ((language l).alone setting f)
+  alone_itself f laid =
+      let rules = alone_rules f laid in
+      refines_itself setting.edge ((language l).alone setting f) rules.proceeds
+
+  -- and a thread of a whole program
+  pub thread_itself : (fs : List F) (entry : NameBytes) (thread : ℕ) → IsLayout (language l) fs setting.layout → Refines setting.edge ((language l).thread setting fs entry thread) ((language l).thread setting fs entry thread)
+  thread_itself fs entry thread laid =
+      let rules = program_rules fs entry thread laid in
+      refines_itself setting.edge ((language l).thread setting fs entry thread) rules.proceeds

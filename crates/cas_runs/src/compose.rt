@@ -1,4 +1,4 @@
-ghost use Rattle.std.specs.Prelude.{◌≡◌, ℕ, ◌⊎◌, List};
+ghost use Rattle.std.specs.Prelude.{◌≡◌, ℕ, ◌⊎◌, List, [], ◌∷◌};
 ghost use Rattle.cas_base.specs.declared.decl.Unit.{Unit as UnitOf};
 ghost use Rattle.cas_base.specs.declared.decl.Decl.{Decl};
 ghost use Rattle.cas_runs.specs.Access.{Words};
@@ -52,6 +52,22 @@ pub fn refines_itself<S>()
 /// A unit in any language of activations refines itself.
 pub fn units_refine_themselves<F, A>()
     ensures { (l : Activations F A) (setting : Setting) → IsTariff l.tariff → (fs : List F) → IsLayout (language l) fs setting.layout → Refines setting.edge ((language l).unit setting fs) ((language l).unit setting fs) }
+{}
+
+/// So does a function alone.
+pub fn functions_refine_themselves<F, A>()
+    ensures { (l : Activations F A) (setting : Setting) → IsTariff l.tariff → (f : F) → IsLayout (language l) (f ∷ []) setting.layout → Refines setting.edge ((language l).alone setting f) ((language l).alone setting f) }
+{}
+
+/// And a thread of a whole program.
+pub fn threads_refine_themselves<F, A>()
+    ensures { (l : Activations F A) (setting : Setting) → IsTariff l.tariff → (fs : List F) (entry : NameBytes) (thread : ℕ) → IsLayout (language l) fs setting.layout → Refines setting.edge ((language l).thread setting fs entry thread) ((language l).thread setting fs entry thread) }
+{}
+
+/// A thread of a whole program has no Call and no Leave. So where it refines, each of its runs is kept, or the
+/// source is Bad before.
+pub fn threads_kept<F, A, S>()
+    ensures { (l : Activations F A) (setting : Setting) (fs : List F) (entry : NameBytes) (thread : ℕ) (s : Machine S) → Refines setting.edge ((language l).thread setting fs entry thread) s → EachKept setting.edge ((language l).thread setting fs entry thread) s }
 {}
 
 /// The labels of a run and the number of its quiet steps determine its blocks and where it stands.

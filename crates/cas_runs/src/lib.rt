@@ -11,8 +11,9 @@ mod refused;
 mod rules;
 
 pub use compose::{
-    functions_compose, refinements_compose, refines_itself, runs_kept, threads_compose,
-    units_compose, units_refine_themselves,
+    functions_compose, functions_refine_themselves, refinements_compose, refines_itself, runs_kept,
+    threads_compose, threads_kept, threads_refine_themselves, units_compose,
+    units_refine_themselves,
 };
 pub use layer::{FunctionPass, functions_refine, threads_refine, units_refine};
 pub use pass::{Pass, run_pass, steps_refine};

@@ -42,7 +42,9 @@ pub trait Pass {
         ensures { (setting : Setting) (a : Self.Source) (b : Self.Target) → makes a b → fits setting a → Simulates setting.edge (target (laid_out setting (naming a setting.layout)) b) (source setting a) (related setting a b) };
 }
 
-/// What a pass makes refines what it is made of, in each setting that fits that.
+/// What a pass makes refines what it is made of, in each setting that fits that. Which settings fit is the
+/// implementation's own word, and could be few or none: a reader of a pass should read its `UnitRefines`, whose
+/// settings are the same for all.
 pub fn steps_refine<P: Pass>()
     ensures { (setting : Setting) (a : P.Source) (b : P.Target) → P.makes a b → P.fits setting a → Refines setting.edge (P.target (laid_out setting (P.naming a setting.layout)) b) (P.source setting a) }
 {
