@@ -1,5 +1,6 @@
 -- The canonical tokens of statements. Each function puts those of a tree before the tokens `rest`.
-use Rattle.std.specs.Prelude.{Bool, true, false, not, List, ◌∷◌, Option, Some, None}
+use Rattle.std.specs.Prelude.{Bool, Box, true, false, not, List, ◌∷◌, Option, Some, None}
+use Rattle.std.specs.declared.alloc.Global.{Global}
 use Rattle.cas_base.specs.declared.kind.Ty.{Ty}
 use Rattle.cas_base.specs.declared.kind.Ty.TheVariants.{Void, Int, Ptr, Array}
 use Rattle.cas_lex.specs.declared.token.Word.{Word}
@@ -8,7 +9,8 @@ use Rattle.cas_lex.specs.declared.token.Sign.{Sign}
 use Rattle.cas_lex.specs.declared.token.Sign.TheVariants as sg
 use Rattle.cas_syntax.specs.declared.tree.Ident.{Ident}
 use Rattle.cas_syntax.specs.declared.tree.BinaryOperator.{BinaryOperator}
-use Rattle.cas_syntax.specs.Tree.{ExprTree, name, TargetTree, to_name, to_index, to_deref, InitTree, nothing, value, called, StmtTree, skip, declare, assign, call, block, if_, while_, do_, for_, break_, continue_, return_, lock, unlock, print, StmtOption, absent, present, StmtList, no_more, one_more}
+use Rattle.cas_syntax.specs.declared.tree.Stmt.{Stmt}
+use Rattle.cas_syntax.specs.Tree.{ExprTree, name, TargetTree, to_name, to_index, to_deref, InitTree, nothing, value, called, StmtTree, skip, declare, assign, call, block, if_, while_, do_, for_, break_, continue_, return_, lock, unlock, print, StmtOption, absent, present, StmtList, no_more, one_more, stmt_tree}
 use Rattle.cas_syntax.specs.Operators.{assigning_sign}
 use Rattle.cas_print.specs.Pieces.{Piece, word, sign, end_of_line, named, plain_number}
 use Rattle.cas_print.specs.Expressions.{kind_words, enclosed, in_brackets, printed_expr, listed}
@@ -90,6 +92,12 @@ abbrev pub printed_optional : Option ExprTree → List Piece → List Piece
 printed_optional None rest = rest
 printed_optional (Some a) rest = printed_expr a rest
 
+-- a `for` up to its body
+abbrev pub for_head : (first : StmtOption) → Option ExprTree → (after : StmtOption) → List Piece → List Piece
+for_head i c u rest =
+    word w.For ∷ sign sg.OpenParen ∷ printed_part_option i
+    (sign sg.Semicolon ∷ printed_optional c (sign sg.Semicolon ∷ printed_part_option u (sign sg.CloseParen ∷ rest)))
+
 -- a statement that is a word alone
 abbrev pub word_alone : Word → List Piece → List Piece
 word_alone which rest = word which ∷ end_of_line sg.Semicolon ∷ rest
@@ -111,9 +119,7 @@ abbrev mutual
   printed_stmt (while_ p c a) rest = word_and w.While c (printed_stmt a rest)
   printed_stmt (do_ p a c) rest =
       word w.Do ∷ printed_stmt a (word_and w.While c (end_of_line sg.Semicolon ∷ rest))
-  printed_stmt (for_ p i c u a) rest =
-      word w.For ∷ sign sg.OpenParen ∷ printed_part_option i
-      (sign sg.Semicolon ∷ printed_optional c (sign sg.Semicolon ∷ printed_part_option u (sign sg.CloseParen ∷ printed_stmt a rest)))
+  printed_stmt (for_ p i c u a) rest = for_head i c u (printed_stmt a rest)
   printed_stmt (break_ p) rest = word_alone w.Break rest
   printed_stmt (continue_ p) rest = word_alone w.Continue rest
   printed_stmt (return_ p a) rest = word w.Return ∷ printed_optional a (end_of_line sg.Semicolon ∷ rest)
@@ -130,3 +136,8 @@ abbrev mutual
   pub printed_stmts : StmtList → List Piece → List Piece
   printed_stmts no_more rest = rest
   printed_stmts (one_more a bs) rest = printed_stmt a (printed_stmts bs rest)
+
+-- the statement in a box, or none
+abbrev pub boxed_tree : Option (Box Stmt Global) → StmtOption
+boxed_tree None = absent
+boxed_tree (Some a) = present (stmt_tree a.value)

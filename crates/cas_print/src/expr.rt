@@ -1,16 +1,18 @@
 //! Expressions.
 
-ghost use Rattle.std.specs.Prelude.{◌≡◌, ◌<◌, IfOk, List};
+ghost use Rattle.std.specs.Prelude.{◌≡◌, ◌<◌, ◌∷◌, IfOk, List};
+ghost use Rattle.cas_syntax.specs.Tree as tree;
 ghost use Rattle.cas_syntax.specs.Tree.{expr_tree};
 ghost use Rattle.cas_syntax.specs.Operators as operators;
 ghost use Rattle.cas_print.specs.Page.{followed_by};
+ghost use Rattle.cas_print.specs.Pieces as pieces;
 ghost use Rattle.cas_print.specs.Pieces.{Piece};
 ghost use Rattle.cas_print.specs.Expressions as spec;
 
 use crate::page::Page;
 use cas_base::{Kind, NoMemory};
 use cas_lex::{Sign, Word};
-use cas_syntax::{BinaryOperator, Expr, UnaryOperator};
+use cas_syntax::{BinaryOperator, Expr, Ident, UnaryOperator};
 
 /// Writes the words of a kind.
 pub fn kind(page: &mut Page, kind: Kind) -> Result<(), NoMemory>
@@ -42,10 +44,7 @@ pub fn expr(page: &mut Page, expr: &Expr) -> Result<(), NoMemory>
     match expr {
         Expr::Lit(value, kind) => page.number(*value, *kind),
         Expr::Name(x) => page.name(&x.name),
-        Expr::Index(x, index) => {
-            page.name(&x.name)?;
-            in_brackets(page, index)
-        }
+        Expr::Index(x, index) => cell(page, x, index),
         Expr::Deref(pointer) => prefixed(page, Sign::Star, pointer),
         Expr::Addr(x) => {
             page.sign(Sign::And)?;
@@ -53,34 +52,52 @@ pub fn expr(page: &mut Page, expr: &Expr) -> Result<(), NoMemory>
         }
         Expr::AddrIndex(x, index) => {
             page.sign(Sign::And)?;
-            page.name(&x.name)?;
-            in_brackets(page, index)
+            cell(page, x, index)
         }
         Expr::Unary(operator, inner) => prefixed(page, unary_sign(*operator), inner),
         Expr::Cast(to, inner) => cast(page, *to, inner),
         Expr::Binary(operator, left, right) => {
-            operand(page, level(*operator), left)?;
-            page.sign(infix_sign(*operator))?;
+            left_operand(page, level(*operator), left, infix_sign(*operator))?;
             operand(page, level(*operator) + 1, right)
         }
         Expr::And(left, right) => {
-            operand(page, 3, left)?;
-            page.sign(Sign::AndAnd)?;
+            left_operand(page, 3, left, Sign::AndAnd)?;
             operand(page, 4, right)
         }
         Expr::Or(left, right) => {
-            operand(page, 2, left)?;
-            page.sign(Sign::OrOr)?;
+            left_operand(page, 2, left, Sign::OrOr)?;
             operand(page, 3, right)
         }
         Expr::Cond(condition, first, second) => {
-            operand(page, 2, condition)?;
-            page.sign(Sign::Question)?;
+            left_operand(page, 2, condition, Sign::Question)?;
             self::expr(page, first)?;
             page.sign(Sign::Colon)?;
             self::expr(page, second)
         }
     }
+}
+
+// Writes an element of an array.
+#[cycle(expr)]
+fn cell(page: &mut Page, x: &Ident, index: &Expr) -> Result<(), NoMemory>
+    ensures { (rest : List Piece)
+        → IfOk result (λ _. followed_by page.new rest
+        ≡ followed_by page.old (spec.printed_expr (tree.index x.now (expr_tree index.now)) rest)) }
+{
+    page.name(&x.name)?;
+    in_brackets(page, index)
+}
+
+// Writes an operand at a place that takes operators of this level and tighter ones, and a sign behind it.
+#[cycle(expr)]
+fn left_operand(page: &mut Page, asked: u8, inner: &Expr, sign: Sign) -> Result<(), NoMemory>
+    ensures { (rest : List Piece)
+        → IfOk result (λ _. followed_by page.new rest
+        ≡ followed_by page.old
+        (spec.at_level asked (spec.outermost (expr_tree inner.now)) (spec.printed_expr (expr_tree inner.now)) (pieces.sign sign ∷ rest))) }
+{
+    operand(page, asked, inner)?;
+    page.sign(sign)
 }
 
 // Writes an operand behind a sign.

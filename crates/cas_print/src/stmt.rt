@@ -33,50 +33,21 @@ pub fn stmt(page: &mut Page, stmt: &Stmt) -> Result<(), NoMemory>
             self::stmt(page, first)?;
             match second {
                 None => Ok(()),
-                Some(second) => {
-                    page.word(Word::Else)?;
-                    self::stmt(page, second)
-                }
+                Some(second) => otherwise(page, second),
             }
         }
-        StmtForm::While(condition, body) => {
-            word_and(page, Word::While, condition)?;
-            self::stmt(page, body)
-        }
-        StmtForm::Do(body, condition) => {
-            page.word(Word::Do)?;
-            self::stmt(page, body)?;
-            word_and(page, Word::While, condition)?;
-            page.end_of_line(Sign::Semicolon)
-        }
+        StmtForm::While(condition, body) => while_loop(page, body, condition),
+        StmtForm::Do(body, condition) => do_loop(page, body, condition),
         StmtForm::For(first, condition, after, body) => {
-            page.word(Word::For)?;
-            page.sign(Sign::OpenParen)?;
-            if let Some(first) = first {
-                part(page, first)?;
-            }
-            page.sign(Sign::Semicolon)?;
-            optional(page, condition)?;
-            page.sign(Sign::Semicolon)?;
-            if let Some(after) = after {
-                part(page, after)?;
-            }
-            page.sign(Sign::CloseParen)?;
+            for_head(page, first, condition, after)?;
             self::stmt(page, body)
         }
         StmtForm::Break => word_alone(page, Word::Break),
         StmtForm::Continue => word_alone(page, Word::Continue),
-        StmtForm::Return(value) => {
-            page.word(Word::Return)?;
-            optional(page, value)?;
-            page.end_of_line(Sign::Semicolon)
-        }
+        StmtForm::Return(value) => returned(page, value),
         StmtForm::Lock(x) => of_lock(page, Word::Lock, x),
         StmtForm::Unlock(x) => of_lock(page, Word::Unlock, x),
-        StmtForm::Print(value) => {
-            word_and(page, Word::Print, value)?;
-            page.end_of_line(Sign::Semicolon)
-        }
+        StmtForm::Print(value) => print(page, value),
     }
 }
 
@@ -101,6 +72,98 @@ fn block(page: &mut Page, inner: &[Stmt]) -> Result<(), NoMemory>
     page.end_of_line(Sign::OpenBrace)?;
     stmts(page, inner)?;
     page.end_of_line(Sign::CloseBrace)
+}
+
+// Writes the second branch of an `if`.
+#[cycle(stmt)]
+fn otherwise(page: &mut Page, branch: &Stmt) -> Result<(), NoMemory>
+    ensures { (rest : List Piece)
+        → IfOk result (λ _. followed_by page.new rest
+        ≡ followed_by page.old (spec.printed_else (tree.present (stmt_tree branch.now)) rest)) }
+{
+    page.word(Word::Else)?;
+    stmt(page, branch)
+}
+
+// Writes a `while`.
+#[cycle(stmt)]
+fn while_loop(page: &mut Page, body: &Stmt, condition: &Expr) -> Result<(), NoMemory>
+    ensures { (rest : List Piece)
+        → IfOk result (λ _. followed_by page.new rest
+        ≡ followed_by page.old
+        (spec.printed_stmt (tree.while_ nowhere (expr_tree condition.now) (stmt_tree body.now)) rest)) }
+{
+    word_and(page, Word::While, condition)?;
+    stmt(page, body)
+}
+
+// Writes a `do`.
+#[cycle(stmt)]
+fn do_loop(page: &mut Page, body: &Stmt, condition: &Expr) -> Result<(), NoMemory>
+    ensures { (rest : List Piece)
+        → IfOk result (λ _. followed_by page.new rest
+        ≡ followed_by page.old
+        (spec.printed_stmt (tree.do_ nowhere (stmt_tree body.now) (expr_tree condition.now)) rest)) }
+{
+    page.word(Word::Do)?;
+    stmt(page, body)?;
+    word_and(page, Word::While, condition)?;
+    page.end_of_line(Sign::Semicolon)
+}
+
+// Writes a `for` up to its body.
+fn for_head(
+    page: &mut Page,
+    first: &Option<Box<Stmt>>,
+    condition: &Option<Expr>,
+    after: &Option<Box<Stmt>>,
+) -> Result<(), NoMemory>
+    ensures { (rest : List Piece)
+        → IfOk result (λ _. followed_by page.new rest
+        ≡ followed_by page.old
+        (spec.for_head (spec.boxed_tree first.now) (optional_tree condition.now) (spec.boxed_tree after.now) rest)) }
+{
+    page.word(Word::For)?;
+    page.sign(Sign::OpenParen)?;
+    optional_part(page, first)?;
+    page.sign(Sign::Semicolon)?;
+    optional(page, condition)?;
+    page.sign(Sign::Semicolon)?;
+    optional_part(page, after)?;
+    page.sign(Sign::CloseParen)
+}
+
+// Writes the first or the last part of a `for`, or nothing.
+fn optional_part(page: &mut Page, optional: &Option<Box<Stmt>>) -> Result<(), NoMemory>
+    ensures { (rest : List Piece)
+        → IfOk result (λ _. followed_by page.new rest
+        ≡ followed_by page.old (spec.printed_part_option (spec.boxed_tree optional.now) rest)) }
+{
+    match optional {
+        None => Ok(()),
+        Some(inner) => part(page, inner),
+    }
+}
+
+// Writes a `return`.
+fn returned(page: &mut Page, value: &Option<Expr>) -> Result<(), NoMemory>
+    ensures { (rest : List Piece)
+        → IfOk result (λ _. followed_by page.new rest
+        ≡ followed_by page.old (spec.printed_stmt (tree.return_ nowhere (optional_tree value.now)) rest)) }
+{
+    page.word(Word::Return)?;
+    optional(page, value)?;
+    page.end_of_line(Sign::Semicolon)
+}
+
+// Writes a `print`.
+fn print(page: &mut Page, value: &Expr) -> Result<(), NoMemory>
+    ensures { (rest : List Piece)
+        → IfOk result (λ _. followed_by page.new rest
+        ≡ followed_by page.old (spec.printed_stmt (tree.print nowhere (expr_tree value.now)) rest)) }
+{
+    word_and(page, Word::Print, value)?;
+    page.end_of_line(Sign::Semicolon)
 }
 
 // Writes a local, an assignment or a call.
