@@ -1,3 +1,4 @@
+pub mod Alike
 pub mod Ascii
 pub mod Dangling
 pub mod Fronts

@@ -1,11 +1,11 @@
 //! The page that a canonical text is written on.
 
-ghost use Rattle.std.specs.Prelude.{◌≡◌, ◌∷◌, ◌++◌, IfOk, List, codes};
+ghost use Rattle.std.specs.Prelude.{◌≡◌, ◌∷◌, ◌++◌, IfOk, List, codes, string_bytes};
 ghost use Rattle.std.specs.Fmt.{decimal};
 ghost use Rattle.cas_print.specs.Page.{followed_by};
 ghost use Rattle.cas_print.specs.Pieces as pieces;
 
-use cas_base::{Kind, Name, NoMemory, Text};
+use cas_base::{Kind, Name, NoMemory};
 use cas_lex::{Sign, Word};
 use std::alloc::Global;
 use std::fmt::Write;
@@ -36,11 +36,11 @@ impl Page {
     }
 
     /// The text that is written.
-    pub fn into_text(self) -> Text
-        ensures { result ≡ self }
+    pub fn into_string(self) -> String
+        ensures { string_bytes result ≡ self }
     {
         let Page { text } = self;
-        Text::of(text)
+        text
     }
 
     /// Writes a word.

@@ -89,7 +89,7 @@ fn assert_expr(rt: &impl Abort, alloc: Global, marks: &[&str], wanted: &str) -> 
     let tree = tree(alloc, marks)?;
     let mut page = Page::new(alloc);
     expr(&mut page, &tree)?;
-    let text = page.into_text();
+    let text = page.into_string();
     assert_eq!(rt; text.as_str(), wanted);
     Ok(())
 }
@@ -171,10 +171,12 @@ fn declared(alloc: Global, name: &str, form: Form, defined: bool) -> Result<Decl
     })
 }
 
-// A function that returns nothing, and holds this lock.
-fn function(alloc: Global, params: &[Ty], lock: &str) -> Result<Form, NameFault> {
+// A function that returns nothing, and holds these locks.
+fn function(alloc: Global, params: &[Ty], locks: &[&str]) -> Result<Form, NameFault> {
     let mut holds = Vec::new(alloc);
-    keep(&mut holds, Name::new(alloc, lock)?)?;
+    for lock in locks {
+        keep(&mut holds, Name::new(alloc, lock)?)?;
+    }
     let params = Seq::of(Vec::from_slice(alloc, params)?);
     Ok(Form::Function {
         ret: Ty::Void,
@@ -183,9 +185,9 @@ fn function(alloc: Global, params: &[Ty], lock: &str) -> Result<Form, NameFault>
     })
 }
 
-fn worker(alloc: Global) -> Result<Item, NameFault> {
-    let body = Seq::of(worker_body(alloc)?);
-    let form = function(alloc, &[Ty::Int(Kind::I32)], "L")?;
+// `void w(int me)`, which holds these locks, with this body.
+fn worker(alloc: Global, locks: &[&str], body: Vec<Stmt>) -> Result<Item, NameFault> {
+    let form = function(alloc, &[Ty::Int(Kind::I32)], locks)?;
     let decl = declared(alloc, "w", form, true)?;
     let mut params = Vec::new(alloc);
     keep(&mut params, ident(alloc, "me")?)?;
@@ -193,7 +195,7 @@ fn worker(alloc: Global) -> Result<Item, NameFault> {
         decl,
         params: Seq::of(params),
         held: Seq::of(Vec::new(alloc)),
-        body,
+        body: Seq::of(body),
         place: SOMEWHERE,
         closing: SOMEWHERE,
     }))
@@ -254,10 +256,28 @@ fn all_items(alloc: Global) -> Result<Vec<Item>, NameFault> {
     add_global(alloc, &mut items, cell, &[0x8000_0000])?;
     let cell = table(alloc, "u", Ty::Int(Kind::U32))?;
     add_global(alloc, &mut items, cell, &[0xffff_ffff])?;
-    let form = function(alloc, &[], "L")?;
+    let form = function(alloc, &[], &["L"])?;
     add_prototype(alloc, &mut items, declared(alloc, "f", form, false)?)?;
-    keep(&mut items, worker(alloc)?)?;
+    let body = worker_body(alloc)?;
+    keep(&mut items, worker(alloc, &["L"], body)?)?;
     Ok(items)
+}
+
+// `void w(int me) { print(me + 41); }`
+#[test]
+fn a_module_that_prints_a_sum(rt: HostRuntime) -> Result<(), Fail> {
+    let alloc = rt.alloc();
+    let mut body = Vec::new(alloc);
+    add_stmt(&mut body, StmtForm::Print(tree(alloc, &["me", "41", "+"])?))?;
+    let mut items = Vec::new(alloc);
+    keep(&mut items, worker(alloc, &[], body)?)?;
+    let items = Seq::of(items);
+    let printed = print_module(alloc, &Module { items })?;
+    assert_eq!(rt;
+        printed.as_str(),
+        "void w ( int me ) {\nprint ( me + 41 ) ;\n}\n"
+    );
+    Ok(())
 }
 
 #[test]
