@@ -3,9 +3,10 @@
 use crate::expr::expr;
 use crate::page::Page;
 use crate::print_module;
+use crate::stmt::stmts;
 use cas_base::{Decl, Form, Kind, Name, NameFault, Place, Seq, Ty};
 use cas_syntax::{
-    BinaryOperator, Expr, Fun, Ident, Init, Item, Module, Stmt, StmtForm, UnaryOperator,
+    BinaryOperator, Expr, Fun, Ident, Init, Item, LValue, Module, Stmt, StmtForm, UnaryOperator,
 };
 use std::alloc::{AllocError, Global};
 use std::process::Abort;
@@ -45,6 +46,12 @@ fn and_also(alloc: Global, trees: &mut Vec<Expr>) -> Result<Expr, AllocError> {
     Ok(Expr::And(left, right))
 }
 
+fn or_else(alloc: Global, trees: &mut Vec<Expr>) -> Result<Expr, AllocError> {
+    let right = operand(alloc, trees)?;
+    let left = operand(alloc, trees)?;
+    Ok(Expr::Or(left, right))
+}
+
 fn choice(alloc: Global, trees: &mut Vec<Expr>) -> Result<Expr, AllocError> {
     let second = operand(alloc, trees)?;
     let first = operand(alloc, trees)?;
@@ -60,10 +67,14 @@ fn marked(alloc: Global, trees: &mut Vec<Expr>, mark: &str) -> Result<Expr, Name
         "*" => binary(alloc, trees, BinaryOperator::Mul)?,
         "==" => binary(alloc, trees, BinaryOperator::Eq)?,
         "&&" => and_also(alloc, trees)?,
+        "||" => or_else(alloc, trees)?,
         "?:" => choice(alloc, trees)?,
         "neg" => Expr::Unary(UnaryOperator::Neg, operand(alloc, trees)?),
         "at" => Expr::Deref(operand(alloc, trees)?),
         "byte" => Expr::Cast(Kind::U8, operand(alloc, trees)?),
+        "a[]" => Expr::Index(ident(alloc, "a")?, operand(alloc, trees)?),
+        "&x" => Expr::Addr(ident(alloc, "x")?),
+        "&a[]" => Expr::AddrIndex(ident(alloc, "a")?, operand(alloc, trees)?),
         "4u" => Expr::Lit(4, Kind::U32),
         "41" => Expr::Lit(41, Kind::I32),
         name => Expr::Name(ident(alloc, name)?),
@@ -152,6 +163,105 @@ fn branching(alloc: Global) -> Result<StmtForm, NameFault> {
     let second = boxed(alloc, StmtForm::Lock(ident(alloc, "L")?))?;
     let condition = tree(alloc, &["me"])?;
     Ok(StmtForm::If(condition, first, Some(second)))
+}
+
+// Variables of these names.
+fn arguments(alloc: Global, names: &[&str]) -> Result<Seq<Expr>, NameFault> {
+    let mut trees = Vec::new(alloc);
+    for name in names {
+        keep(&mut trees, Expr::Name(ident(alloc, name)?))?;
+    }
+    Ok(Seq::of(trees))
+}
+
+// `f(..);` of variables of these names.
+fn call(alloc: Global, names: &[&str]) -> Result<StmtForm, NameFault> {
+    Ok(StmtForm::Call(None, ident(alloc, "f")?, arguments(alloc, names)?))
+}
+
+// `int a[3]; char *p = &x; unsigned y = f(x);`
+fn add_locals(alloc: Global, body: &mut Vec<Stmt>) -> Result<(), NameFault> {
+    let cells = Ty::Array(Kind::I32, 3);
+    add_stmt(
+        body,
+        StmtForm::Declare(cells, ident(alloc, "a")?, Init::Nothing),
+    )?;
+    let address = Init::Value(tree(alloc, &["&x"])?);
+    let pointer = Ty::Ptr(Kind::I8);
+    add_stmt(
+        body,
+        StmtForm::Declare(pointer, ident(alloc, "p")?, address),
+    )?;
+    let result = Init::Call(ident(alloc, "f")?, arguments(alloc, &["x"])?);
+    let number = Ty::Int(Kind::U32);
+    add_stmt(body, StmtForm::Declare(number, ident(alloc, "y")?, result))?;
+    Ok(())
+}
+
+// `a[x] = x || y; *p += a[x]; *(p + 4u) <<= &a[x]; x = f(x, y);`
+fn add_assignments(alloc: Global, body: &mut Vec<Stmt>) -> Result<(), NameFault> {
+    let cell = LValue::Index(ident(alloc, "a")?, tree(alloc, &["x"])?);
+    let value = tree(alloc, &["x", "y", "||"])?;
+    add_stmt(body, StmtForm::Assign(cell, None, value))?;
+    let target = LValue::Deref(tree(alloc, &["p"])?);
+    let value = tree(alloc, &["x", "a[]"])?;
+    add_stmt(
+        body,
+        StmtForm::Assign(target, Some(BinaryOperator::Add), value),
+    )?;
+    let target = LValue::Deref(tree(alloc, &["p", "4u", "+"])?);
+    let value = tree(alloc, &["x", "&a[]"])?;
+    add_stmt(
+        body,
+        StmtForm::Assign(target, Some(BinaryOperator::Shl), value),
+    )?;
+    let kept = Some(ident(alloc, "x")?);
+    let values = arguments(alloc, &["x", "y"])?;
+    add_stmt(body, StmtForm::Call(kept, ident(alloc, "f")?, values))?;
+    Ok(())
+}
+
+// `if (x) ; while (x) ; do continue; while (x); for (; ; f()) ;`
+fn add_loops(alloc: Global, body: &mut Vec<Stmt>) -> Result<(), NameFault> {
+    let empty = boxed(alloc, StmtForm::Skip)?;
+    add_stmt(body, StmtForm::If(tree(alloc, &["x"])?, empty, None))?;
+    let empty = boxed(alloc, StmtForm::Skip)?;
+    add_stmt(body, StmtForm::While(tree(alloc, &["x"])?, empty))?;
+    let again = boxed(alloc, StmtForm::Continue)?;
+    add_stmt(body, StmtForm::Do(again, tree(alloc, &["x"])?))?;
+    let after = boxed(alloc, call(alloc, &[])?)?;
+    let empty = boxed(alloc, StmtForm::Skip)?;
+    add_stmt(body, StmtForm::For(None, None, Some(after), empty))?;
+    Ok(())
+}
+
+// `unlock(L); return x; return;`
+fn add_ends(alloc: Global, body: &mut Vec<Stmt>) -> Result<(), NameFault> {
+    add_stmt(body, StmtForm::Unlock(ident(alloc, "L")?))?;
+    add_stmt(body, StmtForm::Return(Some(tree(alloc, &["x"])?)))?;
+    add_stmt(body, StmtForm::Return(None))?;
+    Ok(())
+}
+
+// The forms that the module of each item doesn't have.
+#[test]
+fn statements_of_other_forms(rt: HostRuntime) -> Result<(), Fail> {
+    let alloc = rt.alloc();
+    let mut body = Vec::new(alloc);
+    add_locals(alloc, &mut body)?;
+    add_assignments(alloc, &mut body)?;
+    add_loops(alloc, &mut body)?;
+    add_ends(alloc, &mut body)?;
+    let mut page = Page::new(alloc);
+    stmts(&mut page, body.as_slice())?;
+    let printed = page.into_string();
+    let wanted = "int a [ 3 ] ;\nchar * p = & x ;\nunsigned y = f ( x ) ;\n\
+        a [ x ] = x || y ;\n* p += a [ x ] ;\n* ( p + 4u ) <<= & a [ x ] ;\n\
+        x = f ( x , y ) ;\nif ( x ) ;\nwhile ( x ) ;\n\
+        do continue ;\nwhile ( x ) ;\nfor ( ; ; f ( ) ) ;\n\
+        unlock ( L ) ;\nreturn x ;\nreturn ;\n";
+    assert_eq!(rt; printed.as_str(), wanted);
+    Ok(())
 }
 
 fn worker_body(alloc: Global) -> Result<Vec<Stmt>, NameFault> {
