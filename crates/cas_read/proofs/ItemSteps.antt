@@ -7,9 +7,9 @@ use Rattle.cas_syntax.specs.declared.tree.Ident.{Ident}
 use Rattle.cas_syntax.specs.declared.tree.Item.{Item}
 use Rattle.cas_syntax.specs.Items.{names_alone, places_alone}
 use Rattle.cas_syntax.specs.Tree.{ItemTree, item_tree}
-use Rattle.cas_read.specs.Frames.{Opening, AfterExtern, WantKind, ParameterKind, WantParameter, ParameterName, HaveParameter}
-use Rattle.cas_read.specs.Machine.{all_named}
-use Rattle.cas_read.specs.Follow.{verdict}
+use Rattle.cas_parse.specs.Frames.{Opening, AfterExtern, WantKind, ParameterKind, WantParameter, ParameterName, HaveParameter}
+use Rattle.cas_parse.specs.Machine.{all_named}
+use Rattle.cas_read_expr.specs.Follow.{verdict}
 use Rattle.cas_read.specs.FollowItems.{begins_item}
 
 pub items_push : (xs : List Item) (x : Item) → map item_tree (xs ++ x ∷ []) ≡ map item_tree xs ++ item_tree x ∷ []

@@ -1,5 +1,5 @@
 -- What the reader answers, from the machine's verdict.
-use Rattle.std.proofs.Common.{◌≡◌, ℕ, suc, ◌+◌, ◌-◌, ◌<◌, ◌≤◌, Bool, true, if◌then◌else◌, nat_eq, get_or, ◌⊎◌, inl, inr, List, [], ◌∷◌, ◌++◌, length, ◌∙◌, sym, ap, refl, arith, Result, Ok, Err, IfOk, IfErr, MatchResult, map, false}
+use Rattle.std.proofs.Common.{◌≡◌, ℕ, suc, ◌+◌, ◌-◌, ◌<◌, ◌≤◌, Bool, true, if◌then◌else◌, nat_eq, get_or, inl, inr, List, [], ◌∷◌, length, ◌∙◌, ap, refl, arith, Ok, Err, IfOk, IfErr, map, false}
 use Rattle.cas_base.specs.declared.place.Place.{Place}
 use Rattle.cas_lex.specs.declared.code.ReadCode.{ReadCode}
 use Rattle.cas_lex.specs.declared.token.Token.{Token}
@@ -11,15 +11,15 @@ use Rattle.cas_lex.specs.Places.{start, behind}
 use Rattle.cas_syntax.specs.declared.tree.Module.{Module}
 use Rattle.cas_syntax.specs.Reading.{within, IsModule, IsReadAs, HasSyntaxFault, HasReadFault, lexical, syntactic}
 use Rattle.cas_syntax.specs.Tree.{ItemTree, ModuleTree, item_tree, module_tree}
-use Rattle.cas_read.specs.Frames.{Control, Frame, InItems}
-use Rattle.cas_read.specs.Machine.{Outcome, Verdict, Fault, run, go, shift, finish}
+use Rattle.cas_parse.specs.Frames.{Control, Frame, InItems}
+use Rattle.cas_parse.specs.Machine.{Outcome, Fault, run, go, shift}
 use Rattle.cas_read.specs.Answers.{Answer, lexical_fault, IfAt, IsAnswer, IsRead, IsFault}
 use Rattle.cas_read.specs.declared.read.ReadFault.TheVariants.{Memory, At}
-use Rattle.cas_read.specs.Left.{place_left}
-use Rattle.cas_read.specs.Follow.{verdict}
-use Rattle.cas_read.proofs.ViableWalks.{plain_step}
-use Rattle.cas_read.proofs.Faults.{accepted, faulty, ends_unfinished}
-use Rattle.cas_read.proofs.Texts.{one_module, one_read_fault, no_module_and_fault}
+use Rattle.cas_parse.specs.Left.{place_left}
+use Rattle.cas_read_expr.specs.Follow.{verdict}
+use Rattle.cas_parse.proofs.ViableWalks.{plain_step}
+use Rattle.cas_parse.proofs.Faults.{accepted, faulty, ends_unfinished}
+use Rattle.cas_parse.proofs.Texts.{one_module, one_read_fault, no_module_and_fault}
 
 -- the run of the machine, where the limits are asked of every token, is that which the code follows
 pub same_verdict : (ts : List Token) (c : Control) (st : List Frame) → run (within 0) ts c st ≡ verdict ts c st

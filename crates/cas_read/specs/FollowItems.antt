@@ -9,9 +9,9 @@ use Rattle.cas_syntax.specs.declared.tree.Ident.{Ident}
 use Rattle.cas_syntax.specs.Items.{names_alone, places_alone}
 use Rattle.cas_syntax.specs.Reading.{within}
 use Rattle.cas_syntax.specs.Tree.{ItemTree}
-use Rattle.cas_read.specs.Frames.{Data, Sort, Opening, CellsEnd, HaveCells, WantParameter, AfterParameters, WantHeld, AfterHead}
-use Rattle.cas_read.specs.Machine.{Verdict, item_started}
-use Rattle.cas_read.specs.Follow.{verdict, takes}
+use Rattle.cas_parse.specs.Frames.{Data, Sort, Opening, CellsEnd, HaveCells, WantParameter, AfterParameters, WantHeld, AfterHead}
+use Rattle.cas_parse.specs.Machine.{Verdict, item_started}
+use Rattle.cas_read_expr.specs.Follow.{verdict, takes}
 
 -- a global of its parts
 abbrev pub data_of : Sort → (defined : Bool) → Kind → Data

@@ -5,16 +5,16 @@ ghost use Rattle.cas_base.specs.declared.kind.Ty.{Ty};
 ghost use Rattle.cas_lex.specs.declared.token.Sign.TheVariants as sg;
 ghost use Rattle.cas_syntax.specs.declared.tree.Ident.{Ident};
 ghost use Rattle.cas_syntax.specs.Tree.{ItemTree};
-ghost use Rattle.cas_read.specs.Frames.{Data, Sort, Expect, HaveKind, CellsKind, CellName, CellLength, CellArray, CellValue, WantCells, CellsEnd, InItems};
-ghost use Rattle.cas_read.specs.Machine as machine;
-ghost use Rattle.cas_read.specs.Follow.{Follows, verdict};
+ghost use Rattle.cas_parse.specs.Frames.{Data, Sort, Expect, HaveKind, CellsKind, CellName, CellLength, CellArray, CellValue, WantCells, CellsEnd, InItems};
+ghost use Rattle.cas_parse.specs.Machine as machine;
+ghost use Rattle.cas_read_expr.specs.Follow.{Follows, verdict};
 ghost use Rattle.cas_read.specs.FollowItems.{data_of};
 
-use crate::front::{expect_outside, ident};
-use crate::stop::{Stop, fault};
 use crate::values::{value, values};
 use cas_base::{Kind, Seq, Ty};
 use cas_lex::{ReadCode, Sign, Token, TokenKind};
+use cas_read_expr::front::{expect_outside, ident};
+use cas_read_expr::stop::{Stop, fault};
 use cas_syntax::Ident;
 use std::alloc::Global;
 

@@ -5,19 +5,19 @@ ghost use Rattle.cas_base.specs.declared.kind.Ty.{Ty};
 ghost use Rattle.cas_syntax.specs.Items.{declared};
 ghost use Rattle.cas_syntax.specs.Tree as tree;
 ghost use Rattle.cas_syntax.specs.Tree.{ItemTree, item_tree, no_more};
-ghost use Rattle.cas_read.specs.declared.stop.Stop.TheVariants.{Memory};
-ghost use Rattle.cas_read.specs.Frames.{Opening, FunctionName, WantParameters, WantFunction, AfterHead, InItems, InList, BodyOf};
-ghost use Rattle.cas_read.specs.Machine as machine;
-ghost use Rattle.cas_read.specs.Follow.{Follows, verdict};
+ghost use Rattle.cas_read_expr.specs.declared.stop.Stop.TheVariants.{Memory};
+ghost use Rattle.cas_parse.specs.Frames.{Opening, FunctionName, WantParameters, WantFunction, AfterHead, InItems, InList, BodyOf};
+ghost use Rattle.cas_parse.specs.Machine as machine;
+ghost use Rattle.cas_read_expr.specs.Follow.{Follows, verdict};
 ghost use Rattle.cas_read.specs.FollowItems.{opening};
 
-use crate::front::ident;
 use crate::held::held_at;
 use crate::param::parameters_at;
-use crate::stmt::body;
-use crate::stop::{Stop, fault};
 use cas_base::{Decl, Form, Place, Seq, Ty};
 use cas_lex::{ReadCode, Sign, Token, TokenKind};
+use cas_read_expr::front::ident;
+use cas_read_expr::stop::{Stop, fault};
+use cas_read_stmt::stmt::body;
 use cas_syntax::{Fun, Ident, Item};
 use std::alloc::Global;
 

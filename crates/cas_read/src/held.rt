@@ -6,15 +6,15 @@ ghost use Rattle.cas_base.specs.declared.kind.Ty.{Ty};
 ghost use Rattle.cas_syntax.specs.declared.tree.Ident.{Ident};
 ghost use Rattle.cas_syntax.specs.Items.{names_alone, places_alone};
 ghost use Rattle.cas_syntax.specs.Tree.{ItemTree};
-ghost use Rattle.cas_read.specs.declared.stop.Stop.TheVariants.{Memory};
-ghost use Rattle.cas_read.specs.Frames.{Opening, AfterParameters, WantHeld, HaveHeld, AfterHead};
-ghost use Rattle.cas_read.specs.Follow.{Follows, verdict};
+ghost use Rattle.cas_read_expr.specs.declared.stop.Stop.TheVariants.{Memory};
+ghost use Rattle.cas_parse.specs.Frames.{Opening, AfterParameters, WantHeld, HaveHeld, AfterHead};
+ghost use Rattle.cas_read_expr.specs.Follow.{Follows, verdict};
 ghost use Rattle.cas_read.specs.FollowItems.{has_more_held};
 
-use crate::front::{expect_outside, ident};
-use crate::stop::{Stop, fault};
 use cas_base::{Name, Place, Seq};
 use cas_lex::{ReadCode, Sign, Token, TokenKind, Word};
+use cas_read_expr::front::{expect_outside, ident};
+use cas_read_expr::stop::{Stop, fault};
 use cas_syntax::Ident;
 use std::alloc::Global;
 

@@ -5,19 +5,19 @@ ghost use Rattle.cas_lex.specs.declared.token.Sign.TheVariants as sg;
 ghost use Rattle.cas_syntax.specs.Items.{declared};
 ghost use Rattle.cas_syntax.specs.Tree as tree;
 ghost use Rattle.cas_syntax.specs.Tree.{ItemTree, item_tree};
-ghost use Rattle.cas_read.specs.Frames.{Constant, Expect, WantKind, ReturnKind, CellsKind, GlobalLock, GlobalGuard, InItems};
-ghost use Rattle.cas_read.specs.Machine.{Verdict};
-ghost use Rattle.cas_read.specs.Follow.{Follows, verdict};
+ghost use Rattle.cas_parse.specs.Frames.{Constant, Expect, WantKind, ReturnKind, CellsKind, GlobalLock, GlobalGuard, InItems};
+ghost use Rattle.cas_parse.specs.Machine.{Verdict};
+ghost use Rattle.cas_read_expr.specs.Follow.{Follows, verdict};
 ghost use Rattle.cas_read.specs.FollowItems.{begins_item};
 
 use crate::cells::cells;
-use crate::front::{expect_outside, ident};
 use crate::function::function;
-use crate::kind::kind;
 use crate::param::typed;
-use crate::stop::{Stop, fault};
 use cas_base::{Decl, Form, Seq, Ty};
 use cas_lex::{ReadCode, Sign, Token, TokenKind, Word};
+use cas_read_expr::front::{expect_outside, ident};
+use cas_read_expr::kind::kind;
+use cas_read_expr::stop::{Stop, fault};
 use cas_syntax::{Ident, Item};
 use std::alloc::Global;
 

@@ -1,32 +1,16 @@
 //! The reader of module texts: `read_module` answers the module that the grammar gives a text, or the text's first
-//! fault. The reading functions follow a machine (`specs/Machine.antt`), each by an equation on the machine's verdict
-//! (`specs/Follow.antt`); `proofs/` shows that the machine takes what the grammar spells and nothing else. Nobody has
-//! to trust the machine.
+//! fault. The functions here read items, over the readers of expressions and statements below; each follows the machine
+//! of `cas_parse`, by an equation on the machine's verdict (`specs/FollowItems.antt`). The laws of `cas_parse` then say
+//! that the machine takes what the grammar spells and nothing else. It stands on `cas_base`, `cas_lex`, `cas_syntax`,
+//! `cas_parse`, `cas_read_expr` and `cas_read_stmt`.
 #![tactic(auto)]
 
-mod build;
-mod call;
 mod cells;
-mod depth;
-mod expr;
-mod front;
 mod function;
-mod head;
 mod held;
 mod item;
-mod kind;
-pub mod laws;
-mod limit;
-mod local;
-mod operator;
 mod param;
-mod parts;
-mod plain;
 mod read;
-mod simple;
-mod stmt;
-mod stop;
-mod target;
 #[cfg(test)]
 mod tests;
 mod values;

@@ -4,15 +4,15 @@ ghost use Rattle.std.specs.Prelude.{◌≡◌, ◌<◌, ◌≤◌, ◌++◌, ◌
 ghost use Rattle.cas_base.specs.declared.kind.Ty.{Ty};
 ghost use Rattle.cas_syntax.specs.declared.tree.Ident.{Ident};
 ghost use Rattle.cas_syntax.specs.Tree.{ItemTree};
-ghost use Rattle.cas_read.specs.Frames.{Opening, HaveKind, WantKind, ReturnKind, ParameterKind, WantFunction, ParameterType, WantParameters, WantParameter, HaveParameter, AfterParameters};
-ghost use Rattle.cas_read.specs.Follow.{Follows, verdict};
+ghost use Rattle.cas_parse.specs.Frames.{Opening, HaveKind, WantKind, ReturnKind, ParameterKind, WantFunction, ParameterType, WantParameters, WantParameter, HaveParameter, AfterParameters};
+ghost use Rattle.cas_read_expr.specs.Follow.{Follows, verdict};
 ghost use Rattle.cas_read.specs.FollowItems.{has_more_parameters};
 
-use crate::front::{expect_outside, ident};
-use crate::kind::kind;
-use crate::stop::{Stop, fault};
 use cas_base::{Kind, Ty};
 use cas_lex::{ReadCode, Sign, Token, TokenKind, Word};
+use cas_read_expr::front::{expect_outside, ident};
+use cas_read_expr::kind::kind;
+use cas_read_expr::stop::{Stop, fault};
 use cas_syntax::Ident;
 use std::alloc::Global;
 

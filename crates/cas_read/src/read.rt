@@ -6,12 +6,12 @@ ghost use Rattle.cas_lex.specs.declared.code.ReadCode.{ReadCode};
 ghost use Rattle.cas_syntax.specs.Reading.{IsReadAs, HasReadFault};
 ghost use Rattle.cas_syntax.specs.Tree.{ModuleTree, module_tree};
 ghost use Rattle.cas_read.specs.Answers as answers;
-ghost use Rattle.cas_read.specs.Left as spec;
+ghost use Rattle.cas_parse.specs.Left as spec;
 
 use crate::item::items;
-use crate::stop::Stop;
 use cas_base::{Place, Seq};
 use cas_lex::{LexFault, ReadCode, Token, end_of, lex};
+use cas_read_expr::stop::Stop;
 use cas_syntax::Module;
 use std::alloc::Global;
 
@@ -72,7 +72,6 @@ fn lexical(fault: LexFault) -> ReadFault
 }
 
 // The place of the token where so many are left, itself included; where none is left, the end.
-#[tactic(auto, using(crate::proofs::Faults::place_left_at, crate::proofs::Faults::place_left_end))]
 fn place_left(tokens: &[Token], end: Place, left: usize) -> Place
     requires { left ≤ length tokens.now }
     ensures { result ≡ spec.place_left tokens.now end left }

@@ -4,13 +4,13 @@ ghost use Rattle.std.specs.Prelude.{◌≡◌, ◌<◌, ◌≤◌, ◌++◌, ◌
 ghost use Rattle.cas_base.specs.declared.kind.Ty.TheVariants.{Int, Array};
 ghost use Rattle.cas_syntax.specs.declared.tree.Ident.{Ident};
 ghost use Rattle.cas_syntax.specs.Tree.{ItemTree};
-ghost use Rattle.cas_read.specs.Frames.{Sort, CellValue, CellNegative, WantCells, NegativeCells, HaveCells, MoreCells, CellsEnd};
-ghost use Rattle.cas_read.specs.Follow.{Follows, verdict};
+ghost use Rattle.cas_parse.specs.Frames.{Sort, CellValue, CellNegative, WantCells, NegativeCells, HaveCells, MoreCells, CellsEnd};
+ghost use Rattle.cas_read_expr.specs.Follow.{Follows, verdict};
 ghost use Rattle.cas_read.specs.FollowItems.{data_of, has_value_or_end};
 
-use crate::stop::{Stop, fault};
 use cas_base::{Kind, Seq, narrow, sub};
 use cas_lex::{ReadCode, Sign, Token, TokenKind};
+use cas_read_expr::stop::{Stop, fault};
 use std::alloc::Global;
 
 /// An initial value of a cell of this kind, and what stands behind it.

@@ -3,7 +3,7 @@ use Rattle.std.proofs.lemmas.Iterator.Adapters.{YieldsList-from_vec}
 use Rattle.std.proofs.lemmas.Iterator.Consumers.{YieldsList-turn, YieldsList-end}
 use Rattle.std.proofs.lemmas.List.{map-id}
 use Rattle.cas_syntax.specs.declared.tree.Ident.{Ident}
-use Rattle.cas_read.specs.Machine as machine
+use Rattle.cas_parse.specs.Machine as machine
 use Rattle.cas_read.proofs.ItemSteps.{all_have_names, one_has_none}
 use Rattle.cas_read.proofs.function.all_named.Goals as goal
 

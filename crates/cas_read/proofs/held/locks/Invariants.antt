@@ -2,8 +2,8 @@ use Rattle.std.proofs.Common.{◌≡◌, ◌≤◌, [], length, List, Option}
 use Rattle.cas_base.specs.declared.kind.Ty.{Ty}
 use Rattle.cas_syntax.specs.declared.tree.Ident.{Ident}
 use Rattle.cas_syntax.specs.Tree.{ItemTree}
-use Rattle.cas_read.specs.Frames.{Opening, WantHeld}
-use Rattle.cas_read.specs.Follow.{verdict}
+use Rattle.cas_parse.specs.Frames.{Opening, WantHeld}
+use Rattle.cas_read_expr.specs.Follow.{verdict}
 use Rattle.cas_read.proofs.held.locks.Given as goal
 
 abbrev pub invariant-locks : goal.invariant-locks

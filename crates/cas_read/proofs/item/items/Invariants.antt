@@ -1,7 +1,7 @@
 use Rattle.std.proofs.Common.{◌≡◌, [], length, map}
 use Rattle.cas_syntax.specs.Tree.{item_tree}
-use Rattle.cas_read.specs.Frames.{InItems}
-use Rattle.cas_read.specs.Follow.{verdict}
+use Rattle.cas_parse.specs.Frames.{InItems}
+use Rattle.cas_read_expr.specs.Follow.{verdict}
 use Rattle.cas_read.proofs.item.items.Given as goal
 
 abbrev pub invariant-items : goal.invariant-items

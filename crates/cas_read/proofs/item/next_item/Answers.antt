@@ -1,7 +1,7 @@
 use Rattle.std.proofs.Common.{◌≡◌, [], true, arith}
 use Rattle.std.proofs.lemmas.Grind.{common_steps}
-use Rattle.cas_read.specs.Frames.{InItems}
-use Rattle.cas_read.specs.Follow.{verdict}
+use Rattle.cas_parse.specs.Frames.{InItems}
+use Rattle.cas_read_expr.specs.Follow.{verdict}
 use Rattle.cas_read.specs.FollowItems.{begins_item}
 use Rattle.cas_read.proofs.item.next_item.Goals as goal
 

@@ -1,7 +1,7 @@
 use Rattle.std.proofs.Common.{◌≡◌, [], arith}
 use Rattle.std.proofs.lemmas.Grind.{common_steps}
-use Rattle.cas_read.specs.Frames.{WantParameters, WantParameter}
-use Rattle.cas_read.specs.Follow.{verdict}
+use Rattle.cas_parse.specs.Frames.{WantParameters, WantParameter}
+use Rattle.cas_read_expr.specs.Follow.{verdict}
 use Rattle.cas_read.proofs.param.parameters_at.Goals as goal
 
 pub returns-in_default-kind-clause-follows : goal.returns-in_default-kind-clause-follows

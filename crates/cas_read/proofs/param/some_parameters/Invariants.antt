@@ -1,7 +1,7 @@
 use Rattle.std.proofs.Common.{◌≡◌, ◌≤◌, [], length, List}
 use Rattle.cas_syntax.specs.Tree.{ItemTree}
-use Rattle.cas_read.specs.Frames.{Opening, WantParameter}
-use Rattle.cas_read.specs.Follow.{verdict}
+use Rattle.cas_parse.specs.Frames.{Opening, WantParameter}
+use Rattle.cas_read_expr.specs.Follow.{verdict}
 use Rattle.cas_read.proofs.param.some_parameters.Given as goal
 
 abbrev pub invariant-parameters : goal.invariant-parameters

@@ -1,6 +1,6 @@
-use Rattle.std.proofs.Common.{◌≡◌, ◌-◌, ◌<◌, ◌≤◌, ℕ, length, arith, sym, ◌∙◌, ap}
-use Rattle.cas_read.specs.Left.{place_left}
-use Rattle.cas_read.proofs.Faults.{place_left_end}
+use Rattle.std.proofs.Common.{◌≡◌, ℕ, arith, sym, ◌∙◌, ap}
+use Rattle.cas_parse.specs.Left.{place_left}
+use Rattle.cas_parse.proofs.Faults.{place_left_end}
 use Rattle.cas_read.proofs.Reader.{place_left_or}
 use Rattle.cas_read.proofs.read.place_left.Goals as goal
 

@@ -1,8 +1,7 @@
-use Rattle.std.proofs.Common.{◌≡◌, List, [], map, Ok, sym, arith, rules}
-use Rattle.cas_syntax.specs.Tree.{item_tree, ItemTree}
-use Rattle.cas_read.specs.Frames.{InItems}
-use Rattle.cas_read.specs.Machine.{Verdict}
-use Rattle.cas_read.specs.Follow.{verdict}
+use Rattle.std.proofs.Common.{◌≡◌, [], map, Ok, sym}
+use Rattle.cas_syntax.specs.Tree.{item_tree}
+use Rattle.cas_parse.specs.Frames.{InItems}
+use Rattle.cas_read_expr.specs.Follow.{verdict}
 use Rattle.cas_read.proofs.Reader.{reads_items}
 use Rattle.cas_read.proofs.read.read.Goals as goal
 

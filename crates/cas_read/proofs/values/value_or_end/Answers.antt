@@ -1,7 +1,7 @@
 use Rattle.std.proofs.Common.{◌≡◌, [], arith}
 use Rattle.std.proofs.lemmas.Grind.{common_steps}
-use Rattle.cas_read.specs.Frames.{WantCells, MoreCells}
-use Rattle.cas_read.specs.Follow.{verdict}
+use Rattle.cas_parse.specs.Frames.{WantCells, MoreCells}
+use Rattle.cas_read_expr.specs.Follow.{verdict}
 use Rattle.cas_read.specs.FollowItems.{data_of}
 use Rattle.cas_read.proofs.values.value_or_end.Goals as goal
 

@@ -1,8 +1,8 @@
 use Rattle.std.proofs.Common.{◌≡◌, ◌<◌, [], ℕ, Bool, length, List}
 use Rattle.cas_syntax.specs.declared.tree.Ident.{Ident}
 use Rattle.cas_syntax.specs.Tree.{ItemTree}
-use Rattle.cas_read.specs.Frames.{Sort, WantCells, HaveCells}
-use Rattle.cas_read.specs.Follow.{verdict}
+use Rattle.cas_parse.specs.Frames.{Sort, WantCells, HaveCells}
+use Rattle.cas_read_expr.specs.Follow.{verdict}
 use Rattle.cas_read.specs.FollowItems.{data_of}
 use Rattle.cas_read.proofs.values.values.Given as goal
 

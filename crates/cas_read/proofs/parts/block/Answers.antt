@@ -1,5 +1,0 @@
-use Rattle.cas_read.proofs.Trees.{block_of}
-use Rattle.cas_read.proofs.parts.block.Goals as goal
-
-pub returns : goal.returns
-returns c = block_of c.args.place c.args.all
