@@ -19,7 +19,7 @@ use Rattle.cas_typed.specs.Modules.{decl_of, return_type, locals_in, scope_in, I
 use Rattle.cas_typed.specs.Resolved.{TypedExprTree, TypedTargetTree, TypedStmtTree, TypedStmtOption, TypedStmtList, TypedFunTree, TypedModuleTree}
 use Rattle.cas_typed.specs.Scopes.{Scope, inside, locals_of, locals_of_option, locals_of_list, after_option, parameters}
 use Rattle.cas_typed.specs.Sorts.{word, pointer, HasSort, IsValue, AreValues, IsCell, MayKeep, MayReturn, IsTest, IsSorted, IsSortedPart, AreSorted, IsSortedFunction, IsSortedModule}
-use Rattle.cas_typed.specs.Types.{no_value}
+use Rattle.cas_typed.specs.Types.{no_value, unequal}
 use Rattle.cas_typed.specs.Typing as y
 use Rattle.cas_typed.specs.Typing.{HasType, Tests, Gives, GivesEach, Writes, Assigns, assigns, Keeps, Calls, calls, TestsOptional, IsStmt, IsPart, AreStmts}
 use Rattle.cas_typed.proofs.Sorted_scopes.{Segment, first_part, last_part, behind_front, one_local, AreBound, IsScoped, variable_there, item_there, inside_scoped, past_scoped, declaring_scoped, after_scoped, after_count, after_option_scoped, past_option_scoped, after_option_count, past_option_count}
@@ -43,11 +43,11 @@ mutual
   type_sorted sc (y.pointer_difference a b p q k h h') = (k, type_sorted sc h, type_sorted sc h')
   type_sorted sc (y.shift op a b a' b' j k is h h') = (type_sorted sc h, type_sorted sc h')
   type_sorted sc (y.equal_integers op a b a' b' j k is h h') = (type_sorted sc h, type_sorted sc h')
-  type_sorted sc (y.equal_pointers op a b p q k is h h') = (k, type_sorted sc h, type_sorted sc h')
-  type_sorted sc (y.pointer_and_null op a b p k is h null) = (k, type_sorted sc h, tt)
-  type_sorted sc (y.null_and_pointer op a b q k is null h) = (k, tt, type_sorted sc h)
+  type_sorted sc (y.equal_pointers op a b p q k is h h') = (inl is, k, type_sorted sc h, type_sorted sc h')
+  type_sorted sc (y.pointer_and_null op a b p k is h null) = (inl is, k, type_sorted sc h, tt)
+  type_sorted sc (y.null_and_pointer op a b q k is null h) = (inl is, k, tt, type_sorted sc h)
   type_sorted sc (y.ordered_integers op a b a' b' j k is h h') = (type_sorted sc h, type_sorted sc h')
-  type_sorted sc (y.ordered_pointers op a b p q k is h h') = (k, type_sorted sc h, type_sorted sc h')
+  type_sorted sc (y.ordered_pointers op a b p q k is h h') = (inr is, k, type_sorted sc h, type_sorted sc h')
   type_sorted sc (y.both a b c d h h') = (test_sorted sc h, test_sorted sc h')
   type_sorted sc (y.either a b c d h h') = (test_sorted sc h, test_sorted sc h')
   type_sorted sc (y.not_so a c h) = test_sorted sc h
@@ -66,7 +66,7 @@ mutual
 
   test_sorted : {vs : List Ty} {ds : List Decl} {s : Scope} {a : ExprTree} {c : TypedExprTree} → IsScoped vs ds s → Tests s a c → HasSort vs ds c word
   test_sorted sc (y.an_integer_test a e k h) = type_sorted sc h
-  test_sorted sc (y.a_pointer_test a p k h) = (k, type_sorted sc h, tt)
+  test_sorted sc (y.a_pointer_test a p k h) = (inl unequal, k, type_sorted sc h, tt)
 
 value_sorted : {vs : List Ty} {ds : List Decl} {s : Scope} {a : ExprTree} {ty : Ty} {e : TypedExprTree} → IsScoped vs ds s → Gives s a ty e → IsValue vs ds ty e
 value_sorted sc (y.an_integer a e j k h) = (refl, type_sorted sc h)

@@ -11,7 +11,7 @@ use Rattle.cas_base.specs.declared.kind.Ty.TheVariants.{Int, Ptr, Array}
 use Rattle.cas_typed.specs.declared.tree.Destination.{Destination}
 use Rattle.cas_typed.specs.Modules.{decl_of, return_type}
 use Rattle.cas_typed.specs.Resolved.{TypedExprTree, literal, null, local, global, element, place_of, behind, pointer_plus, plus_pointer, pointer_minus, pointer_difference, compare, unary, binary, narrow, and_also, or_else, choose, TypedTargetTree, to_local, to_global, to_element, to_behind, TypedStmtTree, skip, assign, call, block, if_, while_, do_, for_, break_, continue_, return_, lock, unlock, print, TypedStmtOption, absent, present, TypedStmtList, no_more, one_more, TypedFunTree, TypedModuleTree}
-use Rattle.cas_typed.specs.Types.{variable_type, no_value}
+use Rattle.cas_typed.specs.Types.{variable_type, no_value, IsEquality, IsOrder}
 
 -- the values of an expression: words, or pointers to cells of a kind
 pub data Sort : Type 0 where
@@ -44,7 +44,7 @@ HasSort vs ds (pointer_plus s p e) (pointer k) = HasSort vs ds p (pointer k) × 
 HasSort vs ds (plus_pointer s e p) (pointer k) = HasSort vs ds e word × HasSort vs ds p (pointer k)
 HasSort vs ds (pointer_minus s p e) (pointer k) = HasSort vs ds p (pointer k) × HasSort vs ds e word
 HasSort vs ds (pointer_difference p q) word = (k : Kind) × HasSort vs ds p (pointer k) × HasSort vs ds q (pointer k)
-HasSort vs ds (compare op p q) word = (k : Kind) × HasSort vs ds p (pointer k) × HasSort vs ds q (pointer k)
+HasSort vs ds (compare op p q) word = (IsEquality op ⊎ IsOrder op) × (k : Kind) × HasSort vs ds p (pointer k) × HasSort vs ds q (pointer k)
 HasSort vs ds (unary op a) word = HasSort vs ds a word
 HasSort vs ds (binary op s a b) word = HasSort vs ds a word × HasSort vs ds b word
 HasSort vs ds (narrow k a) word = HasSort vs ds a word
