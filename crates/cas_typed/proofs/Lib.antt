@@ -1,4 +1,5 @@
 pub mod Basics
+pub mod Bodied
 pub mod Complete
 mod Examples
 pub mod Expressions

@@ -161,7 +161,7 @@ parameters_bound vs n (x ∷ xs) [] there = tt
 parameters_bound vs n (x ∷ xs) (ty ∷ tys) there =
     (one_local vs n ty (first_part vs n (ty ∷ []) tys there), parameters_bound vs (n + 1) xs tys (last_part vs n (ty ∷ []) tys there))
 
-types_of_locals : (body : TypedStmtList) (n first : ℕ) (tys : List Ty) → map (λ v. v.ty) (locals_in body n first tys) ≡ tys
+pub types_of_locals : (body : TypedStmtList) (n first : ℕ) (tys : List Ty) → map (λ v. v.ty) (locals_in body n first tys) ≡ tys
 types_of_locals body n first [] = refl
 types_of_locals body n first (ty ∷ tys) = λ i. ty ∷ types_of_locals body (n + 1) (first + words_of_ty ty) tys i
 

@@ -3,6 +3,7 @@
 ghost use Rattle.std.specs.Prelude.{◌≡◌, ◌⊎◌, ◌↔◌, ◌<◌, ℕ, List, Ok, All};
 ghost use Rattle.cas_base.specs.declared.place.Place.{Place};
 ghost use Rattle.cas_syntax.specs.Tree.{ModuleTree};
+ghost use Rattle.cas_typed.specs.Bodies.{HasBodies};
 ghost use Rattle.cas_typed.specs.Faults.{Fault};
 ghost use Rattle.cas_typed.specs.Modules.{IsTyped};
 ghost use Rattle.cas_typed.specs.Numbered.{IsRow, parts_of};
@@ -38,4 +39,10 @@ pub fn parts_of_rows_are_later()
 /// `break` and `continue` stand in loops.
 pub fn typed_functions_are_sorted()
     ensures { (m : ModuleTree) (r : TypedModuleTree) → IsTyped m r → IsSortedModule r }
+{}
+
+/// A typed module has one function for each item with a body, in order of text: it has that item's
+/// number, and its locals have the types of the parameters and then of the body's locals.
+pub fn typed_modules_have_bodies()
+    ensures { (m : ModuleTree) (r : TypedModuleTree) → IsTyped m r → HasBodies r }
 {}

@@ -1,0 +1,24 @@
+-- Which items a resolved module's functions are.
+use Rattle.std.specs.Prelude.{◌≡◌, ℕ, List, [], ◌∷◌, length, map, Some, slice_get}
+use Rattle.cas_syntax.specs.Tree.{FunTree, ItemTree, global, prototype, define}
+use Rattle.cas_typed.specs.Counts.{local_types}
+use Rattle.cas_typed.specs.Resolved.{TypedFunTree, TypedModuleTree}
+
+-- the functions with bodies among items, in order of text
+abbrev pub bodies_of : List ItemTree → List FunTree
+bodies_of [] = []
+bodies_of (global d vs p ∷ items) = bodies_of items
+bodies_of (prototype d hs p ∷ items) = bodies_of items
+bodies_of (define f ∷ items) = f ∷ bodies_of items
+
+-- the function is resolved from this tree of an item: the item has its number, and its locals have the types of the parameters,
+-- and then of the body's locals
+pub record IsOf (items : List ItemTree) (f : FunTree) (it : TypedFunTree) : Type 0 where
+  pub item : slice_get items it.item ≡ Some (define f)
+  pub locals : map (λ v. v.ty) it.locals ≡ local_types f
+
+-- the module has one function for each body, in order of text
+pub record HasBodies (r : TypedModuleTree) : Type 0 where
+  pub count : length r.functions ≡ length (bodies_of r.module_tree.items)
+  pub each : (n : ℕ) (it : TypedFunTree) → slice_get r.functions n ≡ Some it →
+      (f : FunTree) × (slice_get (bodies_of r.module_tree.items) n ≡ Some f) × IsOf r.module_tree.items f it
