@@ -1,6 +1,8 @@
 pub mod Bodies
 pub mod Counts
 pub mod Faults
+pub mod Formed
+pub mod Literals
 pub mod Modules
 pub mod Numbered
 pub mod Resolved

@@ -1,11 +1,15 @@
 //! Laws of the definitions, each the contract of a function without effect.
 
-ghost use Rattle.std.specs.Prelude.{◌≡◌, ◌⊎◌, ◌↔◌, ◌<◌, ℕ, List, Ok, All};
+ghost use Rattle.std.specs.Prelude.{◌≡◌, ◌⊎◌, ◌↔◌, ◌<◌, ℕ, List, map, Ok, All};
+ghost use Rattle.cas_base.specs.Decl.{functions_of};
 ghost use Rattle.cas_base.specs.declared.place.Place.{Place};
+ghost use Rattle.cas_syntax.specs.Reading.{IsReadAs};
 ghost use Rattle.cas_syntax.specs.Tree.{ModuleTree};
-ghost use Rattle.cas_typed.specs.Bodies.{HasBodies};
+ghost use Rattle.cas_typed.specs.Bodies.{bodies_of, HasBodies};
 ghost use Rattle.cas_typed.specs.Faults.{Fault};
-ghost use Rattle.cas_typed.specs.Modules.{IsTyped};
+ghost use Rattle.cas_typed.specs.Formed.{IsFormed};
+ghost use Rattle.cas_typed.specs.Literals.{ModuleHasWords};
+ghost use Rattle.cas_typed.specs.Modules.{decl_of, IsTyped};
 ghost use Rattle.cas_typed.specs.Numbered.{IsRow, parts_of};
 ghost use Rattle.cas_typed.specs.Resolved.{TypedModuleTree, TypedStmtTree};
 ghost use Rattle.cas_typed.specs.Sorts.{IsSortedModule};
@@ -45,4 +49,19 @@ pub fn typed_functions_are_sorted()
 /// number, and its locals have the types of the parameters and then of the body's locals.
 pub fn typed_modules_have_bodies()
     ensures { (m : ModuleTree) (r : TypedModuleTree) → IsTyped m r → HasBodies r }
+{}
+
+/// What a text is read as is formed: its literals are words, its initial values are values of their kinds, and each of
+/// its items declares what it is. And it stays so when it is typed: the literals of its resolved functions are words,
+/// and its values are of their kinds when zeros have filled them up.
+pub fn read_modules_are_formed()
+    ensures read { (text : List ℕ) (m : ModuleTree) → IsReadAs text m → IsFormed m }
+    ensures filled { (m : ModuleTree) (r : TypedModuleTree) → IsFormed m → IsTyped m r → IsFormed r.module_tree }
+    ensures resolved { (m : ModuleTree) (r : TypedModuleTree) → IsFormed m → IsTyped m r → ModuleHasWords r }
+{}
+
+/// The functions that a formed module defines are those with bodies: so a unit's functions are counted alike by its
+/// declarations and by its bodies.
+pub fn formed_modules_define_bodies()
+    ensures { (m : ModuleTree) → IsFormed m → functions_of (map decl_of m.items) ≡ map (λ f. f.decl) (bodies_of m.items) }
 {}
