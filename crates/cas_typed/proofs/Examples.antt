@@ -1,8 +1,9 @@
 -- The walk, computed on small modules.
-use Rattle.std.proofs.Common.{◌≡◌, ℕ, zero, suc, List, [], ◌∷◌, Some, None, Result, Ok, Err, refl}
+use Rattle.std.proofs.Common.{◌≡◌, ℕ, zero, suc, List, [], ◌∷◌, Some, None, Result, Ok, Err, refl, arith, lit<}
 use Rattle.std.specs.Prelude.{codes, Bool, true, false, map, replicate, length}
 use Rattle.cas_base.specs.declared.decl.Form.TheVariants.{Lock, Shared, Table, Function}
-use Rattle.cas_base.specs.declared.kind.Kind.TheVariants.{I32}
+use Rattle.cas_base.specs.Kind.{is_of_kind}
+use Rattle.cas_base.specs.declared.kind.Kind.TheVariants.{I32, U8}
 use Rattle.cas_base.specs.declared.kind.Ty.{Ty}
 use Rattle.cas_base.specs.declared.kind.Ty.TheVariants.{Void, Int, Ptr, Array}
 use Rattle.cas_base.specs.declared.place.Place.{Place}
@@ -12,6 +13,8 @@ use Rattle.cas_syntax.specs.declared.tree.BinaryOperator.TheVariants.{Add}
 use Rattle.cas_typed.specs.declared.fault.TypeCode.{TypeCode}
 use Rattle.cas_typed.specs.declared.fault.TypeCode.TheVariants.{T1, T2, T3, T5, T6}
 use Rattle.cas_typed.specs.declared.fault.TypeCount.TheVariants.{Parameters, Words, Cells}
+use Rattle.cas_typed.specs.Bodies.{bodies_of}
+use Rattle.cas_typed.specs.Formed.{ExprIsFormed, AreOfKind, IsFilled}
 use Rattle.cas_typed.specs.Counts.{nodes_of_stmts}
 use Rattle.cas_typed.specs.Faults.{Fault, fault, limit}
 use Rattle.cas_typed.specs.Modules.{filled_item}
@@ -148,3 +151,21 @@ nodes_row :
     (one_more (if_ (at 1 1) (name (named (codes "x") (at 1 1))) (block (at 1 1) no_more) (present (skip (at 1 1))))
     (one_more (for_ (at 1 1) absent None absent (break_ (at 1 1))) no_more)))) ≡ 10
 nodes_row = refl
+
+-- locks and prototypes have no body
+abbrev two_bodies : List ItemTree
+two_bodies = lock_L ∷ thread 2 no_more ∷ prototype_of (codes "f") Void [] [] ∷ thread 4 (one_more (break_ (at 4 18)) no_more) ∷ []
+
+bodies_row : map (λ f. f.body) (bodies_of two_bodies) ≡ no_more ∷ one_more (break_ (at 4 18)) no_more ∷ []
+bodies_row = refl
+
+-- 4294967296 is no word, and 300 no value of U8
+literal_row : ExprIsFormed (literal 4294967296 I32) → ⊥
+literal_row h = omega arith
+
+value_row : AreOfKind U8 (7 ∷ 300 ∷ []) → ⊥
+value_row h = let e : is_of_kind 300 U8 ≡ true = h 1 0 (lit< tt) in cc
+
+-- const unsigned char t[3] = { 7 };
+unfilled_row : IsFilled (record { items = global (record { name = codes "t"; form = Table (Array U8 3); defined = true }) (7 ∷ []) (at 1 21) ∷ [] }) → ⊥
+unfilled_row h = let e : length {A = ℕ} (7 ∷ []) ≡ 3 = h 0 _ (7 ∷ []) (at 1 21) refl refl in omega arith

@@ -1,5 +1,5 @@
 -- What tokens whose literals are words spell is formed: expressions.
-use Rattle.std.proofs.Common.{ℕ, List, [], ◌∷◌, Option, Some, None}
+use Rattle.std.proofs.Common.{ℕ, List}
 use Rattle.cas_base.specs.declared.kind.Kind.{Kind}
 use Rattle.cas_lex.specs.declared.token.Token.{Token}
 use Rattle.cas_lex.specs.declared.token.Word.{Word}

@@ -1,23 +1,23 @@
 -- What a text is read as is formed: items and modules.
-use Rattle.std.proofs.Common.{◌≡◌, ◌⊎◌, inl, inr, ℕ, suc, ◌<◌, ◌^◌, Bool, true, false, IsTrue, List, [], ◌∷◌, length, map, Option, Some, None, refl, sym, ap, ◌∙◌, arith}
+use Rattle.std.proofs.Common.{◌≡◌, ◌⊎◌, inl, inr, ℕ, suc, ◌<◌, ◌^◌, Bool, true, IsTrue, List, [], ◌∷◌, length, map, Option, Some, None, refl, sym, ap, ◌∙◌, arith}
 use Rattle.std.proofs.lemmas.List.Elements.{All-nil, All-cons}
 use Rattle.cas_base.proofs.KindLaws.{narrowed_is_of_kind}
 use Rattle.cas_base.specs.Kind.{is_of_kind}
-use Rattle.cas_base.specs.Word.{word_sub, narrowed}
+use Rattle.cas_base.specs.Word.{word_sub}
 use Rattle.cas_base.specs.declared.decl.Form.{Form}
 use Rattle.cas_base.specs.declared.kind.Kind.{Kind}
 use Rattle.cas_base.specs.declared.kind.Ty.{Ty}
+use Rattle.cas_base.specs.declared.kind.Ty.TheVariants.{Void, Int, Ptr, Array}
 use Rattle.cas_base.specs.declared.place.Place.{Place}
-use Rattle.cas_base.specs.Decl.{is_function}
 use Rattle.cas_lex.specs.declared.token.Token.{Token}
 use Rattle.cas_syntax.specs.declared.tree.Ident.{Ident}
 use Rattle.cas_syntax.specs.Items as y
 use Rattle.cas_syntax.specs.Items.{SpellsExtern, SpellsValue, SpellsValues, SpellsCells, SpellsType, SpellsReturn, SpellsParameter, SpellsParameterList, SpellsParameters, SpellsNames, SpellsHolds, SpellsHead, SpellsItem, SpellsItems}
 use Rattle.cas_syntax.specs.Limits.{Limits}
-use Rattle.cas_syntax.specs.Reading.{within, IsReadAs}
+use Rattle.cas_syntax.specs.Reading.{IsReadAs}
 use Rattle.cas_syntax.specs.Tree.{ItemTree, ModuleTree}
 use Rattle.cas_typed.specs.Counts.{parameter_types}
-use Rattle.cas_typed.specs.Formed.{AreOfKind, AreValuesOf, ItemIsFormed, ItemsAreFormed, IsFormed}
+use Rattle.cas_typed.specs.Formed.{IsPassed, ArePassed, IsReturned, AreOfKind, AreValuesOf, IsFunctionForm, ItemIsFormed, ItemsAreFormed, IsFormed}
 use Rattle.cas_typed.proofs.Formed_exprs.{Formed, kind_rest}
 use Rattle.cas_typed.proofs.Formed_stmts.{body_formed}
 use Rattle.cas_typed.proofs.Token_words.{HaveWords, first_of, rest_of, lexed_words}
@@ -56,39 +56,49 @@ MayBegin d ty vs = AreValuesOf ty vs × ((d ≡ true) ⊎ (vs ≡ []))
 cells_formed : {limits : Limits} {d : Bool} {k : Kind} {x : Ident} {ty : Ty} {vs : List ℕ} {s r : List Token} → SpellsCells limits d k x ty vs s r → HaveWords s → Formed (MayBegin d ty vs) r
 cells_formed {k = k} (y.one_cell x r) h = record { is = (none_of_kind k, inr refl); rest = rest_of h }
 cells_formed {k = k} (y.one_cell_with_value x v p s r is sv) h = let w = value_formed sv (rest_of (rest_of h)) in record { is = (one_kind k v [] w.is (none_of_kind k), inl is); rest = w.rest }
-cells_formed {k = k} (y.cells x n j p o q r) h = record { is = (none_of_kind k, inr refl); rest = rest_of (rest_of (rest_of (rest_of h))) }
+cells_formed {k = k} (y.cells x n j p o q r) h = record { is = ((first_of (rest_of (rest_of h)), none_of_kind k), inr refl); rest = rest_of (rest_of (rest_of (rest_of h))) }
 cells_formed {k = k} (y.cells_with_values x n j vs p o q e f g s r is svs) h =
     let ws = values_formed svs (rest_of (rest_of (rest_of (rest_of (rest_of (rest_of h)))))) in
-    record { is = (ws.is, inl is); rest = rest_of ws.rest }
-cells_formed {k = k} (y.arrays x n j p o q q' r out) h = record { is = (none_of_kind k, inr refl); rest = rest_of (rest_of (rest_of (rest_of (rest_of h)))) }
+    record { is = ((first_of (rest_of (rest_of h)), ws.is), inl is); rest = rest_of ws.rest }
+cells_formed {k = k} (y.arrays x n j p o q q' r out) h = record { is = ((first_of (rest_of (rest_of h)), none_of_kind k), inr refl); rest = rest_of (rest_of (rest_of (rest_of (rest_of h)))) }
 
 -- heads of functions
 
-type_rest : {limits : Limits} {ty : Ty} {s r : List Token} → SpellsType limits ty s r → HaveWords s → HaveWords r
-type_rest (y.integer k s r sk) h = kind_rest sk h
-type_rest (y.pointer k p s r sk) h = rest_of (kind_rest sk h)
-type_rest (y.pointer_to_pointer k p q s r out sk) h = rest_of (rest_of (kind_rest sk h))
+type_formed : {limits : Limits} {ty : Ty} {s r : List Token} → SpellsType limits ty s r → HaveWords s → Formed (IsPassed ty) r
+type_formed (y.integer k s r sk) h = record { is = tt; rest = kind_rest sk h }
+type_formed (y.pointer k p s r sk) h = record { is = tt; rest = rest_of (kind_rest sk h) }
+type_formed (y.pointer_to_pointer k p q s r out sk) h = record { is = tt; rest = rest_of (rest_of (kind_rest sk h)) }
 
-return_rest : {limits : Limits} {ty : Ty} {s r : List Token} → SpellsReturn limits ty s r → HaveWords s → HaveWords r
-return_rest (y.no_value p r) h = rest_of h
-return_rest (y.a_value ty s r st) h = type_rest st h
+passed_returned : (ty : Ty) → IsPassed ty → IsReturned ty
+passed_returned Void w = tt
+passed_returned (Int k) w = tt
+passed_returned (Ptr k) w = tt
+passed_returned (Array k n) w = w
 
-parameter_rest : {limits : Limits} {ty : Ty} {x : Option Ident} {s r : List Token} → SpellsParameter limits ty x s r → HaveWords s → HaveWords r
-parameter_rest (y.unnamed ty s r st) h = type_rest st h
-parameter_rest (y.named ty x s r st) h = rest_of (type_rest st h)
-parameter_rest (y.unnamed_array ty p s r out st) h = rest_of (type_rest st h)
-parameter_rest (y.named_array ty x p s r out st) h = rest_of (rest_of (type_rest st h))
+return_formed : {limits : Limits} {ty : Ty} {s r : List Token} → SpellsReturn limits ty s r → HaveWords s → Formed (IsReturned ty) r
+return_formed (y.no_value p r) h = record { is = tt; rest = rest_of h }
+return_formed (y.a_value ty s r st) h = let b = type_formed st h in record { is = passed_returned ty b.is; rest = b.rest }
 
--- as many names, or places for names, as types
-list_formed : {limits : Limits} {tys : List Ty} {xs : List (Option Ident)} {s r : List Token} → SpellsParameterList limits tys xs s r → HaveWords s → Formed (length xs ≡ length tys) r
-list_formed (y.last_parameter ty x s r sp) h = record { is = refl; rest = parameter_rest sp h }
+parameter_formed : {limits : Limits} {ty : Ty} {x : Option Ident} {s r : List Token} → SpellsParameter limits ty x s r → HaveWords s → Formed (IsPassed ty) r
+parameter_formed (y.unnamed ty s r st) h = type_formed st h
+parameter_formed (y.named ty x s r st) h = let b = type_formed st h in record { is = b.is; rest = rest_of b.rest }
+parameter_formed (y.unnamed_array ty p s r out st) h = let b = type_formed st h in record { is = b.is; rest = rest_of b.rest }
+parameter_formed (y.named_array ty x p s r out st) h = let b = type_formed st h in record { is = b.is; rest = rest_of (rest_of b.rest) }
+
+-- types of parameters, and as many names, or places for names
+abbrev AreParameters : List Ty → List (Option Ident) → Type 0
+AreParameters tys xs = ArePassed tys × (length xs ≡ length tys)
+
+list_formed : {limits : Limits} {tys : List Ty} {xs : List (Option Ident)} {s r : List Token} → SpellsParameterList limits tys xs s r → HaveWords s → Formed (AreParameters tys xs) r
+list_formed (y.last_parameter ty x s r sp) h = let b = parameter_formed sp h in record { is = ((b.is, tt), refl); rest = b.rest }
 list_formed (y.one_parameter ty tys x xs p s t r sp sps) h =
-    let others = list_formed sps (rest_of (parameter_rest sp h)) in
-    record { is = ap suc others.is; rest = others.rest }
+    let b = parameter_formed sp h in
+    let others = list_formed sps (rest_of b.rest) in
+    record { is = ((b.is, others.is.0), ap suc others.is.1); rest = others.rest }
 
-parameters_formed : {limits : Limits} {tys : List Ty} {xs : List (Option Ident)} {s r : List Token} → SpellsParameters limits tys xs s r → HaveWords s → Formed (length xs ≡ length tys) r
-parameters_formed (y.nothing r) h = record { is = refl; rest = h }
-parameters_formed (y.void p r) h = record { is = refl; rest = rest_of h }
+parameters_formed : {limits : Limits} {tys : List Ty} {xs : List (Option Ident)} {s r : List Token} → SpellsParameters limits tys xs s r → HaveWords s → Formed (AreParameters tys xs) r
+parameters_formed (y.nothing r) h = record { is = (tt, refl); rest = h }
+parameters_formed (y.void p r) h = record { is = (tt, refl); rest = rest_of h }
 parameters_formed (y.parameters tys xs s r sps) h = list_formed sps h
 
 names_rest : {xs : List Ident} {s r : List Token} → SpellsNames xs s r → HaveWords s → HaveWords r
@@ -101,12 +111,13 @@ holds_rest (y.held xs p q q' s r sx) h = rest_of (names_rest sx (rest_of (rest_o
 
 -- a function's form, with a name or a place for one for each parameter
 abbrev IsHead : Form → List (Option Ident) → Type 0
-IsHead form xs = IsTrue (is_function form) × (length xs ≡ length (parameter_types form))
+IsHead form xs = IsFunctionForm form × (length xs ≡ length (parameter_types form))
 
 head_formed : {limits : Limits} {x : Ident} {form : Form} {xs : List (Option Ident)} {ps : List Place} {s r : List Token} → SpellsHead limits x form xs ps s r → HaveWords s → Formed (IsHead form xs) r
 head_formed (y.head x ret tys xs holds p q s t u r sr sp sh) h =
-    let ps = parameters_formed sp (rest_of (rest_of (return_rest sr h))) in
-    record { is = (refl, ps.is); rest = holds_rest sh (rest_of ps.rest) }
+    let b = return_formed sr h in
+    let ps = parameters_formed sp (rest_of (rest_of b.rest)) in
+    record { is = ((b.is, ps.is.0), ps.is.1); rest = holds_rest sh (rest_of ps.rest) }
 
 length_named : (xs : List Ident) → length (map Some xs) ≡ length xs
 length_named [] = refl

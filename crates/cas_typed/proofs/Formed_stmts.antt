@@ -1,14 +1,14 @@
 -- What tokens whose literals are words spell is formed: statements.
-use Rattle.std.proofs.Common.{ℕ, ◌<◌, ◌^◌, List, [], ◌∷◌, Option, Some, None, arith, lit<}
+use Rattle.std.proofs.Common.{ℕ, ◌<◌, ◌^◌, List, Option, lit<}
 use Rattle.cas_base.specs.declared.kind.Kind.{Kind}
 use Rattle.cas_lex.specs.declared.token.Token.{Token}
 use Rattle.cas_syntax.specs.Limits.{Limits}
 use Rattle.cas_syntax.specs.Statements as y
 use Rattle.cas_syntax.specs.Statements.{SpellsTarget, SpellsSimple, SpellsInit, SpellsLocal, SpellsLocals, SpellsFirst, SpellsAfter, SpellsOptional, SpellsStmt, SpellsStmts}
 use Rattle.cas_syntax.specs.Tree.{ExprTree, TargetTree, InitTree, StmtTree, StmtOption, StmtList}
-use Rattle.cas_typed.specs.Formed.{ExprIsFormed, OptionalIsFormed, TargetIsFormed, InitIsFormed, StmtIsFormed, PartIsFormed, BodyIsFormed}
+use Rattle.cas_typed.specs.Formed.{OptionalIsFormed, TargetIsFormed, InitIsFormed, StmtIsFormed, PartIsFormed, BodyIsFormed}
 use Rattle.cas_typed.proofs.Formed_exprs.{Formed, kind_rest, expr_formed, arguments_formed}
-use Rattle.cas_typed.proofs.Token_words.{HaveWords, rest_of}
+use Rattle.cas_typed.proofs.Token_words.{HaveWords, first_of, rest_of}
 
 target_formed : {limits : Limits} {target : TargetTree} {s r : List Token} → SpellsTarget limits target s r → HaveWords s → Formed (TargetIsFormed target) r
 target_formed (y.a_variable x r) h = record { is = tt; rest = rest_of h }
@@ -41,13 +41,13 @@ init_formed (y.a_value a p s r begins sa) h = expr_formed sa (rest_of h)
 init_formed (y.a_result f bs p q q' s r sb) h = let b = arguments_formed sb (rest_of (rest_of (rest_of h))) in record { is = b.is; rest = rest_of b.rest }
 
 local_formed : {limits : Limits} {k : Kind} {a : StmtTree} {s r : List Token} → SpellsLocal limits k a s r → HaveWords s → Formed (StmtIsFormed a) r
-local_formed (y.variable x a s r sa) h = let b = init_formed sa (rest_of h) in record { is = b.is; rest = b.rest }
-local_formed (y.pointer x a p s r sa) h = let b = init_formed sa (rest_of (rest_of h)) in record { is = b.is; rest = b.rest }
-local_formed (y.array x n j p o q r) h = record { is = tt; rest = rest_of (rest_of (rest_of (rest_of h))) }
+local_formed (y.variable x a s r sa) h = let b = init_formed sa (rest_of h) in record { is = (tt, b.is); rest = b.rest }
+local_formed (y.pointer x a p s r sa) h = let b = init_formed sa (rest_of (rest_of h)) in record { is = (tt, b.is); rest = b.rest }
+local_formed (y.array x n j p o q r) h = record { is = (first_of (rest_of (rest_of h)), tt); rest = rest_of (rest_of (rest_of (rest_of h))) }
 local_formed (y.pointer_to_pointer p q r out) h = record { is = tt; rest = rest_of (rest_of h) }
-local_formed (y.pointers x p q r out) h = record { is = tt; rest = rest_of (rest_of (rest_of h)) }
-local_formed (y.arrays x n j p o q q' r out) h = record { is = tt; rest = rest_of (rest_of (rest_of (rest_of (rest_of h)))) }
-local_formed (y.array_values x n j p o q q' r out) h = record { is = tt; rest = rest_of (rest_of (rest_of (rest_of (rest_of h)))) }
+local_formed (y.pointers x p q r out) h = record { is = (tt, tt); rest = rest_of (rest_of (rest_of h)) }
+local_formed (y.arrays x n j p o q q' r out) h = record { is = (first_of (rest_of (rest_of h)), tt); rest = rest_of (rest_of (rest_of (rest_of (rest_of h)))) }
+local_formed (y.array_values x n j p o q q' r out) h = record { is = (first_of (rest_of (rest_of h)), tt); rest = rest_of (rest_of (rest_of (rest_of (rest_of h)))) }
 
 -- with formed statements behind them locals are formed
 locals_formed : {limits : Limits} {k : Kind} {bs rest : StmtList} {s r : List Token} → SpellsLocals limits k bs rest s r → HaveWords s → Formed (BodyIsFormed rest → BodyIsFormed bs) r

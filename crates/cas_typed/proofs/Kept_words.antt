@@ -1,5 +1,5 @@
 -- What a formed module is resolved to has words as literals, and is formed with its values filled up.
-use Rattle.std.proofs.Common.{◌≡◌, if◌then◌else◌, ◌⊎◌, inl, inr, ℕ, ◌<◌, ◌^◌, ◌-◌, Bool, true, false, IsTrue, List, [], ◌∷◌, ◌++◌, length, map, replicate, Option, Some, None, refl, sym, ap, subst, ◌∙◌, lit<}
+use Rattle.std.proofs.Common.{◌≡◌, if◌then◌else◌, ◌⊎◌, inl, ℕ, ◌-◌, Bool, true, false, IsTrue, List, [], ◌∷◌, ◌++◌, length, map, replicate, Option, Some, None, refl, sym, ap, subst, ◌∙◌, lit<}
 use Rattle.std.specs.List.{AllByRecursion}
 use Rattle.std.proofs.lemmas.List.Elements.{All-from_recursion, All-append, All-replicate}
 use Rattle.cas_base.specs.Decl.{is_function, functions_of}
@@ -14,11 +14,11 @@ use Rattle.cas_base.specs.declared.kind.Ty.TheVariants.{Void, Int, Ptr, Array}
 use Rattle.cas_base.specs.declared.place.Place.{Place}
 use Rattle.cas_syntax.specs.declared.tree.BinaryOperator.{BinaryOperator}
 use Rattle.cas_syntax.specs.declared.tree.Ident.{Ident}
-use Rattle.cas_syntax.specs.Tree.{ExprTree, TargetTree, to_name, to_index, to_deref, StmtTree, StmtOption, StmtList, FunTree, ItemTree, global, prototype, define, ModuleTree}
+use Rattle.cas_syntax.specs.Tree.{ExprTree, TargetTree, to_name, to_index, to_deref, StmtTree, StmtOption, StmtList, ItemTree, global, prototype, define, ModuleTree}
 use Rattle.cas_typed.specs.Bodies.{bodies_of}
-use Rattle.cas_typed.specs.Formed.{ExprIsFormed, ExprsAreFormed, OptionalIsFormed, TargetIsFormed, StmtIsFormed, PartIsFormed, BodyIsFormed, AreOfKind, IsGlobal, ItemIsFormed, ItemsAreFormed, IsFormed}
+use Rattle.cas_typed.specs.Formed.{ExprIsFormed, ExprsAreFormed, OptionalIsFormed, TargetIsFormed, StmtIsFormed, PartIsFormed, BodyIsFormed, AreOfKind, IsGlobal, IsFunctionForm, ItemsAreFormed, IsFormed}
 use Rattle.cas_typed.specs.Literals.{HasWords, TargetHasWords, AllHaveWords, OptionHasWords, StatementHasWords, PartHasWords, BodyHasWords, ModuleHasWords}
-use Rattle.cas_typed.specs.Modules.{decl_of, AreItems, no_item, a_global, a_prototype, a_function, elements_of, filled, filled_item, filled_module, IsTyped}
+use Rattle.cas_typed.specs.Modules.{decl_of, AreItems, no_item, a_global, a_prototype, a_function, elements_of, filled, filled_item, IsTyped}
 use Rattle.cas_typed.specs.Resolved.{TypedExprTree, TypedTargetTree, TypedStmtTree, TypedStmtOption, TypedStmtList, TypedFunTree, TypedModuleTree}
 use Rattle.cas_typed.specs.Scopes.{Scope}
 use Rattle.cas_typed.specs.Types.{no_value, variable_type}
@@ -109,8 +109,8 @@ mutual
   stmt_words : {ret : Ty} {l : Bool} {s : Scope} {a : StmtTree} {r : TypedStmtTree} → StmtIsFormed a → IsStmt ret l s a r → StatementHasWords r
   stmt_words w (y.skips l s p) = tt
   stmt_words w (y.declares l s p ty x fresh some) = tt
-  stmt_words w (y.declares_value l s p ty x a r fresh h) = assign_words tt w h
-  stmt_words w (y.declares_result l s p ty x f args r fresh h) = call_words w h
+  stmt_words w (y.declares_value l s p ty x a r fresh h) = assign_words tt w.1 h
+  stmt_words w (y.declares_result l s p ty x f args r fresh h) = call_words w.1 h
   stmt_words w (y.assignment l s p target op a r h) = assign_words w.0 w.1 h
   stmt_words w (y.call_of l s p result f args r h) = call_words w h
   stmt_words w (y.blocks l s p bs rs h) = body_words w h
@@ -164,11 +164,11 @@ global_filled d n vs w is = by_form d.form w is
     by_form (Shared Void guard) w is = absurd w
     by_form (Shared (Int k) guard) w is = zeros_of_kind k (n - length vs) vs w
     by_form (Shared (Ptr k) guard) w is = absurd w
-    by_form (Shared (Array k len) guard) w is = zeros_of_kind k (n - length vs) vs w
+    by_form (Shared (Array k len) guard) w is = (w.0, zeros_of_kind k (n - length vs) vs w.1)
     by_form (Table Void) w is = absurd w
     by_form (Table (Int k)) w is = zeros_of_kind k (n - length vs) vs w
     by_form (Table (Ptr k)) w is = absurd w
-    by_form (Table (Array k len)) w is = zeros_of_kind k (n - length vs) vs w
+    by_form (Table (Array k len)) w is = (w.0, zeros_of_kind k (n - length vs) vs w.1)
     by_form (Function ret params holds) w is = absurd w
 
 -- with or without a definition
@@ -213,11 +213,17 @@ global_is_no_function (Shared ty guard) vs w = refl
 global_is_no_function (Table ty) vs w = refl
 global_is_no_function (Function ret params holds) vs w = absurd w
 
+is_a_function : (form : Form) → IsFunctionForm form → is_function form ≡ true
+is_a_function Lock w = absurd w
+is_a_function (Shared ty guard) w = absurd w
+is_a_function (Table ty) w = absurd w
+is_a_function (Function ret params holds) w = refl
+
 items_define : (items : List ItemTree) → ItemsAreFormed items → functions_of (map decl_of items) ≡ map (λ f. f.decl) (bodies_of items)
 items_define [] w = refl
 items_define (global d vs p ∷ items) w = no_function d (map decl_of items) (global_is_no_function d.form vs w.0.0) ∙ items_define items w.1
 items_define (prototype d hs p ∷ items) w = not_defined d (map decl_of items) w.0.1 ∙ items_define items w.1
-items_define (define f ∷ items) w = a_function_more f.decl (map decl_of items) w.0.0 w.0.1 ∙ ap (λ ds. f.decl ∷ ds) (items_define items w.1)
+items_define (define f ∷ items) w = a_function_more f.decl (map decl_of items) (is_a_function f.decl.form w.0.0) w.0.1 ∙ ap (λ ds. f.decl ∷ ds) (items_define items w.1)
 
 pub IsFormed-defines : (m : ModuleTree) → IsFormed m → functions_of (map decl_of m.items) ≡ map (λ f. f.decl) (bodies_of m.items)
 IsFormed-defines m w = items_define m.items w

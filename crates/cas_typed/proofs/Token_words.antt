@@ -7,7 +7,7 @@ use Rattle.std.specs.Str.Parse.{digits_value}
 use Rattle.std.proofs.lemmas.Bool.Decides.{nat_tests}
 use Rattle.cas_base.specs.Name.{is_first_byte, is_name_byte}
 use Rattle.cas_base.specs.declared.place.Place.{Place}
-use Rattle.cas_lex.specs.declared.code.ReadCode.TheVariants.{R1, R3, R4, R7}
+use Rattle.cas_lex.specs.declared.code.ReadCode.TheVariants.{R4, R7}
 use Rattle.cas_lex.specs.declared.front.Front.{Front}
 use Rattle.cas_lex.specs.declared.front.Front.TheVariants as f
 use Rattle.cas_lex.specs.declared.token.Sign.{Sign}
@@ -16,7 +16,7 @@ use Rattle.cas_lex.specs.declared.token.TokenKind.{TokenKind}
 use Rattle.cas_lex.specs.declared.token.TokenKind.TheVariants as k
 use Rattle.cas_lex.specs.declared.token.Word.{Word}
 use Rattle.cas_lex.specs.Characters.{is_blank, is_character}
-use Rattle.cas_lex.specs.Comments.{line_comment_len, block_comment_len}
+use Rattle.cas_lex.specs.Comments.{block_comment_len}
 use Rattle.cas_lex.specs.Front.{block_comment, word_or_name, name_at, sign_front, mark_at, front_at, front}
 use Rattle.cas_lex.specs.Lexed.{Stop, Lexed, ends, skips, takes, fails}
 use Rattle.cas_lex.specs.Literals.{begins_with_u, begins_with_letter, ended_literal, literal_before, is_hexadecimal, is_octal, literal_at}

@@ -7,7 +7,7 @@ ghost use Rattle.cas_syntax.specs.Reading.{IsReadAs};
 ghost use Rattle.cas_syntax.specs.Tree.{ModuleTree};
 ghost use Rattle.cas_typed.specs.Bodies.{bodies_of, HasBodies};
 ghost use Rattle.cas_typed.specs.Faults.{Fault};
-ghost use Rattle.cas_typed.specs.Formed.{IsFormed};
+ghost use Rattle.cas_typed.specs.Formed.{IsFormed, IsFilled};
 ghost use Rattle.cas_typed.specs.Literals.{ModuleHasWords};
 ghost use Rattle.cas_typed.specs.Modules.{decl_of, IsTyped};
 ghost use Rattle.cas_typed.specs.Numbered.{IsRow, parts_of};
@@ -27,9 +27,11 @@ pub fn modules_are_typed_or_refused()
     ensures not_both { (m : ModuleTree) (r : TypedModuleTree) (f : Fault) → IsTyped m r → ¬ (HasTypeFault m f) }
 {}
 
-/// A module with its values filled up is typed as the module itself: so the filled module alone says what is typed.
+/// A module with its values filled up is typed as the module itself, so the filled module alone says what is typed; and
+/// each variable that it defines has as many values as elements.
 pub fn typed_modules_are_filled()
-    ensures { (m : ModuleTree) (r : TypedModuleTree) → IsTyped m r → IsTyped r.module_tree r }
+    ensures typed { (m : ModuleTree) (r : TypedModuleTree) → IsTyped m r → IsTyped r.module_tree r }
+    ensures values { (m : ModuleTree) (r : TypedModuleTree) → IsTyped m r → IsFilled r.module_tree }
 {}
 
 /// The parts of a statement's row have greater numbers than it.
@@ -51,7 +53,7 @@ pub fn typed_modules_have_bodies()
     ensures { (m : ModuleTree) (r : TypedModuleTree) → IsTyped m r → HasBodies r }
 {}
 
-/// What a text is read as is formed: its literals are words, its initial values are values of their kinds, and each of
+/// What a text is read as is formed: its literals and the lengths of arrays are words, its initial values are values of their kinds, and each of
 /// its items declares what it is. And it stays so when it is typed: the literals of its resolved functions are words,
 /// and its values are of their kinds when zeros have filled them up.
 pub fn read_modules_are_formed()

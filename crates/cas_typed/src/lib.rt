@@ -4,7 +4,9 @@
 //! limits (`Counts`), the rules (`Typing` of expressions and statements, `Modules` of items), and the walk that meets
 //! the first fault (`Walk`, over `Resolving` and `Faults`). The laws over them are the contracts of the functions of
 //! `laws`: above all, that the walk ends without a fault exactly where the rules hold, with the same resolved module,
-//! and that what is resolved is well sorted (`Sorts`). It stands on `cas_base` and `cas_syntax`.
+//! and that what is resolved is well sorted (`Sorts`) and has one function for each body (`Bodies`). What holds of each
+//! module that a text is read as (`Formed`, `Literals`) is kept by typing. It stands on `cas_base`, `cas_lex` and
+//! `cas_syntax`.
 #![tactic(auto)]
 
 mod fault;
