@@ -1,6 +1,7 @@
 pub mod Basics
 pub mod Bodied
 pub mod Complete
+pub mod Defined
 mod Examples
 pub mod Expressions
 pub mod Filled

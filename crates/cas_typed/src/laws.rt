@@ -1,11 +1,12 @@
 //! Laws of the definitions, each the contract of a function without effect.
 
-ghost use Rattle.std.specs.Prelude.{◌≡◌, ◌⊎◌, ◌↔◌, ◌<◌, ℕ, List, map, Ok, All};
+ghost use Rattle.std.specs.Prelude.{◌≡◌, ◌⊎◌, ◌↔◌, ◌<◌, ℕ, List, map, Some, Ok, slice_get, All};
 ghost use Rattle.cas_base.specs.Decl.{functions_of};
+ghost use Rattle.cas_base.specs.declared.decl.Decl.{Decl};
 ghost use Rattle.cas_base.specs.declared.place.Place.{Place};
 ghost use Rattle.cas_syntax.specs.Reading.{IsReadAs};
 ghost use Rattle.cas_syntax.specs.Tree.{ModuleTree};
-ghost use Rattle.cas_typed.specs.Bodies.{bodies_of, HasBodies};
+ghost use Rattle.cas_typed.specs.Bodies.{bodies_of, HasBodies, IsDefined};
 ghost use Rattle.cas_typed.specs.Faults.{Fault};
 ghost use Rattle.cas_typed.specs.Formed.{IsFormed, IsFilled};
 ghost use Rattle.cas_typed.specs.Literals.{ModuleHasWords};
@@ -47,10 +48,15 @@ pub fn typed_functions_are_sorted()
     ensures { (m : ModuleTree) (r : TypedModuleTree) → IsTyped m r → IsSortedModule r }
 {}
 
-/// A typed module has one function for each item with a body, in order of text: it has that item's
-/// number, and its locals have the types of the parameters and then of the body's locals.
+/// A typed module has one function for each item with a body, in order of text: it has that item's number, and its
+/// locals have the types of the parameters and then of the body's locals. Where each item declares what it is, these are
+/// the functions that the module's declarations define, in the same order.
 pub fn typed_modules_have_bodies()
-    ensures { (m : ModuleTree) (r : TypedModuleTree) → IsTyped m r → HasBodies r }
+    ensures bodies { (m : ModuleTree) (r : TypedModuleTree) → IsTyped m r → HasBodies r }
+    ensures declared { (m : ModuleTree) → IsFormed m
+        → functions_of (map decl_of m.items) ≡ map (λ f. f.decl) (bodies_of m.items) }
+    ensures defined { (m : ModuleTree) (r : TypedModuleTree) (n : ℕ) (d : Decl) → IsFormed m → IsTyped m r
+        → slice_get (functions_of (map decl_of r.module_tree.items)) n ≡ Some d → IsDefined r n d }
 {}
 
 /// What a text is read as is formed: its literals and the lengths of arrays are words, its initial values are values of their kinds, and each of
@@ -60,10 +66,4 @@ pub fn read_modules_are_formed()
     ensures read { (text : List ℕ) (m : ModuleTree) → IsReadAs text m → IsFormed m }
     ensures filled { (m : ModuleTree) (r : TypedModuleTree) → IsFormed m → IsTyped m r → IsFormed r.module_tree }
     ensures resolved { (m : ModuleTree) (r : TypedModuleTree) → IsFormed m → IsTyped m r → ModuleHasWords r }
-{}
-
-/// The functions that a formed module defines are those with bodies: so a unit's functions are counted alike by its
-/// declarations and by its bodies.
-pub fn formed_modules_define_bodies()
-    ensures { (m : ModuleTree) → IsFormed m → functions_of (map decl_of m.items) ≡ map (λ f. f.decl) (bodies_of m.items) }
 {}
