@@ -1,19 +1,17 @@
 -- What an item's step reads and writes, and that it is determined by what it reads.
 use Rattle.std.proofs.Common.{arith, ◌≡◌, inl, inr, ℕ, zero, suc, ◌<◌, ◌≤◌, List, [], ◌∷◌, ◌++◌, Option, Some, None, refl, sym, ap, subst, ◌∙◌}
-use Rattle.std.specs.Prelude.{⊤, ◌+◌, ◌⊎◌, slice_get, slice_index_or, Contains}
+use Rattle.std.specs.Prelude.{⊤, ◌+◌, ◌⊎◌, slice_get, Contains}
 use Rattle.std.proofs.lemmas.List.Elements.{Contains-append_cases, Contains-append_left, Contains-append_right}
-use Rattle.std.specs.Option.{unwrap_or}
-use Rattle.std.proofs.lemmas.Option.{unwrap_or-slice_get}
 use Rattle.cas_base.specs.declared.kind.Ty.{Ty}
 use Rattle.cas_typed.specs.Resolved.{TypedExprTree, TypedStmtTree, skip, assign, call, block, if_, while_, do_, for_, break_, continue_, return_, lock, unlock, print, absent, present}
-use Rattle.cas_step.specs.Asks.{Value, Asks, gives, fails, reads, looks, loads, word_in}
+use Rattle.cas_step.specs.Asks.{Value, Asks, gives, fails, senseless, reads, looks, loads, word_in}
 use Rattle.cas_step.specs.Env.{Entity, function, outside, shared, table, length_of}
 use Rattle.cas_step.specs.Env as env
 use Rattle.cas_step.specs.Evaluate.{Sight, Cell, of_object, of_global, value_of, values_of, test_of, target_of}
-use Rattle.cas_step.specs.Items.{Todo, begin, begun, loop, next, Deed, writes, into, chooses, returned, statement_deed, deed_of}
+use Rattle.cas_step.specs.Items.{Todo, begin, begun, loop, next, Deed, writes, into, jumps, after_break, after_continue, chooses, returned, statement_deed, deed_of}
 use Rattle.cas_step.specs.Laws.{names, target_names, option_names, statement_names, item_names}
-use Rattle.cas_step.specs.Step.{Object, Block, Got, got, bad, having_read, trace_of, word_at, answered, cells_at, size_of, value_at}
-use Rattle.cas_step.proofs.Within.{Within, Any, Below, then_within, word_within, value_within, values_within, test_within, target_within, CellBelow, AllNamed, left, right}
+use Rattle.cas_step.specs.Step.{Object, Block, Got, got, bad, stuck, having_read, if_there, trace_of, word_at, answered, cells_at, size_of, value_at}
+use Rattle.cas_step.proofs.Within.{Within, Any, IsPlaceIn, Below, then_within, word_within, value_within, values_within, test_within, target_within, CellBelow, AllNamed, left, right}
 
 -- what a deed writes is a word of a named global, at a place below its length
 abbrev pub DeedBelow : {O : Type 0} → (ℕ → Option Entity) → (ℕ → Type 0) → Deed O → Type 0
@@ -24,6 +22,10 @@ module _ {O : Type 0} (s : Sight O) (N : ℕ → Type 0) where
   into_within : (c : Cell O) (v : Value O) (todo : List Todo) → CellBelow s N c → Within s.entity N (into c v todo) (DeedBelow s.entity N)
   into_within (of_object o p) v todo h = tt
   into_within (of_global g i) v todo h = then_within s.entity N Any (DeedBelow s.entity N) (word_in v) _ (word_within s.entity N v) (λ n k. h)
+
+  jumps_within : (to : Option (List Todo)) → Within {O = O} s.entity N (jumps to) (DeedBelow s.entity N)
+  jumps_within None = tt
+  jumps_within (Some todo) = tt
 
   chooses_within : (c : Option TypedExprTree) (some others : List Todo) → AllNamed s N (option_names c) → Within s.entity N (chooses s c some others) (DeedBelow s.entity N)
   chooses_within None some others all = tt
@@ -43,8 +45,8 @@ module _ {O : Type 0} (s : Sight O) (N : ℕ → Type 0) where
   statement_within (while_ p c a) todo all = chooses_within (Some c) _ _ all
   statement_within (do_ p a c) todo all = tt
   statement_within (for_ p i c after a) todo all = tt
-  statement_within (break_ p) todo all = tt
-  statement_within (continue_ p) todo all = tt
+  statement_within (break_ p) todo all = jumps_within (after_break todo)
+  statement_within (continue_ p) todo all = jumps_within (after_continue todo)
   statement_within (call p kept g at args) todo all = then_within s.entity N Any (DeedBelow s.entity N) (values_of s args) _ (values_within s N args all) (λ vs h. tt)
   statement_within (return_ p a) todo all = returned_within a all
   statement_within (lock p g) todo all = tt
@@ -65,19 +67,23 @@ module _ {O : Type 0} (s : Sight O) (N : ℕ → Type 0) where
 abbrev pub reads_of : {A : Type 0} → Got A → List ℕ
 reads_of (got rs a) = rs
 reads_of (bad rs why) = rs
+reads_of (stuck rs) = rs
 
 -- what was got is so
 abbrev pub GotSo : {A : Type 0} → (A → Type 0) → Got A → Type 0
 GotSo P (got rs a) = P a
 GotSo P (bad rs why) = ⊤
+GotSo P (stuck rs) = ⊤
 
 reads-having_read : {A : Type 0} (before : List ℕ) (x : Got A) → reads_of (having_read before x) ≡ before ++ reads_of x
 reads-having_read before (got rs a) = refl
 reads-having_read before (bad rs why) = refl
+reads-having_read before (stuck rs) = refl
 
 pub so-having_read : {A : Type 0} (P : A → Type 0) (before : List ℕ) (x : Got A) → GotSo P x → GotSo P (having_read before x)
 so-having_read P before (got rs a) h = h
 so-having_read P before (bad rs why) h = tt
+so-having_read P before (stuck rs) h = tt
 
 -- a word of one of these globals
 abbrev pub WordOf : (ℕ → Option Entity) → (ℕ → Type 0) → ℕ → Type 0
@@ -102,7 +108,7 @@ behind before x n c = subst (λ rs. Contains rs n) (sym (reads-having_read befor
 
 module _ (entity : ℕ → Option Entity) (N : ℕ → Type 0) where
   -- what reading a word of a global leaves is a word of it
-  pub trace_named : (g i : ℕ) (it : Option Entity) → entity g ≡ it → N g → i < length_of it → (n : ℕ) → Contains (trace_of it i) n → WordOf entity N n
+  pub trace_named : (g i : ℕ) (it : Option Entity) → entity g ≡ it → N g → IsPlaceIn it i → (n : ℕ) → Contains (trace_of it i) n → WordOf entity N n
   trace_named g i None e named below n (k, b, same) = absurd (omega (arith, b))
   trace_named g i (Some (function f)) e named below n (k, b, same) = absurd (omega (arith, b))
   trace_named g i (Some outside) e named below n (k, b, same) = absurd (omega (arith, b))
@@ -111,44 +117,58 @@ module _ (entity : ℕ → Option Entity) (N : ℕ → Type 0) where
   trace_named g i (Some (shared first len guard)) e named below n c =
       let is : first + i ≡ n = single (first + i) n c in (g, first, len, guard, named, e, omega (arith, is), omega (arith, is, below))
 
+  -- what is read for what is there
+  there_reads : {V A C : Type 0} (x : Option V) (go : V → Got A) (n : ℕ) → Contains (reads_of (if_there x go)) n → ((v : V) → Contains (reads_of (go v)) n → C) → C
+  there_reads None go n (k, b, same) then = absurd (omega (arith, b))
+  there_reads (Some v) go n c then = then v c
+
+  there_so : {V A : Type 0} (P : A → Type 0) (x : Option V) (go : V → Got A) → ((v : V) → GotSo P (go v)) → GotSo P (if_there x go)
+  there_so P None go h = tt
+  there_so P (Some v) go h = h v
+
   -- the words that are read belong to the named globals
   pub answered_named : {A : Type 0} (P : A → Type 0) (ws : List ℕ) (memory : List Block) (x : Asks Object A) → Within entity N x P → (n : ℕ) →
       Contains (reads_of (answered entity ws memory x)) n → WordOf entity N n
   answered_named P ws memory (gives a) h n (k, b, same) = absurd (omega (arith, b))
   answered_named P ws memory (fails why) h n (k, b, same) = absurd (omega (arith, b))
+  answered_named P ws memory senseless h n (k, b, same) = absurd (omega (arith, b))
   answered_named P ws memory (looks o more) h n c = answered_named P ws memory (more (size_of (cells_at memory o))) (h (size_of (cells_at memory o))) n c
-  answered_named P ws memory (loads o p more) h n c = answered_named P ws memory (more (value_at (cells_at memory o) p)) (h (value_at (cells_at memory o) p)) n c
+  answered_named P ws memory (loads o p more) h n c =
+      there_reads (value_at (cells_at memory o) p) (λ v. answered entity ws memory (more v)) n c (λ v d. answered_named P ws memory (more v) (h v) n d)
   answered_named P ws memory (reads g i more) h n c =
-      one_or_other (trace_of (entity g) i) (answered entity ws memory (more (word_at ws (entity g) i))) n c
+      one_or_other (trace_of (entity g) i) (if_there (word_at ws (entity g) i) (λ m. answered entity ws memory (more m))) n c
       (λ d. trace_named g i (entity g) refl h.0 h.1 n d)
-      (λ d. answered_named P ws memory (more (word_at ws (entity g) i)) (h.2 (word_at ws (entity g) i)) n d)
+      (λ d. there_reads (word_at ws (entity g) i) (λ m. answered entity ws memory (more m)) n d (λ m k. answered_named P ws memory (more m) (h.2 m) n k))
 
   -- what is got is so
   pub answered_so : {A : Type 0} (P : A → Type 0) (ws : List ℕ) (memory : List Block) (x : Asks Object A) → Within entity N x P → GotSo P (answered entity ws memory x)
   answered_so P ws memory (gives a) h = h
   answered_so P ws memory (fails why) h = tt
+  answered_so P ws memory senseless h = tt
   answered_so P ws memory (looks o more) h = answered_so P ws memory (more (size_of (cells_at memory o))) (h (size_of (cells_at memory o)))
-  answered_so P ws memory (loads o p more) h = answered_so P ws memory (more (value_at (cells_at memory o) p)) (h (value_at (cells_at memory o) p))
+  answered_so P ws memory (loads o p more) h = there_so P (value_at (cells_at memory o) p) (λ v. answered entity ws memory (more v)) (λ v. answered_so P ws memory (more v) (h v))
   answered_so P ws memory (reads g i more) h =
-      so-having_read P (trace_of (entity g) i) (answered entity ws memory (more (word_at ws (entity g) i))) (answered_so P ws memory (more (word_at ws (entity g) i)) (h.2 (word_at ws (entity g) i)))
+      so-having_read P (trace_of (entity g) i) (if_there (word_at ws (entity g) i) (λ n. answered entity ws memory (more n)))
+      (there_so P (word_at ws (entity g) i) (λ n. answered entity ws memory (more n)) (λ n. answered_so P ws memory (more n) (h.2 n)))
 
 -- words that agree
-
-by_get : (ws vs : List ℕ) (n : ℕ) → slice_get ws n ≡ slice_get vs n → slice_index_or ws n 0 ≡ slice_index_or vs n 0
-by_get ws vs n e = sym (unwrap_or-slice_get ws n 0) ∙ ap (λ w. unwrap_or w 0) e ∙ unwrap_or-slice_get vs n 0
 
 -- the same word in the table, where it is one
 abbrev pub AgreeIn : (ws vs : List ℕ) → Option Entity → Type 0
 AgreeIn ws vs it = (first len i : ℕ) → it ≡ Some (table first len) → i < len → slice_get ws (first + i) ≡ slice_get vs (first + i)
 
-word_same : (ws vs : List ℕ) (it : Option Entity) (i : ℕ) → i < length_of it → AgreeIn ws vs it →
+word_same : (ws vs : List ℕ) (it : Option Entity) (i : ℕ) → IsPlaceIn it i → AgreeIn ws vs it →
     ((n : ℕ) → Contains (trace_of it i) n → slice_get ws n ≡ slice_get vs n) → word_at ws it i ≡ word_at vs it i
 word_same ws vs None i below tables read = refl
 word_same ws vs (Some (function f)) i below tables read = refl
 word_same ws vs (Some outside) i below tables read = refl
 word_same ws vs (Some (env.lock m)) i below tables read = refl
-word_same ws vs (Some (table first len)) i below tables read = by_get ws vs (first + i) (tables first len i refl below)
-word_same ws vs (Some (shared first len guard)) i below tables read = by_get ws vs (first + i) (read (first + i) (0, omega arith, refl))
+word_same ws vs (Some (table first len)) i below tables read = tables first len i refl below
+word_same ws vs (Some (shared first len guard)) i below tables read = read (first + i) (0, omega arith, refl)
+
+there_same : {V A : Type 0} (x : Option V) (go more : V → Got A) → ((v : V) → ((n : ℕ) → Contains (reads_of (more v)) n → Contains (reads_of (if_there x more)) n) → go v ≡ more v) → if_there x go ≡ if_there x more
+there_same None go more same = refl
+there_same (Some v) go more same = same v (λ n c. c)
 
 -- the same is got from words that agree on what is read, and on tables
 pub answered_same : {A : Type 0} (entity : ℕ → Option Entity) (N : ℕ → Type 0) (P : A → Type 0) (ws vs : List ℕ) (memory : List Block) (x : Asks Object A) →
@@ -157,11 +177,15 @@ pub answered_same : {A : Type 0} (entity : ℕ → Option Entity) (N : ℕ → T
     answered entity vs memory x ≡ answered entity ws memory x
 answered_same entity N P ws vs memory (gives a) h tables read = refl
 answered_same entity N P ws vs memory (fails why) h tables read = refl
+answered_same entity N P ws vs memory senseless h tables read = refl
 answered_same entity N P ws vs memory (looks o more) h tables read = answered_same entity N P ws vs memory (more (size_of (cells_at memory o))) (h (size_of (cells_at memory o))) tables read
-answered_same entity N P ws vs memory (loads o p more) h tables read = answered_same entity N P ws vs memory (more (value_at (cells_at memory o) p)) (h (value_at (cells_at memory o) p)) tables read
+answered_same entity N P ws vs memory (loads o p more) h tables read =
+    there_same (value_at (cells_at memory o) p) (λ v. answered entity vs memory (more v)) (λ v. answered entity ws memory (more v))
+    (λ v within. answered_same entity N P ws vs memory (more v) (h v) tables (λ n c. read n (within n c)))
 answered_same entity N P ws vs memory (reads g i more) h tables read =
-    ap (λ n. having_read (trace_of (entity g) i) (answered entity vs memory (more n)))
-    (sym (word_same ws vs (entity g) i h.1 (tables g) (λ n c. read n (in_front (trace_of (entity g) i) (answered entity ws memory (more (word_at ws (entity g) i))) n c))))
+    ap (λ w. having_read (trace_of (entity g) i) (if_there w (λ n. answered entity vs memory (more n))))
+    (sym (word_same ws vs (entity g) i h.1 (tables g) (λ n c. read n (in_front (trace_of (entity g) i) (if_there (word_at ws (entity g) i) (λ m. answered entity ws memory (more m))) n c))))
     ∙ ap (having_read (trace_of (entity g) i))
-    (answered_same entity N P ws vs memory (more (word_at ws (entity g) i)) (h.2 (word_at ws (entity g) i)) tables
-    (λ n c. read n (behind (trace_of (entity g) i) (answered entity ws memory (more (word_at ws (entity g) i))) n c)))
+    (there_same (word_at ws (entity g) i) (λ n. answered entity vs memory (more n)) (λ n. answered entity ws memory (more n))
+    (λ m within. answered_same entity N P ws vs memory (more m) (h.2 m) tables
+    (λ n c. read n (behind (trace_of (entity g) i) (if_there (word_at ws (entity g) i) (λ k. answered entity ws memory (more k))) n (within n c)))))

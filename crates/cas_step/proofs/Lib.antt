@@ -1,9 +1,12 @@
 mod Answering
 mod Examples
 mod Footprints
+mod Memory
 mod Operator_examples
 mod Running
+mod Standing
 mod Steps
+mod Tables
+mod Values
 mod Within
 mod Words
-mod Values

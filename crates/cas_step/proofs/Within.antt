@@ -1,25 +1,35 @@
 -- What evaluating reads: words of the globals that are named, at places below their lengths.
-use Rattle.std.proofs.Common.{arith, ◌≡◌, ℕ, ◌<◌, Bool, true, false, List, [], ◌∷◌, ◌++◌, Option, Some, None, refl, subst}
-use Rattle.std.specs.Prelude.{⊤, ◌+◌, ℤ, pos, negsuc, neg_ℤ, ◌+ℤ◌, nat_lt, ◌==◌, ◌||◌, if◌then◌else◌, Contains}
+use Rattle.std.proofs.Common.{arith, ◌≡◌, ℕ, ◌<◌, Bool, true, false, List, [], ◌∷◌, ◌++◌, Option, Some, None, refl, sym, subst}
+use Rattle.std.specs.Prelude.{⊤, ◌+◌, ℤ, pos, negsuc, neg_ℤ, ◌+ℤ◌, nat_eq, nat_lt, ◌==◌, ◌||◌, if◌then◌else◌, Contains}
 use Rattle.std.proofs.lemmas.List.Elements.{Contains-append_left, Contains-append_right}
-use Rattle.std.proofs.lemmas.Bool.{ltb-true}
+use Rattle.std.proofs.lemmas.Bool.{ltb-true, eqb-true}
 use Rattle.cas_syntax.specs.declared.tree.BinaryOperator.{BinaryOperator}
 use Rattle.cas_syntax.specs.declared.tree.BinaryOperator.TheVariants as bin
 use Rattle.cas_typed.specs.declared.tree.Signedness.{Signedness}
 use Rattle.cas_typed.specs.Resolved as t
 use Rattle.cas_typed.specs.Resolved.{TypedExprTree, TypedTargetTree, to_local, to_global, to_element, to_behind}
-use Rattle.cas_step.specs.Asks.{Value, word, null, pointer, Asks, gives, fails, reads, looks, loads, and_then, word_in}
+use Rattle.cas_step.specs.Asks.{Value, word, null, pointer, Asks, gives, fails, senseless, reads, looks, loads, and_then, word_in, pointed}
 use Rattle.cas_step.specs.Env.{Entity, length_of}
-use Rattle.cas_step.specs.Evaluate.{Sight, Cell, of_object, of_global, either, local_value, global_value, global_place, element_place, forward, backward, a_word, a_truth, condition, value_of, values_of, test_of, target_of}
+use Rattle.cas_step.specs.Evaluate.{Sight, Cell, of_object, of_global, either, local_value, global_value, only_place, place_among, element_place, forward, backward, on_both, a_word, a_truth, condition, value_of, values_of, test_of, target_of}
 use Rattle.cas_step.specs.Laws.{names, target_names, names_of_all}
 use Rattle.cas_step.specs.Operators.{number_of, place_below, or_index, or_undefined, quotient, remainder, binary_result}
-use Rattle.cas_step.specs.Pointers.{pointed, live, moved, behind, cell_behind, places, difference, is_same_place, equal, compared}
+use Rattle.cas_step.specs.Pointers.{live, moved, behind, cell_behind, places, difference, is_same_place, equal, compared}
+
+-- a place below a length
+abbrev pub IsBelow : ℕ → Option ℕ → Type 0
+IsBelow i None = ⊥
+IsBelow i (Some n) = i < n
+
+-- a place below the length of a global
+abbrev pub IsPlaceIn : Option Entity → ℕ → Type 0
+IsPlaceIn it i = IsBelow i (length_of it)
 
 -- it reads words of these globals, at places below their lengths, and what it gives is so
 abbrev pub Within : {O A : Type 0} → (ℕ → Option Entity) → (ℕ → Type 0) → Asks O A → (A → Type 0) → Type 0
 Within entity N (gives a) P = P a
 Within entity N (fails why) P = ⊤
-Within entity N (reads g i more) P = N g × (i < length_of (entity g)) × ((n : ℕ) → Within entity N (more n) P)
+Within entity N senseless P = ⊤
+Within entity N (reads g i more) P = N g × IsPlaceIn (entity g) i × ((n : ℕ) → Within entity N (more n) P)
 Within entity N (looks o more) P = (size : Option ℕ) → Within entity N (more size) P
 Within {O} entity N (loads o p more) P = (v : Value O) → Within entity N (more v) P
 
@@ -29,13 +39,14 @@ Any a = ⊤
 
 -- one that is named, and a place below its length
 abbrev pub Below : (ℕ → Option Entity) → (ℕ → Type 0) → (item : ℕ) → (place : ℕ) → Type 0
-Below entity N g i = N g × (i < length_of (entity g))
+Below entity N g i = N g × IsPlaceIn (entity g) i
 
 module _ {O : Type 0} (entity : ℕ → Option Entity) (N : ℕ → Type 0) where
   pub then_within : {A B : Type 0} (P : A → Type 0) (Q : B → Type 0) (x : Asks O A) (next : A → Asks O B) → Within entity N x P →
       ((a : A) → P a → Within entity N (next a) Q) → Within entity N (and_then x next) Q
   then_within P Q (gives a) next h go = go a h
   then_within P Q (fails why) next h go = tt
+  then_within P Q senseless next h go = tt
   then_within P Q (reads g i more) next h go = (h.0, h.1, λ n. then_within P Q (more n) next (h.2 n) go)
   then_within P Q (looks o more) next h go = λ size. then_within P Q (more size) next (h size) go
   then_within P Q (loads o p more) next h go = λ v. then_within P Q (more v) next (h v) go
@@ -44,6 +55,11 @@ module _ {O : Type 0} (entity : ℕ → Option Entity) (N : ℕ → Type 0) wher
   word_within (word n) = tt
   word_within null = tt
   word_within (pointer o p) = tt
+
+  pub pointed_within : (v : Value O) → Within entity N (pointed v) Any
+  pointed_within (word n) = tt
+  pointed_within null = tt
+  pointed_within (pointer o p) = tt
 
   live_within : {A : Type 0} (P : A → Type 0) (o : O) (next : ℕ → Asks O A) → ((size : ℕ) → Within entity N (next size) P) → Within entity N (live o next) P
   live_within P o next h None = tt
@@ -118,10 +134,13 @@ module _ {O : Type 0} (entity : ℕ → Option Entity) (N : ℕ → Type 0) wher
   a_word_within x h = then_within Any Any x _ h (λ n k. tt)
 
   forward_within : (sign : Signedness) (u v : Value O) → Within entity N (forward sign u v) Any
-  forward_within sign u v = then_within Any Any (word_in v) _ (word_within v) (λ n h. moved_within (pointed u) (number_of sign n))
+  forward_within sign u v = then_within Any Any (pointed u) _ (pointed_within u) (λ p k. then_within Any Any (word_in v) _ (word_within v) (λ n h. moved_within p (number_of sign n)))
 
   backward_within : (sign : Signedness) (u v : Value O) → Within entity N (backward sign u v) Any
-  backward_within sign u v = then_within Any Any (word_in v) _ (word_within v) (λ n h. moved_within (pointed u) (neg_ℤ (number_of sign n)))
+  backward_within sign u v = then_within Any Any (pointed u) _ (pointed_within u) (λ p k. then_within Any Any (word_in v) _ (word_within v) (λ n h. moved_within p (neg_ℤ (number_of sign n))))
+
+  on_both_within : {A : Type 0} (u v : Value O) (next : Option (O × ℕ) → Option (O × ℕ) → Asks O A) → ((p q : Option (O × ℕ)) → Within entity N (next p q) Any) → Within entity N (on_both u v next) Any
+  on_both_within u v next go = then_within Any Any (pointed u) _ (pointed_within u) (λ p h. then_within Any Any (pointed v) _ (pointed_within v) (λ q k. go p q))
 
   either_within : {A : Type 0} (P : A → Type 0) (x y : Asks O A) (b : Bool) → Within entity N x P → Within entity N y P → Within entity N (either x y b) P
   either_within P x y true h k = h
@@ -159,12 +178,20 @@ below limit (pos m) n e = below_by limit m n (nat_lt m limit) refl e
 below limit (negsuc m) n e = absurd (cc e)
 
 module _ {O : Type 0} (s : Sight O) (N : ℕ → Type 0) where
-  place_within : (g : ℕ) → N g → (i : ℤ) → Within {O = O} s.entity N (global_place s g i) (Below s.entity N g)
-  place_within g named i = index_within s.entity N (Below s.entity N g) (place_below (length_of (s.entity g)) i) gives
-      (λ n is. (named, below (length_of (s.entity g)) i n is))
+  among_within : (g : ℕ) → N g → (len : Option ℕ) → (i : ℤ) → Within {O = O} s.entity N (place_among len i) (λ n. N g × IsBelow n len)
+  among_within g named None i = tt
+  among_within g named (Some len) i = index_within s.entity N (λ n. N g × IsBelow n (Some len)) (place_below len i) gives (λ n is. (named, below len i n is))
+
+  only_by : (g : ℕ) → N g → (len : ℕ) (is_one : Bool) → nat_eq len 1 ≡ is_one → Within {O = O} s.entity N (if is_one then gives 0 else senseless) (λ n. N g × IsBelow n (Some len))
+  only_by g named len true e = (named, subst (λ k. 0 < k) (sym (eqb-true len 1 e)) (omega arith))
+  only_by g named len false e = tt
+
+  only_within : (g : ℕ) → N g → (len : Option ℕ) → Within {O = O} s.entity N (only_place len) (λ n. N g × IsBelow n len)
+  only_within g named None = tt
+  only_within g named (Some len) = only_by g named len (nat_eq len 1) refl
 
   element_within : (g : ℕ) → N g → (sign : Signedness) (v : Value O) → Within s.entity N (element_place s g sign v) (Below s.entity N g)
-  element_within g named sign v = then_within s.entity N Any (Below s.entity N g) (word_in v) _ (word_within s.entity N v) (λ n h. place_within g named (number_of sign n))
+  element_within g named sign v = then_within s.entity N Any (Below s.entity N g) (word_in v) _ (word_within s.entity N v) (λ n h. among_within g named (length_of (s.entity g)) (number_of sign n))
 
   global_within : (g i : ℕ) → Below s.entity N g i → Within {O = O} s.entity N (global_value g i) Any
   global_within g i h = (h.0, h.1, λ n. tt)
@@ -206,12 +233,12 @@ module _ {O : Type 0} (s : Sight O) (N : ℕ → Type 0) where
   value_within (t.literal n) all = tt
   value_within t.null all = tt
   value_within (t.local n) all = local_within s.entity N (s.own n)
-  value_within (t.global g at) all = then_within s.entity N (Below s.entity N g) Any (global_place s g (pos 0)) _ (place_within g (first g [] all) (pos 0)) (global_within g)
+  value_within (t.global g at) all = then_within s.entity N (Below s.entity N g) Any (only_place (length_of (s.entity g))) _ (only_within g (first g [] all) (length_of (s.entity g))) (global_within g)
   value_within (t.element g at sign a) all =
       then_within s.entity N Any Any (value_of s a) _ (value_within a (others g (names a) all)) (λ v p.
       then_within s.entity N (Below s.entity N g) Any (element_place s g sign v) _ (element_within g (first g (names a) all) sign v) (global_within g))
   value_within (t.place_of n) all = tt
-  value_within (t.behind k p) all = then_within s.entity N Any Any (value_of s p) _ (value_within p all) (λ u h. behind_within s.entity N (pointed u))
+  value_within (t.behind k p) all = then_within s.entity N Any Any (value_of s p) _ (value_within p all) (λ u h. then_within s.entity N Any Any (pointed u) _ (pointed_within s.entity N u) (λ q k. behind_within s.entity N q))
   value_within (t.pointer_plus sign p a) all =
       both_within (value_of s p) (value_of s a) _ (value_within p (left (names p) (names a) all)) (value_within a (right (names p) (names a) all)) (λ u v. forward_within s.entity N sign u v)
   value_within (t.plus_pointer sign a p) all =
@@ -220,10 +247,10 @@ module _ {O : Type 0} (s : Sight O) (N : ℕ → Type 0) where
       both_within (value_of s p) (value_of s a) _ (value_within p (left (names p) (names a) all)) (value_within a (right (names p) (names a) all)) (λ u v. backward_within s.entity N sign u v)
   value_within (t.pointer_difference p q) all =
       both_within (value_of s p) (value_of s q) _ (value_within p (left (names p) (names q) all)) (value_within q (right (names p) (names q) all))
-      (λ u v. a_word_within s.entity N (difference s.same (pointed u) (pointed v)) (difference_within s.entity N s.same (pointed u) (pointed v)))
+      (λ u v. on_both_within s.entity N u v _ (λ a b. a_word_within s.entity N (difference s.same a b) (difference_within s.entity N s.same a b)))
   value_within (t.compare op p q) all =
       both_within (value_of s p) (value_of s q) _ (value_within p (left (names p) (names q) all)) (value_within q (right (names p) (names q) all))
-      (λ u v. truth_within s.entity N (compared s.same op (pointed u) (pointed v)) (compared_within s.entity N s.same op (pointed u) (pointed v)))
+      (λ u v. on_both_within s.entity N u v _ (λ a b. truth_within s.entity N (compared s.same op a b) (compared_within s.entity N s.same op a b)))
   value_within (t.unary op a) all =
       then_within s.entity N Any Any (value_of s a) _ (value_within a all) (λ u h. then_within s.entity N Any Any (word_in u) _ (word_within s.entity N u) (λ m k. tt))
   value_within (t.binary op sign a b) all =
@@ -254,10 +281,11 @@ module _ {O : Type 0} (s : Sight O) (N : ℕ → Type 0) where
 
   pub target_within : (target : TypedTargetTree) → AllNamed (target_names target) → Within s.entity N (target_of s target) CellBelow
   target_within (to_local n) all = tt
-  target_within (to_global g at) all = then_within s.entity N (Below s.entity N g) CellBelow (global_place s g (pos 0)) _ (place_within g (first g [] all) (pos 0)) (λ i h. h)
+  target_within (to_global g at) all = then_within s.entity N (Below s.entity N g) CellBelow (only_place (length_of (s.entity g))) _ (only_within g (first g [] all) (length_of (s.entity g))) (λ i h. h)
   target_within (to_element g at sign a) all =
       then_within s.entity N Any CellBelow (value_of s a) _ (value_within a (others g (names a) all)) (λ v p.
       then_within s.entity N (Below s.entity N g) CellBelow (element_place s g sign v) _ (element_within g (first g (names a) all) sign v) (λ i h. h))
   target_within (to_behind k p) all =
       then_within s.entity N Any CellBelow (value_of s p) _ (value_within p all) (λ u h.
-      then_within s.entity N Any CellBelow (cell_behind (pointed u)) _ (cell_behind_within s.entity N (pointed u)) (λ c i. tt))
+      then_within s.entity N Any CellBelow (pointed u) _ (pointed_within s.entity N u) (λ q k.
+      then_within s.entity N Any CellBelow (cell_behind q) _ (cell_behind_within s.entity N q) (λ c i. tt)))

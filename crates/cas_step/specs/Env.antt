@@ -1,5 +1,5 @@
 -- What the modules around a step say: their functions, and what their items stand for.
-use Rattle.std.specs.Prelude.{ℕ, List, Option, Some}
+use Rattle.std.specs.Prelude.{ℕ, List, Option, Some, None}
 use Rattle.cas_base.specs.declared.kind.Kind.{Kind}
 use Rattle.cas_base.specs.declared.kind.Ty.{Ty}
 use Rattle.cas_base.specs.declared.place.Place.{Place}
@@ -33,8 +33,8 @@ pub record Env : Type 0 where
   pub entity : (unit item : ℕ) → Option Entity
   pub kinds : List (Option Kind)
 
--- how many words a global has
-abbrev pub length_of : Option Entity → ℕ
-length_of (Some (shared first n guard)) = n
-length_of (Some (table first n)) = n
-length_of _ = 0
+-- how many words a global has; what isn't one has none
+abbrev pub length_of : Option Entity → Option ℕ
+length_of (Some (shared first n guard)) = Some n
+length_of (Some (table first n)) = Some n
+length_of _ = None

@@ -1,14 +1,14 @@
 -- The value of a resolved expression, and the cell of a target. Operands are evaluated from left to right, and the first that
 -- has no result ends it.
-use Rattle.std.specs.Prelude.{ℕ, ℤ, pos, neg_ℤ, Bool, true, false, List, [], ◌∷◌, Option}
+use Rattle.std.specs.Prelude.{ℕ, ℤ, neg_ℤ, nat_eq, Bool, true, false, List, [], ◌∷◌, Option, Some, None, if◌then◌else◌}
 use Rattle.cas_base.specs.Word.{narrowed}
 use Rattle.cas_typed.specs.declared.tree.Signedness.{Signedness}
 use Rattle.cas_typed.specs.Resolved as t
 use Rattle.cas_typed.specs.Resolved.{TypedExprTree, TypedTargetTree, to_local, to_global, to_element, to_behind}
-use Rattle.cas_step.specs.Asks.{Value, word, null, pointer, Asks, gives, reads, loads, and_then, word_in}
+use Rattle.cas_step.specs.Asks.{Value, word, null, pointer, Asks, gives, senseless, reads, loads, and_then, word_in, pointed}
 use Rattle.cas_step.specs.Env.{Entity, length_of}
 use Rattle.cas_step.specs.Operators.{number_of, truth, is_true, place_below, or_index, binary_result, unary_result}
-use Rattle.cas_step.specs.Pointers.{pointed, moved, behind, cell_behind, difference, compared}
+use Rattle.cas_step.specs.Pointers.{moved, behind, cell_behind, difference, compared}
 
 -- where an expression stands: what the items of its module stand for, which objects are the locals of its activation, and
 -- whether two objects are the same
@@ -36,21 +36,31 @@ module _ {O : Type 0} where
   abbrev pub global_value : (item place : ℕ) → Asks O (Value O)
   global_value g i = reads g i (λ n. gives (word n))
 
-  -- a place of a global: of an integer it is 0
-  abbrev pub global_place : Sight O → (item : ℕ) → ℤ → Asks O ℕ
-  global_place s g i = or_index (place_below (length_of (s.entity g)) i) gives
+  -- the place of the only one of so many words
+  abbrev pub only_place : Option ℕ → Asks O ℕ
+  only_place None = senseless
+  only_place (Some n) = if nat_eq n 1 then gives 0 else senseless
+
+  -- the place at this number among so many words
+  abbrev pub place_among : Option ℕ → ℤ → Asks O ℕ
+  place_among None i = senseless
+  place_among (Some n) i = or_index (place_below n i) gives
 
   -- the place of an element of a global array, by an index that is read so
   abbrev pub element_place : Sight O → (item : ℕ) → Signedness → Value O → Asks O ℕ
-  element_place s g sign v = and_then (word_in v) (λ n. global_place s g (number_of sign n))
+  element_place s g sign v = and_then (word_in v) (λ n. place_among (length_of (s.entity g)) (number_of sign n))
 
   -- a pointer moved forward by a word that is read so
   abbrev pub forward : Signedness → (pointer number : Value O) → Asks O (Value O)
-  forward sign u v = and_then (word_in v) (λ n. moved (pointed u) (number_of sign n))
+  forward sign u v = and_then (pointed u) (λ p. and_then (word_in v) (λ n. moved p (number_of sign n)))
 
   -- a pointer moved back
   abbrev pub backward : Signedness → (pointer number : Value O) → Asks O (Value O)
-  backward sign u v = and_then (word_in v) (λ n. moved (pointed u) (neg_ℤ (number_of sign n)))
+  backward sign u v = and_then (pointed u) (λ p. and_then (word_in v) (λ n. moved p (neg_ℤ (number_of sign n))))
+
+  -- what follows on two pointers
+  abbrev pub on_both : {A : Type 0} → (u v : Value O) → (Option (O × ℕ) → Option (O × ℕ) → Asks O A) → Asks O A
+  on_both u v next = and_then (pointed u) (λ p. and_then (pointed v) (λ q. next p q))
 
   -- a word of what was asked
   abbrev pub a_word : Asks O ℕ → Asks O (Value O)
@@ -68,15 +78,15 @@ module _ {O : Type 0} where
   value_of s (t.literal n) = gives (word n)
   value_of s t.null = gives null
   value_of s (t.local n) = local_value (s.own n)
-  value_of s (t.global g at) = and_then (global_place s g (pos 0)) (global_value g)
+  value_of s (t.global g at) = and_then (only_place (length_of (s.entity g))) (global_value g)
   value_of s (t.element g at sign a) = and_then (value_of s a) (λ v. and_then (element_place s g sign v) (global_value g))
   value_of s (t.place_of n) = gives (pointer (s.own n) 0)
-  value_of s (t.behind k p) = and_then (value_of s p) (λ u. behind (pointed u))
+  value_of s (t.behind k p) = and_then (value_of s p) (λ u. and_then (pointed u) behind)
   value_of s (t.pointer_plus sign p a) = and_then (value_of s p) (λ u. and_then (value_of s a) (λ v. forward sign u v))
   value_of s (t.plus_pointer sign a p) = and_then (value_of s a) (λ v. and_then (value_of s p) (λ u. forward sign u v))
   value_of s (t.pointer_minus sign p a) = and_then (value_of s p) (λ u. and_then (value_of s a) (λ v. backward sign u v))
-  value_of s (t.pointer_difference p q) = and_then (value_of s p) (λ u. and_then (value_of s q) (λ v. a_word (difference s.same (pointed u) (pointed v))))
-  value_of s (t.compare op p q) = and_then (value_of s p) (λ u. and_then (value_of s q) (λ v. a_truth (compared s.same op (pointed u) (pointed v))))
+  value_of s (t.pointer_difference p q) = and_then (value_of s p) (λ u. and_then (value_of s q) (λ v. on_both u v (λ a b. a_word (difference s.same a b))))
+  value_of s (t.compare op p q) = and_then (value_of s p) (λ u. and_then (value_of s q) (λ v. on_both u v (λ a b. a_truth (compared s.same op a b))))
   value_of s (t.unary op a) = and_then (value_of s a) (λ u. and_then (word_in u) (λ m. gives (word (unary_result op m))))
   value_of s (t.binary op sign a b) =
       and_then (value_of s a) (λ u. and_then (value_of s b) (λ v.
@@ -100,6 +110,6 @@ module _ {O : Type 0} where
   -- the cell of a target, which is there
   abbrev pub target_of : Sight O → TypedTargetTree → Asks O (Cell O)
   target_of s (to_local n) = gives (of_object (s.own n) 0)
-  target_of s (to_global g at) = and_then (global_place s g (pos 0)) (λ i. gives (of_global g i))
+  target_of s (to_global g at) = and_then (only_place (length_of (s.entity g))) (λ i. gives (of_global g i))
   target_of s (to_element g at sign a) = and_then (value_of s a) (λ v. and_then (element_place s g sign v) (λ i. gives (of_global g i)))
-  target_of s (to_behind k p) = and_then (value_of s p) (λ u. and_then (cell_behind (pointed u)) (λ c. gives (of_object c.0 c.1)))
+  target_of s (to_behind k p) = and_then (value_of s p) (λ u. and_then (pointed u) (λ a. and_then (cell_behind a) (λ c. gives (of_object c.0 c.1))))

@@ -1,5 +1,5 @@
--- Which environments are those of typed modules, and which words and threads fit them.
-use Rattle.std.specs.Prelude.{◌≡◌, ⊤, ℕ, ◌+◌, ◌<◌, ◌≤◌, IsTrue, List, [], ◌∷◌, map, take, length, Option, Some, None, slice_get, All}
+-- Which environments suit modules, and which words and threads fit them.
+use Rattle.std.specs.Prelude.{◌≡◌, ⊤, ℕ, ◌+◌, ◌^◌, ◌<◌, ◌≤◌, IsTrue, List, [], ◌∷◌, map, take, length, Option, Some, None, slice_get, All}
 use Rattle.cas_base.specs.Kind.{is_of_kind}
 use Rattle.cas_base.specs.Ty.{words_of_ty}
 use Rattle.cas_base.specs.declared.decl.Decl.{Decl}
@@ -38,13 +38,17 @@ pub record HasSignature (f : Function) (ret : Ty) (params : List Ty) : Type 0 wh
   pub returns_so : f.ret ≡ ret
   pub takes : take (length params) f.locals ≡ params
 
+-- the kind of the words of a global of this type
+abbrev pub kind_of : Ty → Option Kind
+kind_of (Int k) = Some k
+kind_of (Array k n) = Some k
+kind_of _ = None
+
 -- the words from this one on, as many as the type has, are of the type's kind
 abbrev pub AreCells : List (Option Kind) → (first : ℕ) → Ty → Type 0
-AreCells kinds first (Int k) = slice_get kinds first ≡ Some (Some k)
-AreCells kinds first (Array k n) = (i : ℕ) → i < n → slice_get kinds (first + i) ≡ Some (Some k)
-AreCells kinds first _ = ⊥
+AreCells kinds first ty = (i : ℕ) → i < words_of_ty ty → slice_get kinds (first + i) ≡ Some (kind_of ty)
 
--- what a declaration may stand for in a whole program: a function with its signature, words of its type, a lock's word
+-- what a declaration stands for in a whole program: a function with its signature, words of its type, a lock's word
 abbrev pub StandsFor : List TypedModuleTree → Env → Form → Option Entity → Type 0
 StandsFor modules e (AFunction ret params holds) (Some (function f)) =
     (unit : TypedModuleTree) × (it : TypedFunTree) × IsAt modules f unit it × HasSignature (e.function f) ret params
@@ -53,20 +57,25 @@ StandsFor modules e (Table ty) (Some (table first n)) = (n ≡ words_of_ty ty) �
 StandsFor modules e Lock (Some (lock n)) = slice_get e.kinds n ≡ Some None
 StandsFor modules e _ _ = ⊥
 
--- the environment is that of a whole program of these modules, each of which is well sorted
-pub record IsEnvOf (modules : List TypedModuleTree) (e : Env) : Type 0 where
+-- the word with this number belongs to a global or a lock
+abbrev pub HasWord : Entity → (number : ℕ) → Type 0
+HasWord (shared first n guard) w = (first ≤ w) × (w < first + n)
+HasWord (table first n) w = (first ≤ w) × (w < first + n)
+HasWord (lock n) w = n ≡ w
+HasWord _ w = ⊥
+
+-- what the laws ask of an environment: these modules are well sorted, their functions are what they say, each declaration stands
+-- for what it declares, and no word belongs to two globals or locks. `env_of` gives the one environment of a program.
+pub record Suits (modules : List TypedModuleTree) (e : Env) : Type 0 where
   pub sorted : All IsSortedModule modules
   pub functions : (f : FunctionAt) (unit : TypedModuleTree) (it : TypedFunTree) → IsAt modules f unit it → IsFunctionOf unit it (e.function f)
   pub entities : (n g : ℕ) (unit : TypedModuleTree) (d : Decl) → slice_get modules n ≡ Some unit →
       slice_get (map decl_of unit.module_tree.items) g ≡ Some d → StandsFor modules e d.form (e.entity n g)
+  pub apart : (n g m h w : ℕ) (it other : Entity) → e.entity n g ≡ Some it → e.entity m h ≡ Some other → HasWord it w → HasWord other w → it ≡ other
 
--- the most threads that a program has
-abbrev pub most_threads : ℕ
-most_threads = 64
-
--- each entry is a function of these modules that takes the thread's number
+-- each entry is a function of these modules that takes the thread's number, which is a word
 pub record AreEntries (modules : List TypedModuleTree) (e : Env) (entries : List FunctionAt) : Type 0 where
-  pub count : length entries ≤ most_threads
+  pub count : length entries ≤ 2 ^ 32
   pub each : (thread : ℕ) (f : FunctionAt) → slice_get entries thread ≡ Some f →
       (unit : TypedModuleTree) × (it : TypedFunTree) × IsAt modules f unit it × HasSignature (e.function f) Void (Int I32 ∷ [])
 

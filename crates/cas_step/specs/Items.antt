@@ -5,7 +5,7 @@ use Rattle.cas_base.specs.declared.kind.Ty.TheVariants.{Int, Ptr}
 use Rattle.cas_base.specs.declared.place.Place.{Place}
 use Rattle.cas_typed.specs.declared.tree.Destination.{Destination}
 use Rattle.cas_typed.specs.Resolved.{TypedExprTree, TypedStmtTree, skip, assign, call, block, if_, while_, do_, for_, break_, continue_, return_, lock, unlock, print, TypedStmtOption, absent, present, TypedStmtList, no_more, one_more}
-use Rattle.cas_step.specs.Asks.{Value, word, null, Asks, gives, and_then, word_in}
+use Rattle.cas_step.specs.Asks.{Value, word, null, Asks, gives, senseless, and_then, word_in}
 use Rattle.cas_step.specs.Evaluate.{Sight, Cell, of_object, of_global, either, value_of, values_of, test_of, target_of}
 
 -- an item to do: a statement to begin; a while that has begun, at its place; a for behind its first part; and what a for does
@@ -38,21 +38,21 @@ abbrev pub begin_part : TypedStmtOption → List Todo → List Todo
 begin_part absent todo = todo
 begin_part (present a) todo = begin a ∷ todo
 
--- what is left behind the nearest loop
-abbrev pub after_break : List Todo → List Todo
-after_break [] = []
+-- what is left behind the nearest loop, if there is one
+abbrev pub after_break : List Todo → Option (List Todo)
+after_break [] = None
 after_break (begin a ∷ todo) = after_break todo
-after_break (begun p c a ∷ todo) = todo
-after_break (loop p c u a ∷ todo) = todo
+after_break (begun p c a ∷ todo) = Some todo
+after_break (loop p c u a ∷ todo) = Some todo
 after_break (next p u ∷ todo) = after_break todo
 
--- what is left from the nearest turn on
-abbrev pub after_continue : List Todo → List Todo
-after_continue [] = []
+-- what is left from the nearest turn on, if there is one
+abbrev pub after_continue : List Todo → Option (List Todo)
+after_continue [] = None
 after_continue (begin a ∷ todo) = after_continue todo
-after_continue (begun p c a ∷ todo) = begun p c a ∷ todo
+after_continue (begun p c a ∷ todo) = Some (begun p c a ∷ todo)
 after_continue (loop p c u a ∷ todo) = after_continue todo
-after_continue (next p u ∷ todo) = next p u ∷ todo
+after_continue (next p u ∷ todo) = Some (next p u ∷ todo)
 
 -- what a function of this type returns where it falls off its end
 abbrev pub fallen : {O : Type 0} → (ret : Ty) → Option (Value O)
@@ -65,6 +65,11 @@ module _ {O : Type 0} where
   abbrev pub into : Cell O → Value O → List Todo → Asks O (Deed O)
   into (of_object o p) v todo = gives (stores o p v todo)
   into (of_global g i) v todo = and_then (word_in v) (λ n. gives (writes g i n todo))
+
+  -- a jump to these items; outside of loops there is no sense in one
+  abbrev pub jumps : Option (List Todo) → Asks O (Deed O)
+  jumps None = senseless
+  jumps (Some todo) = gives (goes_on todo)
 
   -- one list of items or the other, by a condition; a missing one is true
   abbrev pub chooses : Sight O → Option TypedExprTree → (where_true where_false : List Todo) → Asks O (Deed O)
@@ -85,8 +90,8 @@ module _ {O : Type 0} where
   statement_deed s (while_ p c a) todo = chooses s (Some c) (begin a ∷ begun p c a ∷ todo) todo
   statement_deed s (do_ p a c) todo = gives (goes_on (begin a ∷ begun p c a ∷ todo))
   statement_deed s (for_ p first c after a) todo = gives (goes_on (begin_part first (loop p c after a ∷ todo)))
-  statement_deed s (break_ p) todo = gives (goes_on (after_break todo))
-  statement_deed s (continue_ p) todo = gives (goes_on (after_continue todo))
+  statement_deed s (break_ p) todo = jumps (after_break todo)
+  statement_deed s (continue_ p) todo = jumps (after_continue todo)
   statement_deed s (call p kept g at args) todo = and_then (values_of s args) (λ vs. gives (calls g vs kept todo))
   statement_deed s (return_ p a) todo = returned s a
   statement_deed s (lock p g) todo = gives (locks g todo)

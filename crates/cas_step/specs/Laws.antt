@@ -5,7 +5,7 @@ use Rattle.cas_base.specs.declared.act.Act.TheVariants as act
 use Rattle.cas_typed.specs.Resolved as t
 use Rattle.cas_typed.specs.Resolved.{TypedExprTree, TypedTargetTree, to_local, to_global, to_element, to_behind, TypedStmtTree, skip, assign, call, block, if_, while_, do_, for_, break_, continue_, return_, lock, unlock, print, TypedModuleTree, absent, present}
 use Rattle.cas_step.specs.Env.{FunctionAt, shared, table, Env}
-use Rattle.cas_step.specs.Fits.{IsEnvOf, AreEntries, FitsWords, FitsConfig}
+use Rattle.cas_step.specs.Fits.{Suits, AreEntries, FitsWords, FitsConfig}
 use Rattle.cas_step.specs.Items.{Todo, begin, begun, loop, next}
 use Rattle.cas_step.specs.Step.{Activation, Config, Step, step}
 
@@ -103,14 +103,19 @@ StepsAreDetermined = (e : Env) (ws vs : List ℕ) (c : Config) (s : Step) → le
 abbrev pub WritesAreToldOf : Type 0
 WritesAreToldOf = (e : Env) (ws : List ℕ) (c : Config) (s : Step) → step e ws c ≡ Some s → ChangesOnly s.writes ws s.words s.words
 
+-- Tables of constants never change.
+abbrev pub TablesStay : Type 0
+TablesStay = (modules : List TypedModuleTree) (e : Env) (ws : List ℕ) (c : Config) (s : Step) →
+    Suits modules e → step e ws c ≡ Some s → AgreeOnTables e ws s.words
+
 -- a step that isn't Bad
 abbrev pub IsTaken : Act → Type 0
 IsTaken (act.Bad why) = ⊥
 IsTaken _ = ⊤
 
--- In a whole program a thread that fits and hasn't ended has a step over words that fit, and where it isn't Bad its next
+-- A thread that fits and hasn't ended has a step over words that fit: it is never stuck. Where the step isn't Bad its next
 -- configuration and the next words fit.
 abbrev pub StepsFit : Type 0
 StepsFit = (modules : List TypedModuleTree) (e : Env) (entries : List FunctionAt) (ws : List ℕ) (c : Config) (a : Activation) (older : List Activation) →
-    IsEnvOf modules e → AreEntries modules e entries → FitsConfig e entries c → FitsWords e ws → c.activations ≡ a ∷ older →
+    Suits modules e → AreEntries modules e entries → FitsConfig e entries c → FitsWords e ws → c.activations ≡ a ∷ older →
     (s : Step) × (step e ws c ≡ Some s) × (IsTaken s.act → FitsConfig e entries s.next × FitsWords e s.words)

@@ -8,4 +8,5 @@ pub mod Literals
 pub mod Operators
 pub mod Pointers
 pub mod Sound
+pub mod Stands
 pub mod Step

@@ -4,15 +4,10 @@ use Rattle.cas_base.specs.Word.{word_sub}
 use Rattle.cas_base.specs.declared.act.Why.TheVariants.{Index, Null, Dead, Across}
 use Rattle.cas_syntax.specs.declared.tree.BinaryOperator.{BinaryOperator}
 use Rattle.cas_syntax.specs.declared.tree.BinaryOperator.TheVariants as bin
-use Rattle.cas_step.specs.Asks.{Value, pointer, Asks, gives, fails, looks, loads, and_then, senseless}
+use Rattle.cas_step.specs.Asks.{Value, pointer, Asks, gives, fails, senseless, looks, loads, and_then}
 use Rattle.cas_step.specs.Operators.{place_below, or_index}
 
 module _ {O : Type 0} where
-  -- the object and the place to which a pointer points; null points nowhere
-  abbrev pub pointed : Value O → Option (O × ℕ)
-  pointed (pointer o p) = Some (o, p)
-  pointed _ = None
-
   -- what follows where an object is live, on how many cells it has
   abbrev pub if_live : {A : Type 0} → (ℕ → Asks O A) → Option ℕ → Asks O A
   if_live next None = fails Dead

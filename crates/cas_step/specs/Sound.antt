@@ -1,20 +1,17 @@
 -- What holds of each thread that fits: values have the types of their cells, pointers go to places within or at the end of
--- objects of their kind, and what is to do stands in the function.
+-- objects of their kind, and what is to do are parts of the function's body.
 use Rattle.std.specs.Prelude.{◌≡◌, ⊤, ℕ, ◌<◌, ◌≤◌, nat_eq, if◌then◌else◌, Bool, IsTrue, List, [], ◌∷◌, length, map, Option, Some, None, slice_get}
 use Rattle.cas_base.specs.Kind.{is_of_kind}
 use Rattle.cas_base.specs.Ty.{words_of_ty}
-use Rattle.cas_base.specs.declared.decl.Decl.{Decl}
 use Rattle.cas_base.specs.declared.kind.Kind.{Kind}
 use Rattle.cas_base.specs.declared.kind.Ty.{Ty}
 use Rattle.cas_base.specs.declared.kind.Ty.TheVariants.{Int, Ptr, Array}
-use Rattle.cas_typed.specs.Modules.{decl_of}
-use Rattle.cas_typed.specs.Resolved.{TypedStmtTree, TypedStmtOption, absent, present, TypedFunTree, TypedModuleTree}
-use Rattle.cas_typed.specs.Sorts.{MayKeep, IsTest, IsSorted}
+use Rattle.cas_typed.specs.Resolved.{TypedFunTree, TypedModuleTree}
+use Rattle.cas_typed.specs.Sorts.{MayKeep}
 use Rattle.cas_step.specs.Asks.{Value, word, null, pointer}
 use Rattle.cas_step.specs.Env.{FunctionAt, Env}
-use Rattle.cas_step.specs.Fits.{IsAt, IsEnvOf, AreEntries, FitsConfig}
-use Rattle.cas_step.specs.Items.{Todo, begin, begun, loop, next}
-use Rattle.cas_step.specs.Literals.{StatementHasWords, OptionHasWords}
+use Rattle.cas_step.specs.Fits.{IsAt, Suits, AreEntries, FitsConfig}
+use Rattle.cas_step.specs.Stands.{MayDo}
 use Rattle.cas_step.specs.Step.{Object, Activation, Block, Config}
 
 -- the types of an activation's locals
@@ -67,28 +64,12 @@ AreBlocks e c [] [] = ⊤
 AreBlocks e c (a ∷ older) (b ∷ bs) = (b.serial ≡ a.serial) × AreLocals e c (types_of e a) b.locals × AreBlocks e c older bs
 AreBlocks e c _ _ = ⊥
 
--- a statement that may stand in a function of these locals that returns so
-abbrev pub MayBegin : List Ty → List Decl → (ret : Ty) → TypedStmtTree → Type 0
-MayBegin vs ds ret a = (l : Bool) × IsSorted vs ds ret l a × StatementHasWords a
-
-abbrev pub MayBeginPart : List Ty → List Decl → (ret : Ty) → TypedStmtOption → Type 0
-MayBeginPart vs ds ret absent = ⊤
-MayBeginPart vs ds ret (present a) = MayBegin vs ds ret a
-
--- items that may stand there
-abbrev pub MayDo : List Ty → List Decl → (ret : Ty) → List Todo → Type 0
-MayDo vs ds ret [] = ⊤
-MayDo vs ds ret (begin a ∷ todo) = MayBegin vs ds ret a × MayDo vs ds ret todo
-MayDo vs ds ret (begun p c a ∷ todo) = IsTest vs ds (Some c) × OptionHasWords (Some c) × MayBegin vs ds ret a × MayDo vs ds ret todo
-MayDo vs ds ret (loop p c after a ∷ todo) = IsTest vs ds c × OptionHasWords c × MayBeginPart vs ds ret after × MayBegin vs ds ret a × MayDo vs ds ret todo
-MayDo vs ds ret (next p after ∷ todo) = MayBeginPart vs ds ret after × MayDo vs ds ret todo
-
 -- an activation of a function of these modules, which does what stands in the function
 pub record IsSoundActivation (modules : List TypedModuleTree) (e : Env) (a : Activation) : Type 0 where
   pub unit : TypedModuleTree
   pub it : TypedFunTree
   pub at_place : IsAt modules a.function unit it
-  pub doing : MayDo (types_of e a) (map decl_of unit.module_tree.items) (e.function a.function).ret a.todo
+  pub doing : MayDo (e.function a.function).body a.todo
 
 -- the caller may keep what the newer activation returns
 abbrev pub CallerKeeps : Env → Activation → List Activation → Type 0
@@ -108,4 +89,4 @@ pub record IsSound (modules : List TypedModuleTree) (e : Env) (c : Config) : Typ
 -- Each thread that fits is sound.
 abbrev pub FittingIsSound : Type 0
 FittingIsSound = (modules : List TypedModuleTree) (e : Env) (entries : List FunctionAt) (c : Config) →
-    IsEnvOf modules e → AreEntries modules e entries → FitsConfig e entries c → IsSound modules e c
+    Suits modules e → AreEntries modules e entries → FitsConfig e entries c → IsSound modules e c

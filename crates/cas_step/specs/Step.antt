@@ -5,7 +5,6 @@ use Rattle.cas_base.specs.Word.{narrowed}
 use Rattle.cas_base.specs.declared.act.Act.{Act}
 use Rattle.cas_base.specs.declared.act.Act.TheVariants as act
 use Rattle.cas_base.specs.declared.act.Why.{Why}
-use Rattle.cas_base.specs.declared.act.Why.TheVariants.{Index}
 use Rattle.cas_base.specs.declared.kind.Ty.{Ty}
 use Rattle.cas_base.specs.declared.kind.Ty.TheVariants.{Int, Ptr}
 use Rattle.cas_base.specs.declared.place.Place.{Place}
@@ -64,10 +63,10 @@ abbrev pub size_of : Option (List (Value Object)) → Option ℕ
 size_of None = None
 size_of (Some cells) = Some (length cells)
 
--- the value at a place of them; every cell that is loaded is there
-abbrev pub value_at : Option (List (Value Object)) → (place : ℕ) → Value Object
-value_at None p = word 0
-value_at (Some cells) p = slice_index_or cells p (word 0)
+-- the value at a place of them, if it is there
+abbrev pub value_at : Option (List (Value Object)) → (place : ℕ) → Option (Value Object)
+value_at None p = None
+value_at (Some cells) p = slice_get cells p
 
 -- locals with a value at a place of one of them
 abbrev pub with_local : List (List (Value Object)) → (local place : ℕ) → Value Object → List (List (Value Object))
@@ -86,21 +85,29 @@ memory_without (b ∷ bs) serial = if nat_eq b.serial serial then bs else b ∷ 
 
 -- what is asked, answered
 
--- what was got, with the shared words that were read for it; or why nothing was, with those that were read before
+-- what was got, why nothing was, or that it is stuck, since there was no sense in it or what was asked for isn't there; each with the
+-- shared words that were read before
 pub data Got (A : Type 0) : Type 0 where
   got : (reads : List ℕ) → A → Got A
   bad : (reads : List ℕ) → Why → Got A
+  stuck : (reads : List ℕ) → Got A
 
 -- the same with these reads before
 abbrev pub having_read : {A : Type 0} → List ℕ → Got A → Got A
 having_read before (got rs a) = got (before ++ rs) a
 having_read before (bad rs why) = bad (before ++ rs) why
+having_read before (stuck rs) = stuck (before ++ rs)
 
--- the word at a place of a global
-abbrev pub word_at : List ℕ → Option Entity → (place : ℕ) → ℕ
-word_at ws (Some (shared first n guard)) i = slice_index_or ws (first + i) 0
-word_at ws (Some (table first n)) i = slice_index_or ws (first + i) 0
-word_at ws _ i = 0
+-- what is got by what is there
+abbrev pub if_there : {V A : Type 0} → Option V → (V → Got A) → Got A
+if_there None next = stuck []
+if_there (Some v) next = next v
+
+-- the word at a place of a global, if it is there
+abbrev pub word_at : List ℕ → Option Entity → (place : ℕ) → Option ℕ
+word_at ws (Some (shared first n guard)) i = slice_get ws (first + i)
+word_at ws (Some (table first n)) i = slice_get ws (first + i)
+word_at ws _ i = None
 
 -- what reading this word of a global puts into the footprint: words of tables of constants are in none
 abbrev pub trace_of : Option Entity → (place : ℕ) → List ℕ
@@ -111,10 +118,11 @@ trace_of _ i = []
 abbrev pub answered : {A : Type 0} → (entity : ℕ → Option Entity) → (words : List ℕ) → List Block → Asks Object A → Got A
 answered entity ws memory (asks.gives a) = got [] a
 answered entity ws memory (asks.fails why) = bad [] why
+answered entity ws memory asks.senseless = stuck []
 answered entity ws memory (asks.reads g i more) =
-    having_read (trace_of (entity g) i) (answered entity ws memory (more (word_at ws (entity g) i)))
+    having_read (trace_of (entity g) i) (if_there (word_at ws (entity g) i) (λ n. answered entity ws memory (more n)))
 answered entity ws memory (asks.looks o more) = answered entity ws memory (more (size_of (cells_at memory o)))
-answered entity ws memory (asks.loads o p more) = answered entity ws memory (more (value_at (cells_at memory o) p))
+answered entity ws memory (asks.loads o p more) = if_there (value_at (cells_at memory o) p) (λ v. answered entity ws memory (more v))
 
 -- the step
 
@@ -189,9 +197,14 @@ module _ (e : Env) (h : Here) where
   }
 
   -- a step that writes a word of a shared global
-  abbrev pub global_step : (reads : List ℕ) → Option Entity → (place value : ℕ) → List Todo → Step
-  global_step rs (Some (shared first len guard)) i n todo = write_step rs (first + i) n todo
-  global_step rs _ i n todo = bad_step rs Index
+  abbrev pub global_step : (reads : List ℕ) → Option Entity → (place value : ℕ) → List Todo → Option Step
+  global_step rs (Some (shared first len guard)) i n todo = Some (write_step rs (first + i) n todo)
+  global_step rs _ i n todo = None
+
+  -- a step that stores a value into a cell, which holds this one until then
+  abbrev pub store_step : (reads : List ℕ) → (held : Option (Value Object)) → Object → (place : ℕ) → Value Object → List Todo → Option Step
+  store_step rs None o i v todo = None
+  store_step rs (Some held) o i v todo = Some (step_to rs act.Quiet (thread_with h (doing h todo) (memory_with h.config.memory o i v)))
 
 -- what the cells of a local begin with
 abbrev pub zero_of : Ty → Value Object
@@ -217,48 +230,54 @@ abbrev pub converted : Ty → Value Object → Value Object
 converted (Int k) (word n) = word (narrowed n k)
 converted _ v = v
 
--- the memory where the caller with this serial number has kept what was returned
-abbrev pub memory_keeping : List Block → (serial : ℕ) → Option Destination → Option (Value Object) → List Block
-memory_keeping memory serial (Some d) (Some v) = memory_with memory (record { serial = serial; local = d.local }) 0 (converted d.ty v)
-memory_keeping memory serial _ _ = memory
+-- the memory where the caller with this serial number has kept what was returned; nothing can't be kept
+abbrev pub memory_keeping : List Block → (serial : ℕ) → Option Destination → Option (Value Object) → Option (List Block)
+memory_keeping memory serial None v = Some memory
+memory_keeping memory serial (Some d) None = None
+memory_keeping memory serial (Some d) (Some v) = Some (memory_with memory (record { serial = serial; local = d.local }) 0 (converted d.ty v))
 
 module _ (e : Env) (h : Here) where
   -- a call
-  abbrev pub call_step : (reads : List ℕ) → Option Entity → List (Value Object) → Option Destination → List Todo → Step
-  call_step rs (Some (function f)) vs target todo = step_to e h rs act.Quiet (with_call e (doing h todo) h.config.memory h.config.fresh f vs target)
-  call_step rs _ vs target todo = bad_step e h rs Index
+  abbrev pub call_step : (reads : List ℕ) → Option Entity → List (Value Object) → Option Destination → List Todo → Option Step
+  call_step rs (Some (function f)) vs target todo = Some (step_to e h rs act.Quiet (with_call e (doing h todo) h.config.memory h.config.fresh f vs target))
+  call_step rs _ vs target todo = None
+
+  -- a return to these activations with this memory
+  abbrev pub return_to : (reads : List ℕ) → (older : List Activation) → Option (List Block) → Option Step
+  return_to rs older None = None
+  return_to rs older (Some memory) = Some (step_to e h rs act.Quiet (thread_with h older memory))
 
   -- a return: to the caller, or, from the outermost activation, the end of the thread
-  abbrev pub return_step : (reads : List ℕ) → (older : List Activation) → Option (Value Object) → Step
-  return_step rs [] v = step_to e h rs act.Done (thread_with h [] (memory_without h.config.memory h.newest.serial))
-  return_step rs (a ∷ older) v =
-      step_to e h rs act.Quiet (thread_with h (a ∷ older) (memory_keeping (memory_without h.config.memory h.newest.serial) a.serial h.newest.target v))
+  abbrev pub return_step : (reads : List ℕ) → (older : List Activation) → Option (Value Object) → Option Step
+  return_step rs [] v = Some (step_to e h rs act.Done (thread_with h [] (memory_without h.config.memory h.newest.serial)))
+  return_step rs (a ∷ older) v = return_to rs (a ∷ older) (memory_keeping (memory_without h.config.memory h.newest.serial) a.serial h.newest.target v)
 
   -- an act on a lock
-  abbrev pub lock_step : (reads : List ℕ) → Option Entity → (ℕ → Act) → List Todo → Step
-  lock_step rs (Some (lock n)) a todo = goes_step e h rs (a n) todo
-  lock_step rs _ a todo = bad_step e h rs Index
+  abbrev pub lock_step : (reads : List ℕ) → Option Entity → (ℕ → Act) → List Todo → Option Step
+  lock_step rs (Some (lock n)) a todo = Some (goes_step e h rs (a n) todo)
+  lock_step rs _ a todo = None
 
   -- the step that does this
-  abbrev pub step_doing : Got (Deed Object) → Step
-  step_doing (bad rs why) = bad_step e h rs why
-  step_doing (got rs (goes_on todo)) = goes_step e h rs act.Quiet todo
-  step_doing (got rs (stores o i v todo)) = step_to e h rs act.Quiet (thread_with h (doing h todo) (memory_with h.config.memory o i v))
+  abbrev pub step_doing : Got (Deed Object) → Option Step
+  step_doing (stuck rs) = None
+  step_doing (bad rs why) = Some (bad_step e h rs why)
+  step_doing (got rs (goes_on todo)) = Some (goes_step e h rs act.Quiet todo)
+  step_doing (got rs (stores o i v todo)) = store_step e h rs (value_at (cells_at h.config.memory o) i) o i v todo
   step_doing (got rs (writes g i n todo)) = global_step e h rs (entity_in e h g) i n todo
   step_doing (got rs (calls g vs target todo)) = call_step rs (entity_in e h g) vs target todo
   step_doing (got rs (returns v)) = return_step rs h.older v
   step_doing (got rs (locks g todo)) = lock_step rs (entity_in e h g) act.Lock todo
   step_doing (got rs (unlocks g todo)) = lock_step rs (entity_in e h g) act.Unlock todo
-  step_doing (got rs (prints n todo)) = goes_step e h rs (act.Out n) todo
+  step_doing (got rs (prints n todo)) = Some (goes_step e h rs (act.Out n) todo)
 
   -- the step of the newest activation's first item
-  abbrev pub step_here : Step
+  abbrev pub step_here : Option Step
   step_here = step_doing (answered (entity_in e h) h.words h.config.memory (deed_of (sight_of e h) (e.function h.newest.function).ret h.newest.todo))
 
--- the next step of a thread over these shared words; None where it has ended
+-- the next step of a thread over these shared words; none where it has ended, or is stuck, which no thread of typed modules is
 abbrev pub step_of : Env → List ℕ → Config → (activations : List Activation) → Option Step
 step_of e ws c [] = None
-step_of e ws c (a ∷ older) = Some (step_here e (record { config = c; newest = a; older = older; words = ws }))
+step_of e ws c (a ∷ older) = step_here e (record { config = c; newest = a; older = older; words = ws })
 
 abbrev pub step : Env → List ℕ → Config → Option Step
 step e ws c = step_of e ws c c.activations
