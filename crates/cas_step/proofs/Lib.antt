@@ -4,6 +4,7 @@ mod Footprints
 mod Memory
 mod Operator_examples
 mod Running
+mod Situation
 mod Standing
 mod Steps
 mod Tables

@@ -20,6 +20,7 @@ use Rattle.cas_typed.specs.Types as ty
 use Rattle.cas_typed.specs.Types.{IsEquality, IsOrder}
 use Rattle.cas_step.specs.Asks.{Value, word, null, pointer, Asks, gives, fails, senseless, reads, looks, loads, and_then, word_in, pointed}
 use Rattle.cas_step.specs.Env.{length_of}
+use Rattle.cas_step.specs.Fits.{kind_of}
 use Rattle.cas_step.specs.Evaluate.{Sight, either, local_value, global_value, only_place, place_among, element_place, forward, backward, on_both, a_word, a_truth, condition, value_of, test_of}
 use Rattle.cas_step.specs.Literals.{HasWords, OptionHasWords}
 use Rattle.cas_step.specs.Operators.{number_of, place_below, or_index, binary_result, is_true}
@@ -78,7 +79,7 @@ module _ (Points : Kind → Object → ℕ → Type 0) where
     pub loads : (k : Kind) (o : Object) (p m : ℕ) → Points k o p → size_of (cells_at memory o) ≡ Some m → p < m → ThereIs (OfSort so.word) (value_at (cells_at memory o) p)
     pub moves : (k : Kind) (o : Object) (p m q : ℕ) → Points k o p → size_of (cells_at memory o) ≡ Some m → q ≤ m → Points k o q
     pub lengths : (g : ℕ) (ty : Ty) → IsVariable ds g ty → length_of (s.entity g) ≡ Some (words_of_ty ty)
-    pub words : (g : ℕ) (ty : Ty) (i : ℕ) → IsVariable ds g ty → i < words_of_ty ty → ThereIs IsWord (word_at ws (s.entity g) i)
+    pub words : (g : ℕ) (ty : Ty) (k : Kind) (i : ℕ) → IsVariable ds g ty → kind_of ty ≡ Some k → i < words_of_ty ty → ThereIs IsWord (word_at ws (s.entity g) i)
 
 module _ (Points : Kind → Object → ℕ → Type 0) (vs : List Ty) (ds : List Decl) (s : Sight Object) (ws : List ℕ) (memory : List Block) (sees : Sees Points vs ds s ws memory) where
   -- what is got is so, and there is sense in it
@@ -202,9 +203,9 @@ module _ (Points : Kind → Object → ℕ → Type 0) (vs : List Ty) (ds : List
   pub element_sure : (g : ℕ) (k : Kind) (n : ℕ) (sign : Signedness) (v : Value Object) → IsVariable ds g (Array k n) → OfSort Points so.word v → Sure (IsUnder n) (element_place s g sign v)
   element_sure g k n sign v is h = sure_then IsWord (IsUnder n) (word_in v) _ (word_sure v h) (λ m l. among_by (length_of (s.entity g)) n (number_of sign m) (sees.lengths g (Array k n) is))
 
-  global_sure : (g : ℕ) (ty : Ty) (i : ℕ) → IsVariable ds g ty → i < words_of_ty ty → Sure (OfSort Points so.word) (global_value g i)
-  global_sure g ty i is h = gets-having_read (OfSort Points so.word) (trace_of (s.entity g) i) _
-      (there_gets IsWord (OfSort Points so.word) (word_at ws (s.entity g) i) _ (sees.words g ty i is h) (λ n l. l))
+  global_sure : (g : ℕ) (ty : Ty) (k : Kind) (i : ℕ) → IsVariable ds g ty → kind_of ty ≡ Some k → i < words_of_ty ty → Sure (OfSort Points so.word) (global_value g i)
+  global_sure g ty k i is of h = gets-having_read (OfSort Points so.word) (trace_of (s.entity g) i) _
+      (there_gets IsWord (OfSort Points so.word) (word_at ws (s.entity g) i) _ (sees.words g ty k i is of h) (λ n l. l))
 
   given_sure : (x : Asks Object ℕ) → GivesWord x → Sure IsWord x
   given_sure (gives n) h = h
@@ -244,10 +245,10 @@ module _ (Points : Kind → Object → ℕ → Type 0) (vs : List Ty) (ds : List
   value_sure t.null (so.pointer k) h w = tt
   value_sure (t.local n) so.word h w = load_sure so.word (s.own n) 0 (sees.integers n h.0 h.1)
   value_sure (t.local n) (so.pointer k) h w = load_sure (so.pointer k) (s.own n) 0 (sees.pointers n k h)
-  value_sure (t.global g at) so.word h w = sure_then (IsUnder 1) (OfSort Points so.word) (only_place (length_of (s.entity g))) _ (only_sure g h.0 h.1) (λ i l. global_sure g (Int h.0) i h.1 l)
+  value_sure (t.global g at) so.word h w = sure_then (IsUnder 1) (OfSort Points so.word) (only_place (length_of (s.entity g))) _ (only_sure g h.0 h.1) (λ i l. global_sure g (Int h.0) h.0 i h.1 refl l)
   value_sure (t.global g at) (so.pointer k) h w = absurd h
   value_sure (t.element g at sign a) so.word h w = sure_then (OfSort Points so.word) (OfSort Points so.word) (value_of s a) _ (value_sure a so.word h.3 w) (λ v l.
-      sure_then (IsUnder h.1) (OfSort Points so.word) (element_place s g sign v) _ (element_sure g h.0 h.1 sign v h.2 l) (λ i m. global_sure g (Array h.0 h.1) i h.2 m))
+      sure_then (IsUnder h.1) (OfSort Points so.word) (element_place s g sign v) _ (element_sure g h.0 h.1 sign v h.2 l) (λ i m. global_sure g (Array h.0 h.1) h.0 i h.2 refl m))
   value_sure (t.element g at sign a) (so.pointer k) h w = absurd h
   value_sure (t.place_of n) so.word h w = absurd h
   value_sure (t.place_of n) (so.pointer k) h w = sees.own n k h
