@@ -1,4 +1,5 @@
 mod Answering
+mod Deeds
 mod Examples
 mod Footprints
 mod Memory
