@@ -2,10 +2,12 @@ mod Answering
 mod Deeds
 mod Examples
 mod Footprints
+mod Keeping
 mod Memory
 mod Operator_examples
 mod Running
 mod Situation
+mod Soundness
 mod Standing
 mod Steps
 mod Tables

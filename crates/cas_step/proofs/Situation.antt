@@ -31,7 +31,7 @@ use Rattle.cas_step.proofs.Values.{ThereIs, IsWord, OfSort, Sees}
 pub all_at : {X : Type 0} (P : X → Type 0) (xs : List X) (k : ℕ) (x : X) → slice_get xs k ≡ Some x → All P xs → P x
 all_at P xs k x is all = subst P (get_or_from_slice_get xs k x x is) (all k x (slice_get_within xs k x is))
 
-word_of_kind : (n : ℕ) (k : Kind) → IsTrue (is_of_kind n k) → n < 2 ^ 32
+pub word_of_kind : (n : ℕ) (k : Kind) → IsTrue (is_of_kind n k) → n < 2 ^ 32
 word_of_kind n k h = grind (arith, nat_tests, h)
 
 pub there_map : {A : Type 0} (P Q : A → Type 0) (x : Option A) → ThereIs P x → ((a : A) → P a → Q a) → ThereIs Q x

@@ -1,6 +1,7 @@
 //! Laws of the step, each the contract of a function without effect.
 
-ghost use Rattle.cas_step.specs.Laws.{FootprintsAreNamed, StepsAreDetermined, TablesStay, WritesAreToldOf};
+ghost use Rattle.cas_step.specs.Laws.{FootprintsAreNamed, StepsAreDetermined, StepsFit, TablesStay, WritesAreToldOf};
+ghost use Rattle.cas_step.specs.Sound.{FittingIsSound};
 
 /// A thread's footprint has only words of shared globals that its statement names.
 pub fn footprints_are_named()
@@ -20,4 +21,16 @@ pub fn writes_are_told_of()
 /// Tables of constants never change: no word belongs to two globals, and a step writes words of shared globals alone.
 pub fn tables_stay()
     ensures { TablesStay }
+{}
+
+/// Each thread that fits is sound: values have the types of their cells, pointers to live objects go to places within or
+/// at the end of objects of their kind, and what is to do are parts of the functions' bodies.
+pub fn fitting_is_sound()
+    ensures { FittingIsSound }
+{}
+
+/// A thread that fits and hasn't ended has a step over words that fit, so it is never stuck; and where the step isn't
+/// Bad its next configuration and the next words fit.
+pub fn steps_fit()
+    ensures { StepsFit }
 {}
