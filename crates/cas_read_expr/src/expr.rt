@@ -14,7 +14,7 @@ use crate::front::{ident, is_expected};
 use crate::keep::beside;
 use crate::kind::{begins_kind_at, kind};
 use crate::limit::count;
-use crate::operator::{Infix, Prefix, level, operator};
+use crate::operator::{Infix, Prefix, operator, right_level};
 use crate::stop::{Stop, fault, wrong};
 use cas_lex::{ReadCode, Sign, Token, TokenKind};
 use cas_syntax::{Expr, Ident, UnaryOperator};
@@ -239,7 +239,7 @@ fn combined(
         return chosen(alloc, left, tokens, used);
     };
     count(used, tokens)?;
-    let least = level(operator) + 1;
+    let least = right_level(operator);
     let (left, (right, used, rest)) = beside(left, expr(alloc, tokens, used + 1, least))?;
     Ok((build::joined(alloc, operator, left, right)?, used, rest))
 }

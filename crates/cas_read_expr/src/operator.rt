@@ -1,6 +1,6 @@
 //! Operators of expressions.
 
-ghost use Rattle.std.specs.Prelude.{◌≡◌, ◌<◌, ℕ, false, length, List, IfSome, IfNone};
+ghost use Rattle.std.specs.Prelude.{◌≡◌, ◌<◌, ◌+◌, ℕ, false, length, List, IfSome, IfNone};
 ghost use Rattle.cas_syntax.specs.Operators as operators;
 ghost use Rattle.cas_syntax.specs.Reading.{within};
 ghost use Rattle.cas_syntax.specs.Tree.{ExprTree};
@@ -76,6 +76,13 @@ pub fn level(operator: Infix) -> u8
             BinaryOperator::Mul | BinaryOperator::Div | BinaryOperator::Mod => 11,
         },
     }
+}
+
+/// How tightly an operator in the right operand of this one binds at least: equal operators go to the left.
+pub fn right_level(operator: Infix) -> u8
+    ensures { result ≡ operators.level (infix_shape operator) + 1 }
+{
+    level(operator) + 1
 }
 
 /// How tightly a token binds that is this operator between two operands, or none: 0 for no operator at all.
