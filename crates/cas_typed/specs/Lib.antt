@@ -9,6 +9,8 @@ pub mod Resolved
 pub mod Resolving
 pub mod Scopes
 pub mod Sorts
+pub mod Typed_as
 pub mod Types
 pub mod Typing
 pub mod Walk
+pub mod Whole

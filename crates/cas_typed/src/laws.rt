@@ -11,10 +11,13 @@ ghost use Rattle.cas_typed.specs.Faults.{Fault};
 ghost use Rattle.cas_typed.specs.Formed.{IsFormed, IsFilled};
 ghost use Rattle.cas_typed.specs.Literals.{ModuleHasWords};
 ghost use Rattle.cas_typed.specs.Modules.{decl_of, IsTyped};
-ghost use Rattle.cas_typed.specs.Numbered.{IsRow, parts_of};
-ghost use Rattle.cas_typed.specs.Resolved.{TypedModuleTree, TypedStmtTree};
+ghost use Rattle.cas_typed.specs.Numbered.{IsFunctionOf, IsRow, parts_of};
+ghost use Rattle.cas_typed.specs.Resolved.{TypedFunTree, TypedModuleTree, TypedStmtTree};
 ghost use Rattle.cas_typed.specs.Sorts.{IsSortedModule};
+ghost use Rattle.cas_typed.specs.Typed_as.{IsTypedAs};
 ghost use Rattle.cas_typed.specs.declared.rows.StmtRow.{StmtRow};
+ghost use Rattle.cas_typed.specs.declared.rows.TypedFun.{TypedFun};
+ghost use Rattle.cas_typed.specs.declared.typed.Typed.{Typed};
 ghost use Rattle.cas_typed.specs.declared.rows.StmtRowForm.{StmtRowForm};
 ghost use Rattle.cas_typed.specs.Walk.{walk_module, HasTypeFault};
 
@@ -59,11 +62,19 @@ pub fn typed_modules_have_bodies()
         → slice_get (functions_of (map decl_of r.module_tree.items)) n ≡ Some d → IsDefined r n d }
 {}
 
-/// What a text is read as is formed: its literals and the lengths of arrays are words, its initial values are values of their kinds, and each of
-/// its items declares what it is. And it stays so when it is typed: the literals of its resolved functions are words,
+/// What a text is read as is formed: its literals and the lengths of arrays are words, its initial values are values of
+/// their kinds, and each of its items declares what it is. And it stays so when it is typed: the literals of its resolved functions are words,
 /// and its values are of their kinds when zeros have filled them up.
 pub fn read_modules_are_formed()
     ensures read { (text : List ℕ) (m : ModuleTree) → IsReadAs text m → IsFormed m }
     ensures filled { (m : ModuleTree) (r : TypedModuleTree) → IsFormed m → IsTyped m r → IsFormed r.module_tree }
     ensures resolved { (m : ModuleTree) (r : TypedModuleTree) → IsFormed m → IsTyped m r → ModuleHasWords r }
+{}
+
+/// A typed module of the code is one resolved module; and in each function the parts of a row have greater numbers than
+/// it has, since each row stands for a statement.
+pub fn typed_modules_are_one()
+    ensures one { (typed : Typed) (r s : TypedModuleTree) → IsTypedAs typed r → IsTypedAs typed s → r ≡ s }
+    ensures later { (r : TypedFunTree) (f : TypedFun) (n : ℕ) (row : StmtRow) → IsFunctionOf r f → slice_get f.rows n ≡ Some row
+        → All (λ i. n < i) (parts_of row.form) }
 {}

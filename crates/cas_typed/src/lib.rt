@@ -13,7 +13,9 @@ mod fault;
 pub mod laws;
 mod rows;
 mod tree;
+mod typed;
 
 pub use fault::{TypeCode, TypeCount};
 pub use rows::{Local, StmtRow, StmtRowForm, TypedFun};
 pub use tree::{Destination, Signedness, TypedExpr, TypedTarget};
+pub use typed::Typed;
