@@ -1,0 +1,10 @@
+use Rattle.std.proofs.Common.{◌≡◌, ◌++◌, length, map}
+use Rattle.cas_type.specs.Parts.{ident_of}
+use Rattle.cas_typed.specs.Modules.{placed}
+use Rattle.cas_type.proofs.named.held_names.Given as goal
+
+abbrev pub invariant-each : goal.invariant-each
+invariant-each l = map ident_of l.found.items ++ placed l.last l.rest l.behind ≡ placed l.last l.names l.places
+
+abbrev pub decreases-each : goal.decreases-each
+decreases-each l = length l.rest

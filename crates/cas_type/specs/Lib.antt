@@ -1,0 +1,5 @@
+pub mod Answer
+pub mod Parts
+pub mod Rows
+pub mod View
+pub mod Whole_walk

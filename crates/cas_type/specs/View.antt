@@ -1,0 +1,116 @@
+-- What the typer's values stand for.
+use Rattle.std.specs.Prelude.{◌≡◌, ⊤, ℕ, ◌+◌, ◌-◌, Bool, false, if◌then◌else◌, List, [], ◌∷◌, length, map, take, drop, Option, Some, None}
+use Rattle.std.specs.List.{list_any}
+use Rattle.std.specs.Borrow.{Bor}
+use Rattle.std.specs.Map.{lookup}
+use Rattle.std.specs.Str.{bytes_eq}
+use Rattle.cas_base.specs.Decl.{definitions, is_named}
+use Rattle.cas_base.specs.declared.decl.Decl.{Decl}
+use Rattle.cas_base.specs.declared.kind.Ty.TheVariants.{Int, Ptr}
+use Rattle.cas_type.specs.declared.found.Found.{Found}
+use Rattle.cas_type.specs.declared.found.Found.TheVariants.{Unfit, Word, Pointer}
+use Rattle.cas_type.specs.declared.found.Operands.{Operands}
+use Rattle.cas_type.specs.declared.found.Operands.TheVariants.{Words, PointerAndWord, WordAndPointer, Pointers}
+use Rattle.cas_type.specs.declared.scope.First.{First}
+use Rattle.cas_type.specs.declared.scope.Meaning.{Meaning}
+use Rattle.cas_type.specs.declared.scope.Meaning.TheVariants.{Undeclared, Variable, Item}
+use Rattle.cas_type.specs.declared.locals.Visible.{Visible}
+use Rattle.cas_type.specs.declared.targets.Written.{Written}
+use Rattle.cas_base.specs.declared.place.Place.{Place}
+use Rattle.cas_type.specs.declared.calls.Called.{Called}
+use Rattle.cas_type.specs.declared.values.Assignment.{Assignment}
+use Rattle.cas_typed.specs.Resolved.{typed_expr_tree, typed_target_tree, TypedExprTree, TypedStmtTree, assign, call}
+use Rattle.cas_typed.specs.declared.tree.TypedExpr.{TypedExpr}
+use Rattle.cas_typed.specs.Resolving as r
+use Rattle.cas_typed.specs.Scopes as s
+
+-- what was found of an expression
+abbrev pub found_of : Found → r.Found
+found_of Unfit = r.unfit
+found_of (Word e k) = r.fits (typed_expr_tree e) (Int k)
+found_of (Pointer e k) = r.fits (typed_expr_tree e) (Ptr k)
+
+-- what was found of the left one of two operands that fit
+abbrev pub left_of : Operands → r.Found
+left_of (Words a j b k) = r.fits (typed_expr_tree a) (Int j)
+left_of (PointerAndWord a j b k) = r.fits (typed_expr_tree a) (Ptr j)
+left_of (WordAndPointer a j b k) = r.fits (typed_expr_tree a) (Int j)
+left_of (Pointers a j b k) = r.fits (typed_expr_tree a) (Ptr j)
+
+-- what was found of the right one
+abbrev pub right_of : Operands → r.Found
+right_of (Words a j b k) = r.fits (typed_expr_tree b) (Int k)
+right_of (PointerAndWord a j b k) = r.fits (typed_expr_tree b) (Int k)
+right_of (WordAndPointer a j b k) = r.fits (typed_expr_tree b) (Ptr k)
+right_of (Pointers a j b k) = r.fits (typed_expr_tree b) (Ptr k)
+
+-- what a name means
+abbrev pub meaning_of : Meaning → s.Meaning
+meaning_of Undeclared = s.undeclared
+meaning_of (Variable n ty) = s.variable n ty
+meaning_of (Item n form) = s.item n form.now
+
+-- a local that is visible
+abbrev pub bound_of : Visible → s.Bound
+bound_of v = record { name = v.name.now; number = v.number; ty = v.ty }
+
+-- the index of the newest local of a name, among locals of which the newest one stands first
+abbrev pub newest_of : List s.Bound → List ℕ → Option ℕ
+newest_of [] name = None
+newest_of (v ∷ vs) name = if bytes_eq v.name name then Some (length vs) else newest_of vs name
+
+-- each local has the index of the one that it hides
+abbrev pub AreHiding : List Visible → Type 0
+AreHiding [] = ⊤
+AreHiding (v ∷ vs) = (v.hidden ≡ newest_of (map bound_of vs) v.name.now) × AreHiding vs
+
+-- the table has the index of the newest local of each name, by the name
+abbrev pub IsNewest : List s.Bound → List (Bor (List ℕ) × ℕ) → Type 0
+IsNewest vs entries = (name : List ℕ) → lookup (λ key. bytes_eq name key.now) entries ≡ newest_of vs name
+
+-- what a local's name means, or else another
+abbrev pub variable_or : Option Visible → s.Meaning → s.Meaning
+variable_or None otherwise = otherwise
+variable_or (Some v) otherwise = s.variable v.number v.ty
+
+-- what the first item of a name declares, if there is one
+abbrev pub item_or : Option First → s.Meaning
+item_or None = s.undeclared
+item_or (Some first) = s.item first.number first.form.now
+
+-- whether a name is defined, as the table has it
+abbrev pub defined_in : Option First → Bool
+defined_in None = false
+defined_in (Some first) = first.defined
+
+-- the table has the first item of each name, by the name, and whether the name is defined
+abbrev pub IsIndex : List Decl → List (Bor (List ℕ) × First) → Type 0
+IsIndex decls entries =
+    (name : List ℕ) → (item_or (lookup (λ key. bytes_eq name key.now) entries) ≡ s.item_named 0 decls name)
+    × (defined_in (lookup (λ key. bytes_eq name key.now) entries) ≡ list_any (is_named name) (definitions decls))
+
+-- what was found of a target
+abbrev pub written_of : Option Written → r.Written
+written_of None = r.unwritable
+written_of (Some w) = r.written (typed_target_tree w.target) w.ty
+
+-- an assignment at its place
+abbrev pub assignment_tree : Place → Assignment → TypedStmtTree
+assignment_tree p a = assign p (typed_target_tree a.target) (typed_expr_tree a.value)
+
+-- values, if there are any
+abbrev pub values_tree : Option (List TypedExpr) → Option (List TypedExprTree)
+values_tree None = None
+values_tree (Some es) = Some (map typed_expr_tree es)
+
+-- a call at its place, of the function that is named at another
+abbrev pub called_tree : Place → (at : Place) → Called → TypedStmtTree
+called_tree p at c = call p c.kept c.item at (map typed_expr_tree c.args)
+
+-- out of a block: around it stand the oldest so many locals again
+abbrev pub outside : ℕ → s.Scope → s.Scope
+outside n s = record s { block = take (length s.around - n) s.around; around = drop (length s.around - n) s.around }
+
+-- only so many locals are visible
+abbrev pub forgotten : ℕ → s.Scope → s.Scope
+forgotten n s = record s { block = drop ((length s.block + length s.around) - n) s.block }

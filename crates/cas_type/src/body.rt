@@ -1,0 +1,361 @@
+//! Statements: each is walked through in order of text, and stands in a row before those of its parts.
+
+ghost use Rattle.std.specs.Prelude.{◌≡◌, ◌++◌, [], ◌∷◌, OnOk, IfOk, true, false};
+ghost use Rattle.cas_syntax.specs.Tree as tree;
+ghost use Rattle.cas_syntax.specs.Tree.{expr_tree, init_tree, optional_tree, stmt_tree, stmt_trees};
+ghost use Rattle.cas_type.specs.Rows.{StmtWalks, PartWalks, ListWalks, BodyWalks, after_list, part_tree};
+ghost use Rattle.cas_typed.specs.Scopes as s;
+ghost use Rattle.cas_typed.specs.Walk as w;
+
+use crate::declare::declaration;
+use crate::fault::TypeFault;
+use crate::plain::{assignment, call_of, leaving, lock_of, print_of, return_of, unlock_of};
+use crate::rows::Made;
+use crate::scope::Scopes;
+use crate::values;
+use crate::values::condition;
+use cas_base::{Place, Seq, Ty};
+use cas_syntax::{Expr, Ident, Init, Stmt, StmtForm};
+use cas_typed::{StmtRow, StmtRowForm};
+use std::alloc::Global;
+
+/// What a statement stands in.
+#[derive(Clone, Copy)]
+pub struct Within {
+    /// The type of its function.
+    pub ret: Ty,
+    /// Whether a loop is around it.
+    pub in_loop: bool,
+}
+
+impl Within {
+    // Within a loop.
+    fn looped(self) -> Within
+        ensures { result ≡ record { ret = self.ret; in_loop = true } }
+    {
+        Within {
+            ret: self.ret,
+            in_loop: true,
+        }
+    }
+}
+
+/// A statement of a block.
+#[cycle(statement)]
+pub fn statement<'a>(
+    scopes: &mut Scopes<'a>,
+    made: &mut Made,
+    within: Within,
+    stmt: &'a Stmt,
+) -> Result<u32, TypeFault>
+    ensures rows { StmtWalks made.old.rows.items made.new.rows.items result (w.walk within.ret within.in_loop scopes.old (stmt_tree stmt.now)) }
+    ensures locals { OnOk result (made.new.locals.items ≡ made.old.locals.items ++ s.locals_of (stmt_tree stmt.now)) }
+    ensures scope { OnOk result (scopes.new ≡ s.after scopes.old (stmt_tree stmt.now)) }
+{
+    let alloc = made.alloc;
+    let place = stmt.place;
+    match &stmt.form {
+        StmtForm::Skip => made.plain(place, Ok(StmtRowForm::Skip)),
+        StmtForm::Declare(ty, ident, init) => local(scopes, made, place, *ty, ident, init),
+        StmtForm::Assign(target, operator, expr) => {
+            let form = assignment(alloc, scopes, place, target, *operator, expr);
+            made.plain(place, form)
+        }
+        StmtForm::Call(keeper, ident, args) => {
+            let form = call_of(
+                alloc,
+                scopes,
+                place,
+                keeper.as_ref(),
+                ident,
+                args.as_slice(),
+            );
+            made.plain(place, form)
+        }
+        StmtForm::Block(stmts) => block(scopes, made, within, place, stmts),
+        StmtForm::If(test, first, second) => {
+            branches(scopes, made, within, place, test, first, second)
+        }
+        StmtForm::While(test, body) => while_loop(scopes, made, within, place, test, body),
+        StmtForm::Do(body, test) => do_loop(scopes, made, within, place, body, test),
+        StmtForm::For(first, test, next, body) => for_loop(
+            scopes, made, within, place, first, test, next, body,
+        ),
+        StmtForm::Break => {
+            let form = leaving(within.in_loop, place, StmtRowForm::Break);
+            made.plain(place, form)
+        }
+        StmtForm::Continue => {
+            let form = leaving(within.in_loop, place, StmtRowForm::Continue);
+            made.plain(place, form)
+        }
+        StmtForm::Return(expr) => {
+            let form = return_of(alloc, scopes, place, within.ret, expr);
+            made.plain(place, form)
+        }
+        StmtForm::Lock(ident) => {
+            let form = lock_of(alloc, scopes, place, ident);
+            made.plain(place, form)
+        }
+        StmtForm::Unlock(ident) => {
+            let form = unlock_of(alloc, scopes, place, ident);
+            made.plain(place, form)
+        }
+        StmtForm::Print(expr) => {
+            let form = print_of(alloc, scopes, place, expr);
+            made.plain(place, form)
+        }
+    }
+}
+
+// A local, which is visible from here on.
+fn local<'a>(
+    scopes: &mut Scopes<'a>,
+    made: &mut Made,
+    place: Place,
+    ty: Ty,
+    ident: &'a Ident,
+    init: &Init,
+) -> Result<u32, TypeFault>
+    ensures rows { StmtWalks made.old.rows.items made.new.rows.items result (w.walk_declare scopes.old place ty ident.now (init_tree init.now)) }
+    ensures locals { OnOk result (made.new.locals.items ≡ made.old.locals.items ++ ty ∷ []) }
+    ensures scope { OnOk result (scopes.new ≡ s.declaring scopes.old ty ident.now) }
+{
+    let form = declaration(made.alloc, scopes, place, ty, ident, init)?;
+    let number = made.plain(place, Ok(form))?;
+    made.locals.push(ty)?;
+    Ok(number)
+}
+
+// A part of a statement, whose locals are visible in it alone.
+#[cycle(statement)]
+fn part<'a>(
+    scopes: &mut Scopes<'a>,
+    made: &mut Made,
+    within: Within,
+    stmt: &'a Stmt,
+) -> Result<u32, TypeFault>
+    ensures rows { StmtWalks made.old.rows.items made.new.rows.items result (w.walk within.ret within.in_loop scopes.old (stmt_tree stmt.now)) }
+    ensures locals { OnOk result (made.new.locals.items ≡ made.old.locals.items ++ s.locals_of (stmt_tree stmt.now)) }
+    ensures scope { OnOk result (scopes.new ≡ s.past scopes.old (stmt_tree stmt.now)) }
+{
+    let visible = scopes.visible();
+    let number = statement(scopes, made, within, stmt)?;
+    scopes.forget(visible);
+    Ok(number)
+}
+
+// The first part of a `for`, whose local is visible in all of it.
+#[cycle(statement)]
+fn first_part<'a>(
+    scopes: &mut Scopes<'a>,
+    made: &mut Made,
+    within: Within,
+    stmt: &'a Option<Box<Stmt>>,
+) -> Result<Option<u32>, TypeFault>
+    ensures rows { PartWalks made.old.rows.items made.new.rows.items result (w.walk_part within.ret within.in_loop scopes.old (part_tree stmt.now)) }
+    ensures locals { OnOk result (made.new.locals.items ≡ made.old.locals.items ++ s.locals_of_option (part_tree stmt.now)) }
+    ensures scope { OnOk result (scopes.new ≡ s.after_option scopes.old (part_tree stmt.now)) }
+{
+    match stmt {
+        Some(stmt) => Ok(Some(statement(scopes, made, within, stmt)?)),
+        None => Ok(None),
+    }
+}
+
+// A part that may be missing.
+#[cycle(statement)]
+fn optional_part<'a>(
+    scopes: &mut Scopes<'a>,
+    made: &mut Made,
+    within: Within,
+    stmt: &'a Option<Box<Stmt>>,
+) -> Result<Option<u32>, TypeFault>
+    ensures rows { PartWalks made.old.rows.items made.new.rows.items result (w.walk_part within.ret within.in_loop scopes.old (part_tree stmt.now)) }
+    ensures locals { OnOk result (made.new.locals.items ≡ made.old.locals.items ++ s.locals_of_option (part_tree stmt.now)) }
+    ensures scope { OnOk result (scopes.new ≡ s.past_option scopes.old (part_tree stmt.now)) }
+{
+    match stmt {
+        Some(stmt) => Ok(Some(part(scopes, made, within, stmt)?)),
+        None => Ok(None),
+    }
+}
+
+// Statements, one after another.
+#[cycle(statement)]
+fn list<'a>(
+    scopes: &mut Scopes<'a>,
+    made: &mut Made,
+    within: Within,
+    stmts: &'a [Stmt],
+) -> Result<Seq<u32>, TypeFault>
+    ensures rows { ListWalks made.old.rows.items made.new.rows.items result (w.walk_list within.ret within.in_loop scopes.old (stmt_trees stmts.now)) }
+    ensures locals { OnOk result (made.new.locals.items ≡ made.old.locals.items ++ s.locals_of_list (stmt_trees stmts.now)) }
+    ensures scope { OnOk result (scopes.new ≡ after_list scopes.old (stmt_trees stmts.now)) }
+{
+    let mut numbers = Vec::new(made.alloc);
+    for stmt in stmts {
+        let number = statement(scopes, made, within, stmt)?;
+        numbers.push(number)?;
+    }
+    Ok(Seq::of(numbers))
+}
+
+// A block.
+#[cycle(statement)]
+fn block<'a>(
+    scopes: &mut Scopes<'a>,
+    made: &mut Made,
+    within: Within,
+    place: Place,
+    stmts: &'a [Stmt],
+) -> Result<u32, TypeFault>
+    ensures rows { StmtWalks made.old.rows.items made.new.rows.items result
+        (w.walk within.ret within.in_loop scopes.old (tree.block place (stmt_trees stmts.now))) }
+    ensures locals { OnOk result (made.new.locals.items ≡ made.old.locals.items ++ s.locals_of (tree.block place (stmt_trees stmts.now))) }
+    ensures scope { OnOk result (scopes.new ≡ s.past scopes.old (tree.block place (stmt_trees stmts.now))) }
+{
+    let number = made.push(place, StmtRowForm::Skip)?;
+    let mark = scopes.enter();
+    let numbers = list(scopes, made, within, stmts)?;
+    scopes.leave(mark);
+    made.set(number, place, StmtRowForm::Block(numbers));
+    Ok(number)
+}
+
+// `if`, with or without `else`.
+#[cycle(statement)]
+fn branches<'a>(
+    scopes: &mut Scopes<'a>,
+    made: &mut Made,
+    within: Within,
+    place: Place,
+    test: &Expr,
+    first: &'a Stmt,
+    second: &'a Option<Box<Stmt>>,
+) -> Result<u32, TypeFault>
+    ensures rows { StmtWalks made.old.rows.items made.new.rows.items result
+        (w.walk within.ret within.in_loop scopes.old (tree.if_ place (expr_tree test.now) (stmt_tree first.now) (part_tree second.now))) }
+    ensures locals { OnOk result (made.new.locals.items
+        ≡ made.old.locals.items ++ s.locals_of (tree.if_ place (expr_tree test.now) (stmt_tree first.now) (part_tree second.now))) }
+    ensures scope { OnOk result (scopes.new
+        ≡ s.past scopes.old (tree.if_ place (expr_tree test.now) (stmt_tree first.now) (part_tree second.now))) }
+{
+    let test = values::test(made.alloc, scopes, place, test)?;
+    let number = made.push(place, StmtRowForm::Skip)?;
+    let first = part(scopes, made, within, first)?;
+    let second = optional_part(scopes, made, within, second)?;
+    made.set(number, place, StmtRowForm::If(test, first, second));
+    Ok(number)
+}
+
+// `while`.
+#[cycle(statement)]
+fn while_loop<'a>(
+    scopes: &mut Scopes<'a>,
+    made: &mut Made,
+    within: Within,
+    place: Place,
+    test: &Expr,
+    body: &'a Stmt,
+) -> Result<u32, TypeFault>
+    ensures rows { StmtWalks made.old.rows.items made.new.rows.items result
+        (w.walk within.ret within.in_loop scopes.old (tree.while_ place (expr_tree test.now) (stmt_tree body.now))) }
+    ensures locals { OnOk result (made.new.locals.items
+        ≡ made.old.locals.items ++ s.locals_of (tree.while_ place (expr_tree test.now) (stmt_tree body.now))) }
+    ensures scope { OnOk result (scopes.new ≡ s.past scopes.old (tree.while_ place (expr_tree test.now) (stmt_tree body.now))) }
+{
+    let test = values::test(made.alloc, scopes, place, test)?;
+    let number = made.push(place, StmtRowForm::Skip)?;
+    let body = part(scopes, made, within.looped(), body)?;
+    made.set(number, place, StmtRowForm::While(test, body));
+    Ok(number)
+}
+
+// `do`.
+#[cycle(statement)]
+fn do_loop<'a>(
+    scopes: &mut Scopes<'a>,
+    made: &mut Made,
+    within: Within,
+    place: Place,
+    body: &'a Stmt,
+    test: &Expr,
+) -> Result<u32, TypeFault>
+    ensures rows { StmtWalks made.old.rows.items made.new.rows.items result
+        (w.walk within.ret within.in_loop scopes.old (tree.do_ place (stmt_tree body.now) (expr_tree test.now))) }
+    ensures locals { OnOk result (made.new.locals.items
+        ≡ made.old.locals.items ++ s.locals_of (tree.do_ place (stmt_tree body.now) (expr_tree test.now))) }
+    ensures scope { OnOk result (scopes.new ≡ s.past scopes.old (tree.do_ place (stmt_tree body.now) (expr_tree test.now))) }
+{
+    // The condition stands outside of the body's scope, and its fault comes after the body's.
+    let test = values::test(made.alloc, scopes, place, test);
+    let number = made.push(place, StmtRowForm::Skip)?;
+    let body = part(scopes, made, within.looped(), body)?;
+    let test = test?;
+    made.set(number, place, StmtRowForm::Do(body, test));
+    Ok(number)
+}
+
+// `for`.
+#[cycle(statement)]
+fn for_loop<'a>(
+    scopes: &mut Scopes<'a>,
+    made: &mut Made,
+    within: Within,
+    place: Place,
+    first: &'a Option<Box<Stmt>>,
+    test: &Option<Expr>,
+    next: &'a Option<Box<Stmt>>,
+    body: &'a Stmt,
+) -> Result<u32, TypeFault>
+    ensures rows { StmtWalks made.old.rows.items made.new.rows.items result (w.walk within.ret within.in_loop scopes.old
+        (tree.for_ place (part_tree first.now) (optional_tree test.now) (part_tree next.now) (stmt_tree body.now))) }
+    ensures locals { OnOk result (made.new.locals.items ≡ made.old.locals.items ++ s.locals_of
+        (tree.for_ place (part_tree first.now) (optional_tree test.now) (part_tree next.now) (stmt_tree body.now))) }
+    ensures scope { OnOk result (scopes.new ≡ s.past scopes.old
+        (tree.for_ place (part_tree first.now) (optional_tree test.now) (part_tree next.now) (stmt_tree body.now))) }
+{
+    let number = made.push(place, StmtRowForm::Skip)?;
+    let mark = scopes.enter();
+    let first = first_part(scopes, made, within, first)?;
+    let test = condition(made.alloc, scopes, place, test)?;
+    let next = optional_part(scopes, made, within, next)?;
+    let body = part(scopes, made, within.looped(), body)?;
+    scopes.leave(mark);
+    made.set(number, place, StmtRowForm::For(first, test, next, body));
+    Ok(number)
+}
+
+/// A body that is typed: its rows, the numbers of its own statements, and the types of the locals that it declares.
+#[derive(Drop)]
+pub struct Walked {
+    pub rows: Seq<StmtRow>,
+    pub body: Seq<u32>,
+    pub locals: Seq<Ty>,
+}
+
+/// The body of a function of this type.
+pub fn body<'a>(
+    alloc: Global,
+    scopes: &mut Scopes<'a>,
+    ret: Ty,
+    stmts: &'a [Stmt],
+) -> Result<Walked, TypeFault>
+    ensures body { BodyWalks result (w.walk_list ret false scopes.old (stmt_trees stmts.now)) }
+    ensures locals { IfOk result (λ walked. walked.locals ≡ s.locals_of_list (stmt_trees stmts.now)) }
+    ensures decls { OnOk result (scopes.new.decls ≡ scopes.old.decls) }
+{
+    let mut made = Made::new(alloc);
+    let within = Within {
+        ret,
+        in_loop: false,
+    };
+    let body = list(scopes, &mut made, within, stmts)?;
+    let Made { rows, locals, .. } = made;
+    Ok(Walked {
+        rows: Seq::of(rows),
+        body,
+        locals: Seq::of(locals),
+    })
+}

@@ -1,0 +1,116 @@
+//! Statements without parts: the forms of their rows.
+
+ghost use Rattle.std.specs.Prelude.{◌≡◌, Ok, Some, map};
+ghost use Rattle.std.specs.Option.{option_copied};
+ghost use Rattle.cas_syntax.specs.Tree.{expr_tree, optional_tree, target_tree};
+ghost use Rattle.cas_type.specs.Rows.{AnswersPlain, plain_tree};
+ghost use Rattle.cas_base.specs.declared.kind.Kind.TheVariants.{I32};
+ghost use Rattle.cas_base.specs.declared.kind.Ty.TheVariants.{Int};
+ghost use Rattle.cas_typed.specs.Faults.{then_};
+ghost use Rattle.cas_typed.specs.Resolved as t;
+ghost use Rattle.cas_typed.specs.Resolved.{TypedStmtTree};
+ghost use Rattle.cas_typed.specs.Scopes as s;
+ghost use Rattle.cas_typed.specs.Walk as w;
+
+use crate::calls::call;
+use crate::fault::{TypeFault, misfit};
+use crate::scope::Scopes;
+use crate::values::{assigned, lock, returned, value};
+use cas_base::{Kind, Place, Ty};
+use cas_syntax::{BinaryOperator, Expr, Ident, LValue};
+use cas_typed::{StmtRowForm, TypeCode};
+use std::alloc::Global;
+
+/// An assignment.
+pub fn assignment(
+    alloc: Global,
+    scopes: &Scopes<'_>,
+    place: Place,
+    target: &LValue,
+    operator: Option<BinaryOperator>,
+    expr: &Expr,
+) -> Result<StmtRowForm, TypeFault>
+    ensures { AnswersPlain place result (w.walk_assign scopes.now place (target_tree target.now) operator (expr_tree expr.now)) }
+{
+    let assignment = assigned(alloc, scopes, place, target, operator, expr)?;
+    Ok(StmtRowForm::Assign(assignment.target, assignment.value))
+}
+
+/// A call, whose result is kept or not.
+pub fn call_of(
+    alloc: Global,
+    scopes: &Scopes<'_>,
+    place: Place,
+    keeper: Option<&Ident>,
+    ident: &Ident,
+    args: &[Expr],
+) -> Result<StmtRowForm, TypeFault>
+    ensures { AnswersPlain place result (w.walk_call scopes.now place (option_copied keeper.entry) ident.now (map expr_tree args.now)) }
+{
+    let called = call(alloc, scopes, place, keeper, ident, args)?;
+    Ok(StmtRowForm::Call(called.kept, called.item, ident.place, called.args))
+}
+
+/// What may only stand in a loop.
+pub fn leaving(in_loop: bool, place: Place, form: StmtRowForm) -> Result<StmtRowForm, TypeFault>
+    ensures { (a : TypedStmtTree) → plain_tree place form ≡ Some a → AnswersPlain place result (w.walk_leave in_loop place a) }
+{
+    if in_loop {
+        Ok(form)
+    } else {
+        Err(misfit(TypeCode::T7, place))
+    }
+}
+
+/// `return`, in a function of this type.
+pub fn return_of(
+    alloc: Global,
+    scopes: &Scopes<'_>,
+    place: Place,
+    ret: Ty,
+    expr: &Option<Expr>,
+) -> Result<StmtRowForm, TypeFault>
+    ensures { AnswersPlain place result (w.walk_return scopes.now place ret (optional_tree expr.now)) }
+{
+    let value = returned(alloc, scopes, place, ret, expr)?;
+    Ok(StmtRowForm::Return(value))
+}
+
+/// `print`, of a value that is converted to `int`.
+pub fn print_of(
+    alloc: Global,
+    scopes: &Scopes<'_>,
+    place: Place,
+    expr: &Expr,
+) -> Result<StmtRowForm, TypeFault>
+    ensures { AnswersPlain place result (then_ (w.walk_value scopes.now place (expr_tree expr.now) (Int I32)) (λ e. Ok (t.print place e))) }
+{
+    let value = value(alloc, scopes, place, expr, Ty::Int(Kind::I32))?;
+    Ok(StmtRowForm::Print(value))
+}
+
+/// `lock`.
+pub fn lock_of(
+    alloc: Global,
+    scopes: &Scopes<'_>,
+    place: Place,
+    ident: &Ident,
+) -> Result<StmtRowForm, TypeFault>
+    ensures { AnswersPlain place result (then_ (w.walk_lock place ident.now (s.meaning scopes.now ident.now)) (λ g. Ok (t.lock place g))) }
+{
+    let item = lock(alloc, scopes, place, ident)?;
+    Ok(StmtRowForm::Lock(item))
+}
+
+/// `unlock`.
+pub fn unlock_of(
+    alloc: Global,
+    scopes: &Scopes<'_>,
+    place: Place,
+    ident: &Ident,
+) -> Result<StmtRowForm, TypeFault>
+    ensures { AnswersPlain place result (then_ (w.walk_lock place ident.now (s.meaning scopes.now ident.now)) (λ g. Ok (t.unlock place g))) }
+{
+    let item = lock(alloc, scopes, place, ident)?;
+    Ok(StmtRowForm::Unlock(item))
+}

@@ -1,0 +1,158 @@
+//! What expressions are resolved to.
+
+ghost use Rattle.std.specs.Prelude.{◌≡◌, IfOk};
+ghost use Rattle.cas_syntax.specs.Tree.{expr_tree};
+ghost use Rattle.cas_type.specs.View.{found_of, meaning_of};
+ghost use Rattle.cas_typed.specs.Types.{is_null};
+ghost use Rattle.cas_typed.specs.Numbered.{optional_expr_tree};
+ghost use Rattle.cas_typed.specs.Resolving as r;
+
+use crate::forms::{
+    both, cell_behind, choice, converted, either, element_behind, given, pointer_to_element,
+    tested, unary,
+};
+use crate::found::Found;
+use crate::kinds::signedness;
+use crate::operators::binary;
+use crate::scope::{Meaning, Scopes, variable_ty};
+use cas_base::{Kind, NoMemory, Ty};
+use cas_syntax::{Expr, Ident};
+use cas_typed::TypedExpr;
+use std::alloc::Global;
+
+/// Whether this is the literal 0, which also stands for the null pointer.
+pub fn is_zero(expr: &Expr) -> bool
+    ensures { result ≡ is_null (expr_tree expr.now) }
+{
+    match expr {
+        Expr::Lit(value, kind) => match *kind {
+            Kind::I32 => *value == 0,
+            Kind::I8 | Kind::U8 | Kind::I16 | Kind::U16 | Kind::U32 => false,
+        },
+        Expr::Name(_)
+        | Expr::Index(..)
+        | Expr::Deref(_)
+        | Expr::Addr(_)
+        | Expr::AddrIndex(..)
+        | Expr::Unary(..)
+        | Expr::Cast(..)
+        | Expr::Binary(..)
+        | Expr::And(..)
+        | Expr::Or(..)
+        | Expr::Cond(..) => false,
+    }
+}
+
+/// Of a name alone.
+pub fn named(ident: &Ident, meaning: Meaning<'_>) -> Found
+    ensures { found_of result ≡ r.named ident.now (meaning_of meaning.entry) }
+{
+    match meaning {
+        Meaning::Undeclared => Found::Unfit,
+        Meaning::Variable(n, ty) => match ty {
+            Ty::Int(k) => Found::Word(TypedExpr::Local(n), k),
+            Ty::Ptr(k) => Found::Pointer(TypedExpr::Local(n), k),
+            Ty::Array(k, _) => Found::Pointer(TypedExpr::PlaceOf(n), k),
+            Ty::Void => Found::Unfit,
+        },
+        Meaning::Item(g, form) => match variable_ty(form) {
+            Some(Ty::Int(k)) => Found::Word(TypedExpr::Global(g, ident.place), k),
+            Some(Ty::Void) | Some(Ty::Ptr(_)) | Some(Ty::Array(..)) | None => Found::Unfit,
+        },
+    }
+}
+
+/// Of `x[e]`, by what is found of `e`.
+pub fn indexed(
+    alloc: Global,
+    ident: &Ident,
+    meaning: Meaning<'_>,
+    index: Found,
+) -> Result<Found, NoMemory>
+    ensures { IfOk result (λ found. found_of found ≡ r.indexed ident.now (meaning_of meaning.entry) (found_of index)) }
+{
+    match meaning {
+        Meaning::Item(g, form) => match variable_ty(form) {
+            Some(Ty::Array(k, _)) => match index {
+                Found::Word(e, j) => {
+                    let index = Box::new(alloc, e)?;
+                    let expr = TypedExpr::Element(g, ident.place, signedness(j), index);
+                    Ok(Found::Word(expr, k))
+                }
+                Found::Unfit | Found::Pointer(..) => Ok(Found::Unfit),
+            },
+            Some(Ty::Void) | Some(Ty::Int(_)) | Some(Ty::Ptr(_)) | None => Ok(Found::Unfit),
+        },
+        Meaning::Undeclared | Meaning::Variable(..) => {
+            element_behind(alloc, named(ident, meaning), index)
+        }
+    }
+}
+
+/// Of `&x`.
+pub fn pointer_to(meaning: Meaning<'_>) -> Found
+    ensures { found_of result ≡ r.pointer_to (meaning_of meaning.entry) }
+{
+    match meaning {
+        Meaning::Variable(n, ty) => match ty {
+            Ty::Int(k) => Found::Pointer(TypedExpr::PlaceOf(n), k),
+            Ty::Void | Ty::Ptr(_) | Ty::Array(..) => Found::Unfit,
+        },
+        Meaning::Undeclared | Meaning::Item(..) => Found::Unfit,
+    }
+}
+
+/// Of an expression.
+pub fn resolve(alloc: Global, scopes: &Scopes<'_>, expr: &Expr) -> Result<Found, NoMemory>
+    ensures { IfOk result (λ found. found_of found ≡ r.resolved scopes.now (expr_tree expr.now)) }
+{
+    match expr {
+        Expr::Lit(value, kind) => Ok(Found::Word(TypedExpr::Literal(*value), *kind)),
+        Expr::Name(ident) => Ok(named(ident, scopes.meaning(ident))),
+        Expr::Index(ident, index) => {
+            let index = resolve(alloc, scopes, index)?;
+            indexed(alloc, ident, scopes.meaning(ident), index)
+        }
+        Expr::Deref(pointer) => cell_behind(alloc, resolve(alloc, scopes, pointer)?),
+        Expr::Addr(ident) => Ok(pointer_to(scopes.meaning(ident))),
+        Expr::AddrIndex(ident, index) => {
+            let index = resolve(alloc, scopes, index)?;
+            pointer_to_element(alloc, named(ident, scopes.meaning(ident)), index)
+        }
+        Expr::Unary(operator, a) => unary(alloc, *operator, resolve(alloc, scopes, a)?),
+        Expr::Cast(kind, a) => converted(alloc, *kind, resolve(alloc, scopes, a)?),
+        Expr::Binary(operator, a, b) => {
+            let left = resolve(alloc, scopes, a)?;
+            let right = resolve(alloc, scopes, b)?;
+            binary(alloc, *operator, is_zero(a), is_zero(b), left, right)
+        }
+        Expr::And(a, b) => {
+            let left = tested(alloc, resolve(alloc, scopes, a)?)?;
+            let right = tested(alloc, resolve(alloc, scopes, b)?)?;
+            both(alloc, left, right)
+        }
+        Expr::Or(a, b) => {
+            let left = tested(alloc, resolve(alloc, scopes, a)?)?;
+            let right = tested(alloc, resolve(alloc, scopes, b)?)?;
+            either(alloc, left, right)
+        }
+        Expr::Cond(c, a, b) => {
+            let test = tested(alloc, resolve(alloc, scopes, c)?)?;
+            let left = resolve(alloc, scopes, a)?;
+            let right = resolve(alloc, scopes, b)?;
+            choice(alloc, test, is_zero(a), is_zero(b), left, right)
+        }
+    }
+}
+
+/// Of an expression where a value of a type is wanted.
+pub fn value_of(
+    alloc: Global,
+    scopes: &Scopes<'_>,
+    expr: &Expr,
+    ty: Ty,
+) -> Result<Option<TypedExpr>, NoMemory>
+    ensures { IfOk result (λ value. optional_expr_tree value ≡ r.value_of scopes.now (expr_tree expr.now) ty) }
+{
+    given(alloc, ty, is_zero(expr), resolve(alloc, scopes, expr)?)
+}

@@ -1,0 +1,192 @@
+//! What assignments write.
+
+ghost use Rattle.std.specs.Prelude.{◌≡◌, IfOk};
+ghost use Rattle.cas_syntax.specs.Tree.{expr_tree, target_tree};
+ghost use Rattle.cas_type.specs.Answer.{Passes};
+ghost use Rattle.cas_type.specs.View.{found_of, meaning_of, written_of};
+ghost use Rattle.cas_typed.specs.Numbered.{optional_expr_tree};
+ghost use Rattle.cas_typed.specs.Resolving as r;
+ghost use Rattle.cas_typed.specs.Typing.{assigned, cell_of};
+ghost use Rattle.cas_typed.specs.Walk as w;
+
+use crate::fault::TypeFault;
+use crate::forms::{cell_behind, given};
+use crate::found::{Found, Operands, boxes, pair};
+use crate::kinds::signedness;
+use crate::names::{check_alone, check_declared, check_names};
+use crate::operators::binary;
+use crate::resolve::{indexed, is_zero, named, resolve, value_of};
+use crate::scope::{Meaning, Scopes};
+use cas_base::{Form, NoMemory, Ty};
+use cas_syntax::{BinaryOperator, Expr, Ident, LValue};
+use cas_typed::{TypedExpr, TypedTarget};
+use std::alloc::Global;
+
+/// A cell that may be written, with its type.
+#[derive(Drop)]
+pub struct Written {
+    pub target: TypedTarget,
+    pub ty: Ty,
+}
+
+/// The faults of names in a target, in order of text.
+#[tactic(auto, using(crate::proofs::By_parts::refuses_sooner))]
+pub fn check_target(alloc: Global, scopes: &Scopes<'_>, target: &LValue) -> Result<(), TypeFault>
+    ensures { Passes result (w.target_fault scopes.now (target_tree target.now)) }
+{
+    match target {
+        LValue::Name(ident) => check_alone(alloc, ident, scopes.meaning(ident)),
+        LValue::Index(ident, index) => {
+            check_declared(alloc, ident, scopes.meaning(ident))?;
+            check_names(alloc, scopes, index)
+        }
+        LValue::Deref(pointer) => check_names(alloc, scopes, pointer),
+    }
+}
+
+/// Of a name: a local integer or pointer, or a shared integer.
+pub fn write_named(ident: &Ident, meaning: Meaning<'_>) -> Option<Written>
+    ensures { written_of result ≡ r.write_named ident.now (meaning_of meaning.entry) }
+{
+    match meaning {
+        Meaning::Undeclared => None,
+        Meaning::Variable(n, ty) => match ty {
+            Ty::Int(_) | Ty::Ptr(_) => Some(Written {
+                target: TypedTarget::Local(n),
+                ty,
+            }),
+            Ty::Void | Ty::Array(..) => None,
+        },
+        Meaning::Item(g, form) => match form {
+            Form::Shared { ty, .. } => match *ty {
+                Ty::Int(k) => Some(Written {
+                    target: TypedTarget::Global(g, ident.place),
+                    ty: Ty::Int(k),
+                }),
+                Ty::Void | Ty::Ptr(_) | Ty::Array(..) => None,
+            },
+            Form::Lock | Form::Table { .. } | Form::Function { .. } => None,
+        },
+    }
+}
+
+/// Of `*p`, by `p`.
+pub fn write_behind(found: Found) -> Option<Written>
+    ensures { written_of result ≡ r.write_behind (found_of found) }
+{
+    match found {
+        Found::Pointer(p, k) => Some(Written {
+            target: TypedTarget::Behind(k, p),
+            ty: Ty::Int(k),
+        }),
+        Found::Unfit | Found::Word(..) => None,
+    }
+}
+
+/// Of `x[e]` where `x` is a local, by `x` and `e`.
+pub fn write_element_behind(
+    alloc: Global,
+    array: Found,
+    index: Found,
+) -> Result<Option<Written>, NoMemory>
+    ensures { IfOk result (λ whole. written_of whole ≡ r.write_element_behind (found_of array) (found_of index)) }
+{
+    match pair(array, index) {
+        Some(Operands::PointerAndWord(p, k, e, j)) => {
+            let (pointer, number) = boxes(alloc, p, e)?;
+            let expr = TypedExpr::PointerPlus(signedness(j), pointer, number);
+            Ok(Some(Written {
+                target: TypedTarget::Behind(k, expr),
+                ty: Ty::Int(k),
+            }))
+        }
+        Some(Operands::Words(..))
+        | Some(Operands::WordAndPointer(..))
+        | Some(Operands::Pointers(..)) => Ok(None),
+        None => Ok(None),
+    }
+}
+
+/// Of `x[e]`, by what is found of `e`.
+pub fn write_indexed(
+    alloc: Global,
+    ident: &Ident,
+    meaning: Meaning<'_>,
+    index: Found,
+) -> Result<Option<Written>, NoMemory>
+    ensures { IfOk result (λ whole. written_of whole ≡ r.write_indexed ident.now (meaning_of meaning.entry) (found_of index)) }
+{
+    match meaning {
+        Meaning::Item(g, form) => match form {
+            Form::Shared { ty, .. } => match *ty {
+                Ty::Array(k, _) => match index {
+                    Found::Word(e, j) => Ok(Some(Written {
+                        target: TypedTarget::Element(g, ident.place, signedness(j), e),
+                        ty: Ty::Int(k),
+                    })),
+                    Found::Unfit | Found::Pointer(..) => Ok(None),
+                },
+                Ty::Void | Ty::Int(_) | Ty::Ptr(_) => Ok(None),
+            },
+            Form::Lock | Form::Table { .. } | Form::Function { .. } => Ok(None),
+        },
+        Meaning::Undeclared | Meaning::Variable(..) => {
+            write_element_behind(alloc, named(ident, meaning), index)
+        }
+    }
+}
+
+/// Of a target: none where it is no cell that may be written.
+pub fn target_of(
+    alloc: Global,
+    scopes: &Scopes<'_>,
+    target: &LValue,
+) -> Result<Option<Written>, NoMemory>
+    ensures { IfOk result (λ whole. written_of whole ≡ r.target_of scopes.now (target_tree target.now)) }
+{
+    match target {
+        LValue::Name(ident) => Ok(write_named(ident, scopes.meaning(ident))),
+        LValue::Index(ident, index) => {
+            let index = resolve(alloc, scopes, index)?;
+            write_indexed(alloc, ident, scopes.meaning(ident), index)
+        }
+        LValue::Deref(pointer) => Ok(write_behind(resolve(alloc, scopes, pointer)?)),
+    }
+}
+
+// The cell of a target, read.
+fn cell(alloc: Global, scopes: &Scopes<'_>, target: &LValue) -> Result<Found, NoMemory>
+    ensures { IfOk result (λ found. found_of found ≡ r.resolved scopes.now (cell_of (target_tree target.now))) }
+{
+    match target {
+        LValue::Name(ident) => Ok(named(ident, scopes.meaning(ident))),
+        LValue::Index(ident, index) => {
+            let index = resolve(alloc, scopes, index)?;
+            indexed(alloc, ident, scopes.meaning(ident), index)
+        }
+        LValue::Deref(pointer) => cell_behind(alloc, resolve(alloc, scopes, pointer)?),
+    }
+}
+
+/// Of what is assigned, at the target's type: `x op= e` is `x = x op e`.
+#[tactic(auto, using(crate::proofs::By_parts::cell_is_not_null))]
+pub fn assigned_value(
+    alloc: Global,
+    scopes: &Scopes<'_>,
+    target: &LValue,
+    operator: Option<BinaryOperator>,
+    expr: &Expr,
+    ty: Ty,
+) -> Result<Option<TypedExpr>, NoMemory>
+    ensures { IfOk result (λ value. optional_expr_tree value ≡ r.value_of scopes.now (assigned (target_tree target.now) operator (expr_tree expr.now)) ty) }
+{
+    match operator {
+        None => value_of(alloc, scopes, expr, ty),
+        Some(operator) => {
+            let left = cell(alloc, scopes, target)?;
+            let right = resolve(alloc, scopes, expr)?;
+            let whole = binary(alloc, operator, false, is_zero(expr), left, right)?;
+            given(alloc, ty, false, whole)
+        }
+    }
+}
