@@ -1,8 +1,8 @@
 -- What is answered one after another: the form in which code evaluates.
 use Rattle.std.proofs.Common.{◌≡◌, ℕ, List, [], ◌++◌, Option, Some, None, refl, sym, ap, ◌∙◌, append_assoc}
-use Rattle.cas_step.specs.Asks.{Asks, gives, fails, senseless, reads, looks, loads, and_then}
+use Rattle.cas_step.specs.Asks.{Value, Asks, gives, fails, senseless, reads, looks, loads, and_then}
 use Rattle.cas_step.specs.Env.{Entity}
-use Rattle.cas_step.specs.Step.{Object, Block, Got, got, bad, stuck, having_read, if_there, trace_of, word_at, answered, cells_at, size_of, value_at}
+use Rattle.cas_step.specs.Answered.{Got, got, bad, stuck, having_read, if_there, trace_of, word_at, answered, size_of, value_at}
 
 -- what is got from what was got, where something was
 abbrev pub got_then : {A B : Type 0} → Got A → (A → Got B) → Got B
@@ -30,17 +30,16 @@ if_there-then None go next goes same = refl
 if_there-then (Some v) go next goes same = same v
 
 -- first this is answered, and then what follows on it
-pub answered-and_then : {A B : Type 0} (entity : ℕ → Option Entity) (ws : List ℕ) (memory : List Block) (x : Asks Object A) (next : A → Asks Object B) →
-    answered entity ws memory (and_then x next) ≡ got_then (answered entity ws memory x) (λ a. answered entity ws memory (next a))
-answered-and_then entity ws memory (gives a) next = sym (having_read-nothing (answered entity ws memory (next a)))
-answered-and_then entity ws memory (fails why) next = refl
-answered-and_then entity ws memory senseless next = refl
-answered-and_then entity ws memory (looks o more) next = answered-and_then entity ws memory (more (size_of (cells_at memory o))) next
-answered-and_then entity ws memory (loads o p more) next = if_there-then (value_at (cells_at memory o) p)
-    (λ v. answered entity ws memory (more v)) (λ a. answered entity ws memory (next a)) (λ v. answered entity ws memory (and_then (more v) next))
-    (λ v. answered-and_then entity ws memory (more v) next)
-answered-and_then entity ws memory (reads g i more) next =
-    ap (having_read (trace_of (entity g) i)) (if_there-then (word_at ws (entity g) i)
-    (λ n. answered entity ws memory (more n)) (λ a. answered entity ws memory (next a)) (λ n. answered entity ws memory (and_then (more n) next))
-    (λ n. answered-and_then entity ws memory (more n) next))
-    ∙ sym (having_read-then (trace_of (entity g) i) (if_there (word_at ws (entity g) i) (λ n. answered entity ws memory (more n))) (λ a. answered entity ws memory (next a)))
+pub answered-and_then : {O A B : Type 0} (entity : ℕ → Option Entity) (word : ℕ → Option ℕ) (cells : O → Option (List (Value O))) (x : Asks O A) (next : A → Asks O B) →
+    answered entity word cells (and_then x next) ≡ got_then (answered entity word cells x) (λ a. answered entity word cells (next a))
+answered-and_then entity word cells (gives a) next = sym (having_read-nothing (answered entity word cells (next a)))
+answered-and_then entity word cells (fails why) next = refl
+answered-and_then entity word cells senseless next = refl
+answered-and_then entity word cells (looks o more) next = answered-and_then entity word cells (more (size_of (cells o))) next
+answered-and_then entity word cells (loads o p more) next = if_there-then (value_at (cells o) p)
+    (λ v. answered entity word cells (more v)) (λ a. answered entity word cells (next a)) (λ v. answered entity word cells (and_then (more v) next))
+    (λ v. answered-and_then entity word cells (more v) next)
+answered-and_then entity word cells (reads g i more) next = if_there-then (word_at word (entity g) i)
+    (λ n. having_read (trace_of (entity g) i) (answered entity word cells (more n))) (λ a. answered entity word cells (next a)) (λ n. having_read (trace_of (entity g) i) (answered entity word cells (and_then (more n) next)))
+    (λ n. ap (having_read (trace_of (entity g) i)) (answered-and_then entity word cells (more n) next)
+    ∙ sym (having_read-then (trace_of (entity g) i) (answered entity word cells (more n)) (λ a. answered entity word cells (next a))))

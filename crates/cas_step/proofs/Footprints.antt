@@ -10,7 +10,8 @@ use Rattle.cas_step.specs.Env as env
 use Rattle.cas_step.specs.Evaluate.{Sight, Cell, of_object, of_global, value_of, values_of, test_of, target_of}
 use Rattle.cas_step.specs.Items.{Todo, begin, begun, loop, next, Deed, writes, into, jumps, after_break, after_continue, chooses, returned, statement_deed, deed_of}
 use Rattle.cas_step.specs.Laws.{names, target_names, option_names, statement_names, item_names}
-use Rattle.cas_step.specs.Step.{Object, Block, Got, got, bad, stuck, having_read, if_there, trace_of, word_at, answered, cells_at, size_of, value_at}
+use Rattle.cas_step.specs.Answered.{Got, got, bad, stuck, having_read, if_there, trace_of, word_at, answered, size_of, value_at}
+use Rattle.cas_step.specs.Step.{Object}
 use Rattle.cas_step.proofs.Within.{Within, Any, IsPlaceIn, Below, then_within, word_within, value_within, values_within, test_within, target_within, CellBelow, AllNamed, left, right}
 
 -- what a deed writes is a word of a named global, at a place below its length
@@ -127,29 +128,30 @@ module _ (entity : ℕ → Option Entity) (N : ℕ → Type 0) where
   there_so P (Some v) go h = h v
 
   -- the words that are read belong to the named globals
-  pub answered_named : {A : Type 0} (P : A → Type 0) (ws : List ℕ) (memory : List Block) (x : Asks Object A) → Within entity N x P → (n : ℕ) →
-      Contains (reads_of (answered entity ws memory x)) n → WordOf entity N n
-  answered_named P ws memory (gives a) h n (k, b, same) = absurd (omega (arith, b))
-  answered_named P ws memory (fails why) h n (k, b, same) = absurd (omega (arith, b))
-  answered_named P ws memory senseless h n (k, b, same) = absurd (omega (arith, b))
-  answered_named P ws memory (looks o more) h n c = answered_named P ws memory (more (size_of (cells_at memory o))) (h (size_of (cells_at memory o))) n c
-  answered_named P ws memory (loads o p more) h n c =
-      there_reads (value_at (cells_at memory o) p) (λ v. answered entity ws memory (more v)) n c (λ v d. answered_named P ws memory (more v) (h v) n d)
-  answered_named P ws memory (reads g i more) h n c =
-      one_or_other (trace_of (entity g) i) (if_there (word_at ws (entity g) i) (λ m. answered entity ws memory (more m))) n c
-      (λ d. trace_named g i (entity g) refl h.0 h.1 n d)
-      (λ d. there_reads (word_at ws (entity g) i) (λ m. answered entity ws memory (more m)) n d (λ m k. answered_named P ws memory (more m) (h.2 m) n k))
+  pub answered_named : {A : Type 0} (P : A → Type 0) (word : ℕ → Option ℕ) (cells : Object → Option (List (Value Object))) (x : Asks Object A) → Within entity N x P → (n : ℕ) →
+      Contains (reads_of (answered entity word cells x)) n → WordOf entity N n
+  answered_named P word cells (gives a) h n (k, b, same) = absurd (omega (arith, b))
+  answered_named P word cells (fails why) h n (k, b, same) = absurd (omega (arith, b))
+  answered_named P word cells senseless h n (k, b, same) = absurd (omega (arith, b))
+  answered_named P word cells (looks o more) h n c = answered_named P word cells (more (size_of (cells o))) (h (size_of (cells o))) n c
+  answered_named P word cells (loads o p more) h n c =
+      there_reads (value_at (cells o) p) (λ v. answered entity word cells (more v)) n c (λ v d. answered_named P word cells (more v) (h v) n d)
+  answered_named P word cells (reads g i more) h n c =
+      there_reads (word_at word (entity g) i) (λ m. having_read (trace_of (entity g) i) (answered entity word cells (more m))) n c (λ m d.
+      one_or_other (trace_of (entity g) i) (answered entity word cells (more m)) n d
+      (λ k. trace_named g i (entity g) refl h.0 h.1 n k)
+      (λ k. answered_named P word cells (more m) (h.2 m) n k))
 
   -- what is got is so
-  pub answered_so : {A : Type 0} (P : A → Type 0) (ws : List ℕ) (memory : List Block) (x : Asks Object A) → Within entity N x P → GotSo P (answered entity ws memory x)
-  answered_so P ws memory (gives a) h = h
-  answered_so P ws memory (fails why) h = tt
-  answered_so P ws memory senseless h = tt
-  answered_so P ws memory (looks o more) h = answered_so P ws memory (more (size_of (cells_at memory o))) (h (size_of (cells_at memory o)))
-  answered_so P ws memory (loads o p more) h = there_so P (value_at (cells_at memory o) p) (λ v. answered entity ws memory (more v)) (λ v. answered_so P ws memory (more v) (h v))
-  answered_so P ws memory (reads g i more) h =
-      so-having_read P (trace_of (entity g) i) (if_there (word_at ws (entity g) i) (λ n. answered entity ws memory (more n)))
-      (there_so P (word_at ws (entity g) i) (λ n. answered entity ws memory (more n)) (λ n. answered_so P ws memory (more n) (h.2 n)))
+  pub answered_so : {A : Type 0} (P : A → Type 0) (word : ℕ → Option ℕ) (cells : Object → Option (List (Value Object))) (x : Asks Object A) → Within entity N x P → GotSo P (answered entity word cells x)
+  answered_so P word cells (gives a) h = h
+  answered_so P word cells (fails why) h = tt
+  answered_so P word cells senseless h = tt
+  answered_so P word cells (looks o more) h = answered_so P word cells (more (size_of (cells o))) (h (size_of (cells o)))
+  answered_so P word cells (loads o p more) h = there_so P (value_at (cells o) p) (λ v. answered entity word cells (more v)) (λ v. answered_so P word cells (more v) (h v))
+  answered_so P word cells (reads g i more) h =
+      there_so P (word_at word (entity g) i) (λ n. having_read (trace_of (entity g) i) (answered entity word cells (more n)))
+      (λ n. so-having_read P (trace_of (entity g) i) (answered entity word cells (more n)) (answered_so P word cells (more n) (h.2 n)))
 
 -- words that agree
 
@@ -158,7 +160,7 @@ abbrev pub AgreeIn : (ws vs : List ℕ) → Option Entity → Type 0
 AgreeIn ws vs it = (first len i : ℕ) → it ≡ Some (table first len) → i < len → slice_get ws (first + i) ≡ slice_get vs (first + i)
 
 word_same : (ws vs : List ℕ) (it : Option Entity) (i : ℕ) → IsPlaceIn it i → AgreeIn ws vs it →
-    ((n : ℕ) → Contains (trace_of it i) n → slice_get ws n ≡ slice_get vs n) → word_at ws it i ≡ word_at vs it i
+    ((n : ℕ) → Contains (trace_of it i) n → slice_get ws n ≡ slice_get vs n) → word_at (slice_get ws) it i ≡ word_at (slice_get vs) it i
 word_same ws vs None i below tables read = refl
 word_same ws vs (Some (function f)) i below tables read = refl
 word_same ws vs (Some outside) i below tables read = refl
@@ -166,26 +168,45 @@ word_same ws vs (Some (env.lock m)) i below tables read = refl
 word_same ws vs (Some (table first len)) i below tables read = tables first len i refl below
 word_same ws vs (Some (shared first len guard)) i below tables read = read (first + i) (0, omega arith, refl)
 
-there_same : {V A : Type 0} (x : Option V) (go more : V → Got A) → ((v : V) → ((n : ℕ) → Contains (reads_of (more v)) n → Contains (reads_of (if_there x more)) n) → go v ≡ more v) → if_there x go ≡ if_there x more
-there_same None go more same = refl
-there_same (Some v) go more same = same v (λ n c. c)
+-- it isn't stuck
+abbrev pub IsTold : {A : Type 0} → Got A → Type 0
+IsTold (got rs a) = ⊤
+IsTold (bad rs why) = ⊤
+IsTold (stuck rs) = ⊥
+
+told_behind : {A : Type 0} (before : List ℕ) (x : Got A) → IsTold (having_read before x) → IsTold x
+told_behind before (got rs a) h = tt
+told_behind before (bad rs why) h = tt
+told_behind before (stuck rs) h = h
+
+there_same : {V A : Type 0} (x : Option V) (go more : V → Got A) → IsTold (if_there x more) →
+    ((v : V) → IsTold (more v) → ((n : ℕ) → Contains (reads_of (more v)) n → Contains (reads_of (if_there x more)) n) → go v ≡ more v) → if_there x go ≡ if_there x more
+there_same None go more told same = absurd told
+there_same (Some v) go more told same = same v told (λ n c. c)
+
+-- the same word, and then the same
+read_same : {A : Type 0} (trace : List ℕ) (w v : Option ℕ) (go more : ℕ → Got A) → IsTold (if_there w (λ n. having_read trace (more n))) →
+    (((n : ℕ) → Contains trace n → Contains (reads_of (if_there w (λ m. having_read trace (more m)))) n) → v ≡ w) →
+    ((m : ℕ) → IsTold (more m) → ((n : ℕ) → Contains (reads_of (more m)) n → Contains (reads_of (if_there w (λ k. having_read trace (more k)))) n) → go m ≡ more m) →
+    if_there v (λ n. having_read trace (go n)) ≡ if_there w (λ n. having_read trace (more n))
+read_same trace None v go more told word rest = absurd told
+read_same trace (Some m) v go more told word rest =
+    ap (λ o. if_there o (λ n. having_read trace (go n))) (word (λ n c. in_front trace (more m) n c))
+    ∙ ap (having_read trace) (rest m (told_behind trace (more m) told) (λ n c. behind trace (more m) n c))
 
 -- the same is got from words that agree on what is read, and on tables
-pub answered_same : {A : Type 0} (entity : ℕ → Option Entity) (N : ℕ → Type 0) (P : A → Type 0) (ws vs : List ℕ) (memory : List Block) (x : Asks Object A) →
-    Within entity N x P → ((g : ℕ) → AgreeIn ws vs (entity g)) →
-    ((n : ℕ) → Contains (reads_of (answered entity ws memory x)) n → slice_get ws n ≡ slice_get vs n) →
-    answered entity vs memory x ≡ answered entity ws memory x
-answered_same entity N P ws vs memory (gives a) h tables read = refl
-answered_same entity N P ws vs memory (fails why) h tables read = refl
-answered_same entity N P ws vs memory senseless h tables read = refl
-answered_same entity N P ws vs memory (looks o more) h tables read = answered_same entity N P ws vs memory (more (size_of (cells_at memory o))) (h (size_of (cells_at memory o))) tables read
-answered_same entity N P ws vs memory (loads o p more) h tables read =
-    there_same (value_at (cells_at memory o) p) (λ v. answered entity vs memory (more v)) (λ v. answered entity ws memory (more v))
-    (λ v within. answered_same entity N P ws vs memory (more v) (h v) tables (λ n c. read n (within n c)))
-answered_same entity N P ws vs memory (reads g i more) h tables read =
-    ap (λ w. having_read (trace_of (entity g) i) (if_there w (λ n. answered entity vs memory (more n))))
-    (sym (word_same ws vs (entity g) i h.1 (tables g) (λ n c. read n (in_front (trace_of (entity g) i) (if_there (word_at ws (entity g) i) (λ m. answered entity ws memory (more m))) n c))))
-    ∙ ap (having_read (trace_of (entity g) i))
-    (there_same (word_at ws (entity g) i) (λ n. answered entity vs memory (more n)) (λ n. answered entity ws memory (more n))
-    (λ m within. answered_same entity N P ws vs memory (more m) (h.2 m) tables
-    (λ n c. read n (behind (trace_of (entity g) i) (if_there (word_at ws (entity g) i) (λ k. answered entity ws memory (more k))) n (within n c)))))
+pub answered_same : {A : Type 0} (entity : ℕ → Option Entity) (N : ℕ → Type 0) (P : A → Type 0) (ws vs : List ℕ) (cells : Object → Option (List (Value Object))) (x : Asks Object A) →
+    Within entity N x P → ((g : ℕ) → AgreeIn ws vs (entity g)) → IsTold (answered entity (slice_get ws) cells x) →
+    ((n : ℕ) → Contains (reads_of (answered entity (slice_get ws) cells x)) n → slice_get ws n ≡ slice_get vs n) →
+    answered entity (slice_get vs) cells x ≡ answered entity (slice_get ws) cells x
+answered_same entity N P ws vs cells (gives a) h tables told read = refl
+answered_same entity N P ws vs cells (fails why) h tables told read = refl
+answered_same entity N P ws vs cells senseless h tables told read = refl
+answered_same entity N P ws vs cells (looks o more) h tables told read = answered_same entity N P ws vs cells (more (size_of (cells o))) (h (size_of (cells o))) tables told read
+answered_same entity N P ws vs cells (loads o p more) h tables told read =
+    there_same (value_at (cells o) p) (λ v. answered entity (slice_get vs) cells (more v)) (λ v. answered entity (slice_get ws) cells (more v)) told
+    (λ v also within. answered_same entity N P ws vs cells (more v) (h v) tables also (λ n c. read n (within n c)))
+answered_same entity N P ws vs cells (reads g i more) h tables told read =
+    read_same (trace_of (entity g) i) (word_at (slice_get ws) (entity g) i) (word_at (slice_get vs) (entity g) i) (λ n. answered entity (slice_get vs) cells (more n)) (λ n. answered entity (slice_get ws) cells (more n)) told
+    (λ within. sym (word_same ws vs (entity g) i h.1 (tables g) (λ n c. read n (within n c))))
+    (λ m also within. answered_same entity N P ws vs cells (more m) (h.2 m) tables also (λ n c. read n (within n c)))

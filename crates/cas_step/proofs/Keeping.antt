@@ -1,26 +1,27 @@
 -- What keeps a thread sound: other items to do, a value stored, a call, a return.
-use Rattle.std.proofs.Common.{arith, ◌≡◌, inl, inr, ℕ, zero, suc, ◌+◌, ◌^◌, ◌<◌, ◌≤◌, Bool, true, false, List, [], ◌∷◌, length, map, take, replicate, Option, Some, None, refl, sym, ap, subst, ◌∙◌, if◌then◌else◌, IsTrue}
+use Rattle.std.proofs.Common.{arith, ◌≡◌, ℕ, zero, suc, ◌<◌, ◌≤◌, Bool, true, false, List, [], ◌∷◌, length, take, replicate, Option, Some, refl, sym, ap, subst, ◌∙◌, if◌then◌else◌, IsTrue}
 use Rattle.std.specs.Prelude.{⊤, nat_eq, slice_get, slice_set}
-use Rattle.std.proofs.lemmas.Bool.{eq-eqb, ne_eqb, eqb-true}
+use Rattle.std.proofs.lemmas.Bool.{eq-eqb, eqb-true}
 use Rattle.cas_base.specs.Kind.{is_of_kind}
 use Rattle.cas_base.specs.Ty.{words_of_ty}
-use Rattle.cas_base.specs.Word.{narrowed}
 use Rattle.cas_base.specs.declared.kind.Kind.{Kind}
 use Rattle.cas_base.specs.declared.kind.Kind.TheVariants.{I8, U8, I16, U16, I32, U32}
 use Rattle.cas_base.specs.declared.kind.Ty.{Ty}
 use Rattle.cas_base.specs.declared.kind.Ty.TheVariants.{Void, Int, Ptr, Array}
 use Rattle.cas_base.proofs.KindLaws.{narrowed_is_of_kind}
 use Rattle.cas_typed.specs.declared.tree.Destination.{Destination}
-use Rattle.cas_typed.specs.Resolved.{TypedFunTree, TypedModuleTree}
+use Rattle.cas_typed.specs.Resolved.{TypedModuleTree}
 use Rattle.cas_typed.specs.Sorts.{IsLocal, MayKeep}
 use Rattle.cas_step.specs.Asks.{Value, word, null, pointer}
-use Rattle.cas_step.specs.Env.{FunctionAt, Env}
+use Rattle.cas_step.specs.Env.{Env}
 use Rattle.cas_step.specs.Fits.{FitsWord, FitEach}
 use Rattle.cas_step.specs.Items.{Todo}
-use Rattle.cas_step.specs.Sound.{types_of, types_at, IsOfType, cell_type, EachOfType, AreLocals, AreBlocks, IsSoundActivation, CallerKeeps, AreActivations, IsSound}
-use Rattle.cas_step.specs.Step.{Object, Activation, Block, Config, memory_with, memory_without, locals_of, zero_of, converted}
-use Rattle.cas_step.proofs.Memory.{IsLater, value_later, blocks_later, MayHold, blocks_set}
+use Rattle.cas_step.specs.Sound.{types_of, types_at, IsOfType, cell_type, EachOfType, AreLocals, AreBlocks, CallerKeeps, AreActivations}
+use Rattle.cas_step.specs.Answered.{value_at}
+use Rattle.cas_step.specs.Step.{Object, Activation, Block, Config, memory_without, locals_of, zero_of, converted, cells_at}
+use Rattle.cas_step.proofs.Memory.{IsLater, value_later, MayHold, CellsMatch, type_at, object_match, value_there}
 use Rattle.cas_step.proofs.Situation.{word_of_kind}
+use Rattle.cas_step.proofs.Values.{ThereIs}
 
 -- words with one that fits set
 
@@ -121,22 +122,40 @@ module _ (modules : List TypedModuleTree) (e : Env) where
   types_before before n [] tys h found = absurd (cc found)
   types_before before n (a ∷ older) tys h found = before_by before n a older tys (nat_eq a.serial n) refl h.0 (λ f. types_before a.serial n older tys h.3 f) found
 
-  -- what a caller may keep is of its local's type
-  pub kept_typed : (c : Config) (types : List Ty) (d : Destination) (ret : Ty) (v : Value Object) → MayKeep types (Some d) ret → IsOfType e c ret v → IsLocal types d.local d.ty × IsOfType e c (cell_type d.ty) (converted d.ty v)
-  kept_typed c types d (Int j) (word n) h of =
-      (h.2, subst (λ ty. IsOfType e c (cell_type ty) (converted ty (word n))) (sym h.1) (narrowed_is_of_kind n h.0 (word_of_kind n j of)))
-  kept_typed c types d (Int j) null h of = absurd of
-  kept_typed c types d (Int j) (pointer o p) h of = absurd of
-  kept_typed c types d (Ptr k) v h of = (h.1, subst (λ ty. IsOfType e c (cell_type ty) (converted ty v)) (sym h.0) of)
+  -- what a caller may keep is converted to its local's type, in each of these threads
+  pub kept_typed : (c : List Block → Config) (types : List Ty) (d : Destination) (ret : Ty) (v : Value Object) → MayKeep types (Some d) ret → ((m : List Block) → IsOfType e (c m) ret v) →
+      IsLocal types d.local d.ty × (0 < words_of_ty d.ty) × ThereIs (λ w. (m : List Block) → IsOfType e (c m) (cell_type d.ty) w) (converted d.ty v)
+  kept_typed c types d (Int j) (word n) h of = (
+    h.2,
+    subst (λ ty. 0 < words_of_ty ty) (sym h.1) (omega arith),
+    subst (λ ty. ThereIs (λ w. (m : List Block) → IsOfType e (c m) (cell_type ty) w) (converted ty (word n))) (sym h.1) (λ m. narrowed_is_of_kind n h.0 (word_of_kind n j (of m))),
+  )
+  kept_typed c types d (Int j) null h of = absurd (of [])
+  kept_typed c types d (Int j) (pointer o p) h of = absurd (of [])
+  kept_typed c types d (Ptr k) (word n) h of = absurd (of [])
+  kept_typed c types d (Ptr k) null h of =
+      (h.1, subst (λ ty. 0 < words_of_ty ty) (sym h.0) (omega arith), subst (λ ty. ThereIs (λ w. (m : List Block) → IsOfType e (c m) (cell_type ty) w) (converted ty null)) (sym h.0) of)
+  kept_typed c types d (Ptr k) (pointer o p) h of =
+      (h.1, subst (λ ty. 0 < words_of_ty ty) (sym h.0) (omega arith), subst (λ ty. ThereIs (λ w. (m : List Block) → IsOfType e (c m) (cell_type ty) w) (converted ty (pointer o p))) (sym h.0) of)
   kept_typed c types d Void v h of = absurd h
   kept_typed c types d (Array k n) v h of = absurd h
+
+  caller_types : (caller : Activation) (older : List Activation) → types_at e (caller ∷ older) caller.serial ≡ Some (types_of e caller)
+  caller_types caller older = ap (λ t. if t then Some (types_of e caller) else types_at e older caller.serial) (eq-eqb caller.serial caller.serial refl)
+
+  -- a caller's local is there
+  pub kept_there : (c : Config) (caller : Activation) (older : List Activation) (memory : List Block) (d : Destination) → AreBlocks e c (caller ∷ older) memory → IsLocal (types_of e caller) d.local d.ty → 0 < words_of_ty d.ty →
+      ThereIs (IsOfType e c (cell_type d.ty)) (value_at (cells_at memory (record { serial = caller.serial; local = d.local })) 0)
+  kept_there c caller older memory d blocks is words =
+      value_there e c d.ty (cells_at memory (record { serial = caller.serial; local = d.local })) 0
+      (subst (λ x. CellsMatch e c x (cells_at memory (record { serial = caller.serial; local = d.local }))) (ap (λ tys. type_at e c tys d.local) (caller_types caller older) ∙ is)
+      (object_match e c (caller ∷ older) memory blocks (record { serial = caller.serial; local = d.local }))) words
 
   -- a caller's local holds it
   pub kept_holds : (c : Config) (caller : Activation) (older : List Activation) (d : Destination) (v : Value Object) → IsLocal (types_of e caller) d.local d.ty → IsOfType e c (cell_type d.ty) v →
       MayHold e c (caller ∷ older) (record { serial = caller.serial; local = d.local }) v
   kept_holds c caller older d v is of tys ty these has =
-      let here : types_at e (caller ∷ older) caller.serial ≡ Some (types_of e caller) = ap (λ t. if t then Some (types_of e caller) else types_at e older caller.serial) (eq-eqb caller.serial caller.serial refl) in
-      let both : Some (types_of e caller) ≡ Some tys = sym here ∙ these in
+      let both : Some (types_of e caller) ≡ Some tys = sym (caller_types caller older) ∙ these in
       let same : types_of e caller ≡ tys = cc both in
       let it : Some d.ty ≡ Some ty = sym is ∙ ap (λ ts. slice_get ts d.local) same ∙ has in
       let one : d.ty ≡ ty = cc it in

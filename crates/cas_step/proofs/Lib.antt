@@ -5,12 +5,14 @@ mod Footprints
 mod Keeping
 mod Memory
 mod Operator_examples
+mod Place_examples
 mod Running
 mod Situation
 mod Soundness
 mod Standing
 mod Steps
 mod Tables
+mod Targets
 mod Values
 mod Within
 mod Words

@@ -8,7 +8,8 @@ use Rattle.cas_base.specs.declared.kind.Ty.TheVariants.{Void, Int, Ptr, Array}
 use Rattle.cas_step.specs.Asks.{Value, word, null, pointer}
 use Rattle.cas_step.specs.Env.{Env}
 use Rattle.cas_step.specs.Sound.{types_of, types_at, IsObjectOf, PointsTo, IsOfType, cell_type, EachOfType, AreLocals, AreBlocks}
-use Rattle.cas_step.specs.Step.{Object, Activation, Block, Config, locals_at, local_at, cells_at, size_of, value_at, with_local, memory_with}
+use Rattle.cas_step.specs.Answered.{size_of, value_at}
+use Rattle.cas_step.specs.Step.{Object, Activation, Block, Config, locals_at, local_at, cells_at, with_local, memory_with}
 use Rattle.cas_step.proofs.Values.{ThereIs}
 
 module _ (e : Env) where

@@ -24,13 +24,17 @@ stmts (a ∷ rest) = t.one_more a (stmts rest)
 abbrev pub function_of : Ty → List Ty → List TypedStmtTree → Function
 function_of ret locals body = record { ret = ret; locals = locals; body = stmts body; closing = at 99 }
 
--- one module of these functions, whose items stand for these
-abbrev pub module_of : List Function → List Entity → Env
-module_of fs es = record {
-  function = λ f. slice_index_or fs f.place (function_of Void [] []);
-  entity = λ unit g. slice_get es g;
+-- modules of these functions, whose items stand for these
+abbrev pub modules_of : List (List Function) → List (List Entity) → Env
+modules_of fs es = record {
+  function = λ f. slice_index_or (slice_index_or fs f.unit []) f.place (function_of Void [] []);
+  entity = λ unit g. slice_get (slice_index_or es unit []) g;
   kinds = [];
 }
+
+-- one module of these functions, whose items stand for these
+abbrev pub module_of : List Function → List Entity → Env
+module_of fs es = modules_of (fs ∷ []) (es ∷ [])
 
 abbrev pub number : ℕ → TypedExprTree
 number n = t.literal n
@@ -86,3 +90,16 @@ told e ws = run e 200 ws (start e (record { unit = 0; place = 0 }) (word 0 ∷ [
 -- the body of a thread's function with these locals behind its parameter, in a module of this function and these others
 abbrev pub thread : List Ty → List Function → List Entity → List TypedStmtTree → Outcome
 thread locals others items body = told (module_of (function_of Void (Int I32 ∷ locals) body ∷ others) items) []
+
+-- the places of the steps of a run, each by its module and column
+abbrev pub places_by : (List ℕ → Config → List (ℕ × ℕ)) → Option Step → List (ℕ × ℕ)
+places_by go None = []
+places_by go (Some s) = (s.unit, s.place.col) ∷ go s.words s.next
+
+abbrev pub places : Env → (steps : ℕ) → (words : List ℕ) → Config → List (ℕ × ℕ)
+places e zero ws c = []
+places e (suc n) ws c = places_by (places e n) (step e ws c)
+
+-- those of the first function of the first module, run as thread 0 over these words
+abbrev pub told_places : Env → List ℕ → List (ℕ × ℕ)
+told_places e ws = places e 200 ws (start e (record { unit = 0; place = 0 }) (word 0 ∷ []))

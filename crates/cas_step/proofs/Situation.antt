@@ -1,6 +1,6 @@
 -- Where a sound thread stands that hasn't ended: what evaluating meets there.
-use Rattle.std.proofs.Common.{arith, ◌≡◌, inl, inr, ℕ, zero, suc, ◌+◌, ◌^◌, ◌<◌, ◌≤◌, Bool, true, false, List, [], ◌∷◌, length, map, Option, Some, None, refl, sym, ap, subst, ◌∙◌, if◌then◌else◌, IsTrue}
-use Rattle.std.specs.Prelude.{⊤, ◌⊎◌, nat_eq, slice_get, All}
+use Rattle.std.proofs.Common.{arith, ◌≡◌, inl, inr, ℕ, zero, suc, ◌+◌, ◌^◌, ◌<◌, ◌≤◌, false, List, [], ◌∷◌, map, Option, Some, None, refl, sym, ap, subst, ◌∙◌, if◌then◌else◌, IsTrue}
+use Rattle.std.specs.Prelude.{◌⊎◌, slice_get, All}
 use Rattle.std.specs.Option.{option_map}
 use Rattle.std.proofs.lemmas.Bool.{eq-eqb}
 use Rattle.std.proofs.lemmas.Bool.Decides.{nat_tests}
@@ -13,7 +13,6 @@ use Rattle.cas_base.specs.declared.decl.Form.TheVariants.{Lock, Shared, Table, F
 use Rattle.cas_base.specs.declared.kind.Kind.{Kind}
 use Rattle.cas_base.specs.declared.kind.Ty.{Ty}
 use Rattle.cas_base.specs.declared.kind.Ty.TheVariants.{Void, Int, Ptr, Array}
-use Rattle.cas_syntax.specs.Tree.{FunTree, define}
 use Rattle.cas_typed.specs.Modules.{decl_of, return_type}
 use Rattle.cas_typed.specs.Resolved.{TypedFunTree, TypedModuleTree}
 use Rattle.cas_typed.specs.Sorts as so
@@ -22,9 +21,10 @@ use Rattle.cas_typed.specs.Types.{variable_type}
 use Rattle.cas_step.specs.Asks.{Value, word, null, pointer}
 use Rattle.cas_step.specs.Env.{FunctionAt, Entity, function, outside, shared, table, lock, length_of, Env}
 use Rattle.cas_step.specs.Fits.{IsAt, IsFunctionOf, kind_of, AreCells, StandsFor, Suits, FitsWord, FitEach, FitsWords}
-use Rattle.cas_step.specs.Literals.{BodyHasWords}
+use Rattle.cas_typed.specs.Literals.{BodyHasWords}
 use Rattle.cas_step.specs.Sound.{types_of, types_at, IsObjectOf, PointsTo, IsOfType, cell_type, AreBlocks}
-use Rattle.cas_step.specs.Step.{Object, Activation, Block, Config, Here, sight_of, cells_at, size_of, value_at, word_at}
+use Rattle.cas_step.specs.Answered.{size_of, value_at, word_at}
+use Rattle.cas_step.specs.Step.{Object, Activation, Block, Config, Here, sight_of, cells_at}
 use Rattle.cas_step.proofs.Memory.{CellsMatch, type_at, object_match, value_there, reached, IsLive}
 use Rattle.cas_step.proofs.Values.{ThereIs, IsWord, OfSort, Sees}
 
@@ -66,7 +66,7 @@ module _ (modules : List TypedModuleTree) (e : Env) (suits : Suits modules e) (f
 
 -- words that fit
 
-word_fits : (kinds : List (Option Kind)) (ws : List ℕ) (n : ℕ) (k : Option Kind) → FitEach kinds ws → slice_get kinds n ≡ Some k → ThereIs (FitsWord k) (slice_get ws n)
+pub word_fits : (kinds : List (Option Kind)) (ws : List ℕ) (n : ℕ) (k : Option Kind) → FitEach kinds ws → slice_get kinds n ≡ Some k → ThereIs (FitsWord k) (slice_get ws n)
 word_fits [] [] n k h is = absurd (cc is)
 word_fits [] (w ∷ ws) n k h is = absurd h
 word_fits (j ∷ ks) [] n k h is = absurd h
@@ -80,7 +80,7 @@ module _ (modules : List TypedModuleTree) (e : Env) (suits : Suits modules e) (u
 
   -- a variable has so many words, of a kind
   abbrev IsStretch : Ty → (ws : List ℕ) → Option Entity → Type 0
-  IsStretch ty ws it = (length_of it ≡ Some (words_of_ty ty)) × ((i : ℕ) → i < words_of_ty ty → ThereIs (FitsWord (kind_of ty)) (word_at ws it i))
+  IsStretch ty ws it = (length_of it ≡ Some (words_of_ty ty)) × ((i : ℕ) → i < words_of_ty ty → ThereIs (FitsWord (kind_of ty)) (word_at (slice_get ws) it i))
 
   stretch_by : (form : Form) (ty : Ty) (ws : List ℕ) (it : Option Entity) → FitsWords e ws → variable_type form ≡ Some ty → StandsFor modules e form it → IsStretch ty ws it
   stretch_by Lock ty ws it fits is stands = absurd (cc is)
@@ -112,8 +112,8 @@ module _ (modules : List TypedModuleTree) (e : Env) (suits : Suits modules e) (u
   pub length_there : (g : ℕ) (ty : Ty) (ws : List ℕ) → FitsWords e ws → IsVariable (map decl_of unit.module_tree.items) g ty → length_of (e.entity n g) ≡ Some (words_of_ty ty)
   length_there g ty ws fits is = (variable_stretch g ty ws fits is).0
 
-  pub word_there : (g : ℕ) (ty : Ty) (k : Kind) (i : ℕ) (ws : List ℕ) → FitsWords e ws → IsVariable (map decl_of unit.module_tree.items) g ty → kind_of ty ≡ Some k → i < words_of_ty ty → ThereIs IsWord (word_at ws (e.entity n g) i)
-  word_there g ty k i ws fits is of less = there_map (FitsWord (kind_of ty)) IsWord (word_at ws (e.entity n g) i) ((variable_stretch g ty ws fits is).1 i less) (λ w h. word_by (kind_of ty) k w of h)
+  pub word_there : (g : ℕ) (ty : Ty) (k : Kind) (i : ℕ) (ws : List ℕ) → FitsWords e ws → IsVariable (map decl_of unit.module_tree.items) g ty → kind_of ty ≡ Some k → i < words_of_ty ty → ThereIs IsWord (word_at (slice_get ws) (e.entity n g) i)
+  word_there g ty k i ws fits is of less = there_map (FitsWord (kind_of ty)) IsWord (word_at (slice_get ws) (e.entity n g) i) ((variable_stretch g ty ws fits is).1 i less) (λ w h. word_by (kind_of ty) k w of h)
 
 -- the locals
 
@@ -190,7 +190,7 @@ module _ (e : Env) (a : Activation) (older : List Activation) (memory : List Blo
         (ty : Ty) × (slice_get tys o.local ≡ Some ty) × IsObjectOf ty k × (q ≤ words_of_ty ty)
     within_by k o p m q points size at_most tys these =
         let it = reached e thread k o p m (Some tys) (cells_at memory o) these points
-            (subst (λ x. CellsMatch e thread (type_at e thread x o.local) (cells_at memory o)) these (object_match e thread (a ∷ older) memory blocks o)) size in
+        (subst (λ x. CellsMatch e thread (type_at e thread x o.local) (cells_at memory o)) these (object_match e thread (a ∷ older) memory blocks o)) size in
         (it.ty, it.has_type, it.is_object, subst (λ n. q ≤ n) it.size at_most)
 
     pub moves_there : (k : Kind) (o : Object) (p m q : ℕ) → Points k o p → size_of (cells_at memory o) ≡ Some m → q ≤ m → Points k o q

@@ -1,6 +1,6 @@
 -- A sound thread has a step over words that fit, and stays sound.
-use Rattle.std.proofs.Common.{arith, ◌≡◌, inl, inr, ℕ, ◌+◌, ◌^◌, ◌<◌, ◌≤◌, Bool, true, false, List, [], ◌∷◌, length, take, Option, Some, None, refl, sym, ap, subst, ◌∙◌, if◌then◌else◌, IsTrue}
-use Rattle.std.specs.Prelude.{⊤, nat_eq, slice_get}
+use Rattle.std.proofs.Common.{arith, ◌≡◌, ℕ, ◌+◌, ◌^◌, ◌<◌, false, List, [], ◌∷◌, length, take, map, Option, Some, None, refl, sym, ap, subst, ◌∙◌, if◌then◌else◌, IsTrue}
+use Rattle.std.specs.Prelude.{nat_eq, slice_get}
 use Rattle.std.proofs.lemmas.Bool.{ne_eqb}
 use Rattle.std.proofs.lemmas.Option.{slice_get_within}
 use Rattle.cas_base.specs.Kind.{is_of_kind}
@@ -12,22 +12,28 @@ use Rattle.cas_base.specs.declared.kind.Ty.{Ty}
 use Rattle.cas_base.specs.declared.kind.Ty.TheVariants.{Void, Int, Ptr, Array}
 use Rattle.cas_base.proofs.KindLaws.{narrowed_is_of_kind}
 use Rattle.cas_typed.specs.declared.tree.Destination.{Destination}
-use Rattle.cas_typed.specs.Resolved.{TypedFunTree, TypedModuleTree}
-use Rattle.cas_typed.specs.Sorts.{MayKeep}
-use Rattle.cas_step.specs.Asks.{Value, word}
-use Rattle.cas_step.specs.Env.{FunctionAt, Entity, function, shared, lock, Env}
-use Rattle.cas_step.specs.Fits.{IsAt, Suits, AreEntries, FitsWords, FitsConfig, at_start, and_step}
-use Rattle.cas_step.specs.Items.{Todo, begin_all, Deed, goes_on, stores, writes, calls, returns, locks, unlocks, prints, deed_of}
-use Rattle.cas_step.specs.Laws.{IsTaken, StepsFit}
-use Rattle.cas_step.specs.Sound.{types_of, types_at, IsOfType, AreBlocks, IsSoundActivation, CallerKeeps, AreActivations, IsSound, FittingIsSound}
+use Rattle.cas_typed.specs.Modules.{decl_of}
+use Rattle.cas_typed.specs.Resolved.{TypedExprTree, TypedFunTree, TypedModuleTree}
+use Rattle.cas_typed.specs.Sorts as sorts
+use Rattle.cas_typed.specs.Sorts.{Sort, HasSort, MayKeep}
+use Rattle.cas_step.specs.Asks.{Value, word, null, pointer}
+use Rattle.cas_step.specs.Env.{FunctionAt, Entity, shared, lock, Env}
+use Rattle.cas_step.specs.Evaluate.{value_of}
+use Rattle.cas_typed.specs.Literals.{HasWords}
+use Rattle.cas_step.specs.Fits.{FitsWord, IsAt, Suits, AreEntries, FitsWords, at_start, and_step}
+use Rattle.cas_step.specs.Items.{Todo, Deed, goes_on, stores, writes, calls, returns, locks, unlocks, prints, deed_of}
+use Rattle.cas_step.specs.Laws.{StepsFit}
+use Rattle.cas_step.specs.Sound.{Gets, types_of, types_at, IsOfType, cell_type, AreBlocks, IsSoundActivation, AreActivations, IsSound, IsOfSort, PointsTo, FittingIsSound, SoundThreadsStep, ValuesAreSorted}
 use Rattle.cas_step.specs.Stands.{of_body, MayDo}
-use Rattle.cas_step.specs.Step.{Object, Activation, Block, Config, cells_at, value_at, Got, got, bad, stuck, answered, memory_with, memory_without, memory_keeping, converted, Step, Here, entity_in, sight_of, global_step, store_step, call_step, return_to, return_step, lock_step, step_doing, step_here, step_of, step, with_call, start}
-use Rattle.cas_step.proofs.Deeds.{IsWritable, IsReturned, IsCalled, IsLockOf, AreOfTypes, DeedFits, deed_certain}
-use Rattle.cas_step.proofs.Keeping.{words_set, with_todo, todo_keeps, todo_blocks, without_blocks, AreArguments, arguments_later, locals_typed, activations_before, types_before, kept_typed, kept_holds}
+use Rattle.cas_step.specs.Answered.{value_at, Got, got, bad, stuck, answered}
+use Rattle.cas_step.specs.Step.{Object, Activation, Block, Config, cells_at, memory_with, memory_without, memory_storing, memory_keeping, converted, Step, Here, entity_in, sight_of, word_step, global_step, store_step, call_step, return_to, return_step, lock_step, step_doing, step_here, step, with_call, start}
+use Rattle.cas_step.proofs.Deeds.{IsReturned, DeedFits, deed_certain}
+use Rattle.cas_step.proofs.Targets.{AreOfTypes, gets_map, sort_certain}
+use Rattle.cas_step.proofs.Keeping.{words_set, with_todo, todo_keeps, todo_blocks, without_blocks, AreArguments, arguments_later, locals_typed, activations_before, types_before, kept_typed, kept_there, kept_holds}
 use Rattle.cas_step.proofs.Memory.{IsLater, value_later, blocks_later, MayHold, blocks_set}
-use Rattle.cas_step.proofs.Situation.{thread, standing, own, own_types}
+use Rattle.cas_step.proofs.Situation.{word_fits, there_map}
 use Rattle.cas_step.proofs.Standing.{all_may}
-use Rattle.cas_step.proofs.Values.{Gets, ThereIs}
+use Rattle.cas_step.proofs.Values.{ThereIs, OfSort}
 use Rattle.cas_step.proofs.Within.{Any}
 
 -- there is a step, after which the thread is sound and the words fit
@@ -72,11 +78,16 @@ module _ (modules : List TypedModuleTree) (e : Env) (suits : Suits modules e) (a
   store_sound rs None o i v todo h holds may = absurd h
   store_sound rs (Some held) o i v todo h holds may = (goes_sound todo (memory_with memory o i v) may (blocks_set e now (a ∷ older) memory o i v sound.memory holds), fits)
 
+  word_sound : (rs : List ℕ) (held : Option ℕ) (m n : ℕ) (k : Kind) (todo : List Todo) → ThereIs (FitsWord (Some k)) held → slice_get e.kinds m ≡ Some (Some k) → IsTrue (is_of_kind n k) → MayDo (e.function a.function).body todo →
+      StaysSound modules e (word_step e here rs held m n todo)
+  word_sound rs None m n k todo h kind of may = absurd h
+  word_sound rs (Some w) m n k todo h kind of may = (goes_sound todo memory may sound.memory, words_set e.kinds ws m n k fits kind of)
+
   global_sound : (rs : List ℕ) (it : Option Entity) (first len : ℕ) (guard : Option ℕ) (i n : ℕ) (k : Kind) (todo : List Todo) → it ≡ Some (shared first len guard) → slice_get e.kinds (first + i) ≡ Some (Some k) →
       IsTrue (is_of_kind n k) → MayDo (e.function a.function).body todo → StaysSound modules e (global_step e here rs it i n todo)
   global_sound rs it first len guard i n k todo is kind of may =
       subst (λ x. StaysSound modules e (global_step e here rs x i n todo)) (sym is)
-      (goes_sound todo memory may sound.memory, words_set e.kinds ws (first + i) n k fits kind of)
+      (word_sound rs (slice_get ws (first + i)) (first + i) n k todo (word_fits e.kinds ws (first + i) (Some k) fits kind) kind of may)
 
   lock_sound : (rs : List ℕ) (it : Option Entity) (n : ℕ) (what : ℕ → Act) (todo : List Todo) → it ≡ Some (lock n) → MayDo (e.function a.function).body todo → StaysSound modules e (lock_step e here rs it what todo)
   lock_sound rs it n what todo is may = subst (λ x. StaysSound modules e (lock_step e here rs x what todo)) (sym is) (goes_sound todo memory may sound.memory, fits)
@@ -101,7 +112,9 @@ module _ (modules : List TypedModuleTree) (e : Env) (suits : Suits modules e) (a
       activations = (
         omega arith,
         record {
-          unit = unit; it = it; at_place = at_place;
+          unit = unit;
+          it = it;
+          at_place = at_place;
           doing = all_may (e.function f).body false (e.function f).body [] (λ b among. of_body b among) tt tt;
         },
         subst (MayKeep (types_of e a) kept) (sym returns_so) keeps,
@@ -146,15 +159,29 @@ module _ (modules : List TypedModuleTree) (e : Env) (suits : Suits modules e) (a
   abbrev after : List Block → Config
   after m = returned modules e suits a (caller ∷ older) memory fresh sound ws fits m
 
+  -- the caller's local
+  abbrev place_of_kept : Destination → Object
+  place_of_kept d = record { serial = caller.serial; local = d.local }
+
+  storing_sound : (rs : List ℕ) (o : Object) (held w : Option (Value Object)) → ThereIs Any held → ThereIs (λ v. (m : List Block) → MayHold e (after m) (caller ∷ older) o v) w →
+      StaysSound modules e (return_to e (here modules e suits a (caller ∷ older) memory fresh sound ws fits) rs (caller ∷ older) (memory_storing left held o 0 w))
+  storing_sound rs o None w h k = absurd h
+  storing_sound rs o (Some held) None h k = absurd k
+  storing_sound rs o (Some held) (Some v) h k =
+      let m = memory_with left o 0 v in (
+        older_sound modules e suits a (caller ∷ older) memory fresh sound ws fits m
+            (blocks_set e (after m) (caller ∷ older) left o 0 v (older_blocks modules e suits a (caller ∷ older) memory fresh sound ws fits m) (k m)),
+        fits,
+      )
+
   kept_sound : (rs : List ℕ) (d : Destination) (ret : Ty) (v : Value Object) → MayKeep (types_of e caller) (Some d) ret → IsOfType e (now modules e suits a (caller ∷ older) memory fresh sound ws fits) ret v →
       StaysSound modules e (return_to e (here modules e suits a (caller ∷ older) memory fresh sound ws fits) rs (caller ∷ older) (memory_keeping left caller.serial (Some d) (Some v)))
   kept_sound rs d ret v keeps of =
-      let m = memory_with left (record { serial = caller.serial; local = d.local }) 0 (converted d.ty v) in
-      let typed = kept_typed modules e (after m) (types_of e caller) d ret v keeps (value_later e (now modules e suits a (caller ∷ older) memory fresh sound ws fits) (after m) (returned_later modules e suits a (caller ∷ older) memory fresh sound ws fits m) ret v of) in
-      (older_sound modules e suits a (caller ∷ older) memory fresh sound ws fits m
-      (blocks_set e (after m) (caller ∷ older) left (record { serial = caller.serial; local = d.local }) 0 (converted d.ty v)
-      (older_blocks modules e suits a (caller ∷ older) memory fresh sound ws fits m)
-      (kept_holds modules e (after m) caller older d (converted d.ty v) typed.0 typed.1)), fits)
+      let typed = kept_typed modules e after (types_of e caller) d ret v keeps (λ m. value_later e (now modules e suits a (caller ∷ older) memory fresh sound ws fits) (after m) (returned_later modules e suits a (caller ∷ older) memory fresh sound ws fits m) ret v of) in
+      storing_sound rs (place_of_kept d) (value_at (cells_at left (place_of_kept d)) 0) (converted d.ty v)
+      (there_map (IsOfType e (after left) (cell_type d.ty)) Any _ (kept_there modules e (after left) caller older left d (older_blocks modules e suits a (caller ∷ older) memory fresh sound ws fits left) typed.0 typed.1) (λ w h. tt))
+      (there_map (λ w. (m : List Block) → IsOfType e (after m) (cell_type d.ty) w) (λ w. (m : List Block) → MayHold e (after m) (caller ∷ older) (place_of_kept d) w) (converted d.ty v) typed.2
+      (λ w h m. kept_holds modules e (after m) caller older d w typed.0 (h m)))
 
   -- a caller that keeps something is returned something
   caller_sound : (rs : List ℕ) (target : Option Destination) (ret : Ty) (v : Option (Value Object)) → MayKeep (types_of e caller) target ret → IsReturned modules e suits a (caller ∷ older) memory fresh sound.activations.0 sound.memory sound.activations.1.unit sound.activations.1.at_place.unit_is ws fits ret v →
@@ -212,8 +239,23 @@ module _ (modules : List TypedModuleTree) (e : Env) (suits : Suits modules e) (a
   doing_sound (got rs (unlocks g todo)) h = lock_sound modules e suits a older memory fresh sound ws fits rs (entity_in e at_here g) h.0.0 act.Unlock todo h.0.1 h.1
   doing_sound (got rs (prints n todo)) h = (goes_sound modules e suits a older memory fresh sound ws fits todo memory h sound.memory, fits)
 
+  -- a value of its sort
+  of_sort : (sort : Sort) (v : Value Object) → OfSort (PointsTo e (now modules e suits a older memory fresh sound ws fits)) sort v → IsOfSort e (now modules e suits a older memory fresh sound ws fits) sort v
+  of_sort sorts.word (word n) h = h
+  of_sort sorts.word null h = absurd h
+  of_sort sorts.word (pointer o p) h = absurd h
+  of_sort (sorts.pointer k) (word n) h = absurd h
+  of_sort (sorts.pointer k) null h = tt
+  of_sort (sorts.pointer k) (pointer o p) h = h
+
+  value_here : (unit : TypedModuleTree) (unit_is : slice_get modules a.function.unit ≡ Some unit) (x : TypedExprTree) (sort : Sort) → HasSort (types_of e a) (map decl_of unit.module_tree.items) x sort → HasWords x →
+      Gets (IsOfSort e (now modules e suits a older memory fresh sound ws fits) sort) (answered (entity_in e at_here) (slice_get ws) (cells_at memory) (value_of (sight_of e at_here) x))
+  value_here unit unit_is x sort h w =
+      gets_map modules e suits a older memory fresh sound.activations.0 sound.memory unit unit_is ws fits _ _ _
+      (sort_certain modules e suits a older memory fresh sound.activations.0 sound.memory unit unit_is ws fits x sort h w) (of_sort sort)
+
   here_sound : StaysSound modules e (step_here e at_here)
-  here_sound = doing_sound (answered (entity_in e at_here) ws memory (deed_of (sight_of e at_here) (e.function a.function).ret a.todo))
+  here_sound = doing_sound (answered (entity_in e at_here) (slice_get ws) (cells_at memory) (deed_of (sight_of e at_here) (e.function a.function).ret a.todo))
       (deed_certain modules e suits a older memory fresh sound.activations.0 sound.memory where_unit sound.activations.1.at_place.unit_is ws fits sound.activations.1.it sound.activations.1.at_place a.todo sound.activations.1.doing)
 
 -- a sound thread that hasn't ended
@@ -267,3 +309,14 @@ pub steps_fit : StepsFit
 steps_fit modules e entries ws c a older suits are before fits stands =
     let (s, is, stays, words) = stays_there modules e (step e ws c) (step_sound modules e suits c.activations c.memory c.fresh ws a older stands (fitting_is_sound modules e entries c suits are before) fits) in
     (s, is, λ taken. (and_step c ws s before fits is, words))
+
+pub sound_threads_step : SoundThreadsStep
+sound_threads_step modules e ws c a older suits sound fits stands =
+    stays_there modules e (step e ws c) (step_sound modules e suits c.activations c.memory c.fresh ws a older stands sound fits)
+
+pub values_are_sorted : ValuesAreSorted
+values_are_sorted modules e ws c a older unit x sort suits sound fits stands unit_is h w =
+    subst (λ acts. IsSound modules e (record { activations = acts; memory = c.memory; fresh = c.fresh }) →
+    Gets (IsOfSort e (record { activations = acts; memory = c.memory; fresh = c.fresh }) sort)
+    (answered (e.entity a.function.unit) (slice_get ws) (cells_at c.memory) (value_of (sight_of e (record { config = c; newest = a; older = older; words = ws })) x))) (sym stands)
+    (λ as_sound. value_here modules e suits a older c.memory c.fresh as_sound ws fits unit unit_is x sort h w) sound

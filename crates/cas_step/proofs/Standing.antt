@@ -1,13 +1,12 @@
 -- Statements of a well-sorted body are well sorted, and what is to do stays within the body.
-use Rattle.std.proofs.Common.{◌≡◌, inl, inr, Bool, true, false, List, [], ◌∷◌, Option, Some, None, refl, sym, subst}
-use Rattle.std.specs.Prelude.{⊤, ◌⊎◌}
+use Rattle.std.proofs.Common.{◌≡◌, inl, inr, Bool, true, false, List, [], ◌∷◌, Option, Some, refl, sym, subst}
 use Rattle.cas_base.specs.declared.decl.Decl.{Decl}
 use Rattle.cas_base.specs.declared.kind.Ty.{Ty}
 use Rattle.cas_base.specs.declared.place.Place.{Place}
-use Rattle.cas_typed.specs.Resolved.{TypedExprTree, TypedStmtTree, block, if_, while_, do_, for_, TypedStmtOption, absent, present, TypedStmtList, no_more, one_more}
+use Rattle.cas_typed.specs.Resolved.{TypedExprTree, TypedStmtTree, for_, TypedStmtOption, absent, present, TypedStmtList, no_more, one_more}
 use Rattle.cas_typed.specs.Sorts.{IsSorted, AreSorted, IsTest}
 use Rattle.cas_step.specs.Items.{Todo, begin, begun, loop, next, begin_all, begin_part, after_break, after_continue}
-use Rattle.cas_step.specs.Literals.{StatementHasWords, BodyHasWords, OptionHasWords}
+use Rattle.cas_typed.specs.Literals.{StatementHasWords, BodyHasWords, OptionHasWords}
 use Rattle.cas_step.specs.Stands.{IsAmong, StandsIn, of_body, of_block, where_true, where_false, of_while, of_do, first_of_for, after_of_for, of_for, AreThere, MayLeave, IsLoopOf, IsTurnOf, MayDo}
 use Rattle.cas_step.proofs.Values.{ThereIs}
 

@@ -1,5 +1,5 @@
 -- Footprints are named, steps are determined, and what a step writes is told.
-use Rattle.std.proofs.Common.{arith, ◌≡◌, ℕ, zero, suc, ◌<◌, List, [], ◌∷◌, ◌++◌, length, Option, Some, None, refl, sym, ap, subst, ◌∙◌}
+use Rattle.std.proofs.Common.{arith, ◌≡◌, ℕ, zero, suc, List, [], ◌∷◌, ◌++◌, length, Option, Some, None, refl, sym, ap, subst, ◌∙◌}
 use Rattle.std.specs.Prelude.{⊤, ◌+◌, slice_get, slice_set, Contains}
 use Rattle.std.proofs.lemmas.List.Elements.{Contains-append_cases}
 use Rattle.cas_base.specs.declared.act.Act.{Act}
@@ -10,9 +10,10 @@ use Rattle.cas_step.specs.Env.{Entity, function, outside, shared, table, Env}
 use Rattle.cas_step.specs.Env as env
 use Rattle.cas_step.specs.Items.{Todo, Deed, goes_on, stores, writes, calls, returns, locks, unlocks, prints, deed_of}
 use Rattle.cas_step.specs.Laws.{item_names, FootprintsAreNamed, AgreeOnTables, ChangesOnly, AreSame, StepsAreDetermined, WritesAreToldOf}
-use Rattle.cas_step.specs.Step.{Object, Block, Activation, Config, cells_at, value_at, Got, got, bad, stuck, answered, Step, Here, entity_in, sight_of, step_to, global_step, store_step, memory_without, memory_keeping, call_step, return_to, return_step, lock_step, step_doing, step_here, step_of, step}
+use Rattle.cas_step.specs.Answered.{value_at, Got, got, bad, stuck, answered}
+use Rattle.cas_step.specs.Step.{Object, Block, Activation, Config, cells_at, Step, Here, entity_in, sight_of, step_to, word_step, global_step, store_step, memory_without, memory_keeping, call_step, return_to, return_step, lock_step, step_doing, step_here, step_of, step}
 use Rattle.cas_step.proofs.Within.{IsPlaceIn}
-use Rattle.cas_step.proofs.Footprints.{DeedBelow, deed_within, reads_of, GotSo, WordOf, trace_named, answered_named, answered_so, answered_same, either_case, single}
+use Rattle.cas_step.proofs.Footprints.{IsTold, DeedBelow, deed_within, reads_of, GotSo, WordOf, trace_named, answered_named, answered_so, answered_same, either_case, single}
 
 abbrev here : Config → Activation → List Activation → List ℕ → Here
 here c a older ws = record { config = c; newest = a; older = older; words = ws }
@@ -46,11 +47,15 @@ module _ (e : Env) (h : Here) (rs : List ℕ) where
   call_reads (Some (table first len)) vs kept todo = tt
   call_reads (Some (env.lock m)) vs kept todo = tt
 
+  word_reads : (held : Option ℕ) (m n : ℕ) (todo : List Todo) → StepSo HasRead (word_step e h rs held m n todo)
+  word_reads None m n todo = tt
+  word_reads (Some w) m n todo = refl
+
   global_reads : (it : Option Entity) (i n : ℕ) (todo : List Todo) → StepSo HasRead (global_step e h rs it i n todo)
   global_reads None i n todo = tt
   global_reads (Some (function f)) i n todo = tt
   global_reads (Some outside) i n todo = tt
-  global_reads (Some (shared first len guard)) i n todo = refl
+  global_reads (Some (shared first len guard)) i n todo = word_reads (slice_get h.words (first + i)) (first + i) n todo
   global_reads (Some (table first len)) i n todo = tt
   global_reads (Some (env.lock m)) i n todo = tt
 
@@ -121,13 +126,18 @@ module _ (e : Env) (h : Here) (N : ℕ → Type 0) (n : ℕ) (rs : List ℕ) whe
   return_writes [] v = nowhere n
   return_writes (a ∷ older) v = return_to_writes (a ∷ older) (memory_keeping (memory_without h.config.memory h.newest.serial) a.serial h.newest.target v)
 
+  word_writes : (held : Option ℕ) (m v : ℕ) (todo : List Todo) → (Contains (m ∷ []) n → WordOf (entity_in e h) N n) → StepSo WritesSo (word_step e h rs held m v todo)
+  word_writes None m v todo so = tt
+  word_writes (Some w) m v todo so = so
+
   global_writes : (g i m : ℕ) (todo : List Todo) (it : Option Entity) → entity_in e h g ≡ it → N g → IsPlaceIn it i → StepSo WritesSo (global_step e h rs it i m todo)
   global_writes g i m todo None is named below = tt
   global_writes g i m todo (Some (function f)) is named below = tt
   global_writes g i m todo (Some outside) is named below = tt
   global_writes g i m todo (Some (table first len)) is named below = tt
   global_writes g i m todo (Some (env.lock l)) is named below = tt
-  global_writes g i m todo (Some (shared first len guard)) is named below = λ c. trace_named (entity_in e h) N g i (Some (shared first len guard)) is named below n c
+  global_writes g i m todo (Some (shared first len guard)) is named below =
+      word_writes (slice_get h.words (first + i)) (first + i) m todo (λ c. trace_named (entity_in e h) N g i (Some (shared first len guard)) is named below n c)
 
 step_writes : (e : Env) (h : Here) (N : ℕ → Type 0) (n : ℕ) (x : Got (Deed Object)) → GotSo (DeedBelow (entity_in e h) N) x → StepSo (WritesSo e h N n (reads_of x)) (step_doing e h x)
 step_writes e h N n (stuck rs) so = tt
@@ -149,16 +159,16 @@ Names h g = Contains (item_names h.newest.todo) g
 
 -- what the step comes to, and that it reads and writes so
 abbrev asked : (e : Env) (h : Here) → Got (Deed Object)
-asked e h = answered (entity_in e h) h.words h.config.memory (deed_of (sight_of e h) (e.function h.newest.function).ret h.newest.todo)
+asked e h = answered (entity_in e h) (slice_get h.words) (cells_at h.config.memory) (deed_of (sight_of e h) (e.function h.newest.function).ret h.newest.todo)
 
 here_named : (e : Env) (h : Here) (s : Step) → step_here e h ≡ Some s → (n : ℕ) → Contains (s.reads ++ s.writes) n → WordOf (entity_in e h) (Names h) n
 here_named e h s is n c = either_case (Contains-append_cases s.reads s.writes n c)
-    (λ d. answered_named (entity_in e h) (Names h) (DeedBelow (entity_in e h) (Names h)) h.words h.config.memory (deed_of (sight_of e h) (e.function h.newest.function).ret h.newest.todo)
+    (λ d. answered_named (entity_in e h) (Names h) (DeedBelow (entity_in e h) (Names h)) (slice_get h.words) (cells_at h.config.memory) (deed_of (sight_of e h) (e.function h.newest.function).ret h.newest.todo)
     (deed_within (sight_of e h) (Names h) (e.function h.newest.function).ret h.newest.todo (λ g i. i)) n
     (subst (λ rs. Contains rs n) (so_is (λ r. r.reads ≡ reads_of (asked e h)) (step_here e h) s (step_reads e h (asked e h)) is) d))
     (λ d. so_is (WritesSo e h (Names h) n (reads_of (asked e h))) (step_here e h) s
     (step_writes e h (Names h) n (asked e h)
-    (answered_so (entity_in e h) (Names h) (DeedBelow (entity_in e h) (Names h)) h.words h.config.memory (deed_of (sight_of e h) (e.function h.newest.function).ret h.newest.todo)
+    (answered_so (entity_in e h) (Names h) (DeedBelow (entity_in e h) (Names h)) (slice_get h.words) (cells_at h.config.memory) (deed_of (sight_of e h) (e.function h.newest.function).ret h.newest.todo)
     (deed_within (sight_of e h) (Names h) (e.function h.newest.function).ret h.newest.todo (λ g i. i)))) is d)
 
 -- the step is that of the newest activation
@@ -193,6 +203,13 @@ set_changes ws vs m x e = (
   λ n differs. set_other vs m x n (λ same. differs (0, omega arith, same)),
 )
 
+-- where one has a word, one of the same length has one too
+there_too : (ws vs : List ℕ) (m w : ℕ) → length ws ≡ length vs → slice_get ws m ≡ Some w → slice_get vs m ≡ None → ⊥
+there_too [] vs m w len is none = absurd (cc is)
+there_too (x ∷ xs) [] m w len is none = absurd (omega (arith, len))
+there_too (x ∷ xs) (y ∷ ys) zero w len is none = absurd (cc none)
+there_too (x ∷ xs) (y ∷ ys) (suc m) w len is none = there_too xs ys m w (omega (arith, len)) is none
+
 -- the same step over other words
 
 -- the other step is there too, and does the same
@@ -211,14 +228,18 @@ module _ (e : Env) (c : Config) (a : Activation) (older : List Activation) (ws v
   to_same : (rs : List ℕ) (what : Act) (next : Config) → AreSame vs (step_to e h rs what next) (step_to e k rs what next)
   to_same rs what next = record { act = refl; next = refl; reads = refl; writes = refl; unit = refl; place = refl; words = unchanged vs ws }
 
+  word_same : length ws ≡ length vs → (rs : List ℕ) (held : Option ℕ) (other : Option ℕ) (m n : ℕ) (todo : List Todo) → slice_get ws m ≡ held → slice_get vs m ≡ other → AreSameSteps vs (word_step e h rs held m n todo) (word_step e k rs other m n todo)
+  word_same len rs None other m n todo is also = tt
+  word_same len rs (Some w) (Some v) m n todo is also = record { act = refl; next = refl; reads = refl; writes = refl; unit = refl; place = refl; words = set_changes ws vs m n len }
+  word_same len rs (Some w) None m n todo is also = absurd (there_too ws vs m w len is also)
+
   global_same : length ws ≡ length vs → (rs : List ℕ) (it : Option Entity) (i n : ℕ) (todo : List Todo) → AreSameSteps vs (global_step e h rs it i n todo) (global_step e k rs it i n todo)
   global_same len rs None i n todo = tt
   global_same len rs (Some (function f)) i n todo = tt
   global_same len rs (Some outside) i n todo = tt
   global_same len rs (Some (table first size)) i n todo = tt
   global_same len rs (Some (env.lock m)) i n todo = tt
-  global_same len rs (Some (shared first size guard)) i n todo =
-      record { act = refl; next = refl; reads = refl; writes = refl; unit = refl; place = refl; words = set_changes ws vs (first + i) n len }
+  global_same len rs (Some (shared first size guard)) i n todo = word_same len rs (slice_get ws (first + i)) (slice_get vs (first + i)) (first + i) n todo refl refl
 
   store_same : (rs : List ℕ) (held : Option (Value Object)) (o : Object) (i : ℕ) (v : Value Object) (todo : List Todo) → AreSameSteps vs (store_step e h rs held o i v todo) (store_step e k rs held o i v todo)
   store_same rs None o i v todo = tt
@@ -260,18 +281,23 @@ module _ (e : Env) (c : Config) (a : Activation) (older : List Activation) (ws v
   doing_same len (got rs (unlocks g todo)) = lock_same rs (entity_in e h g) act.Unlock todo
   doing_same len (got rs (prints n todo)) = to_same rs _ _
 
-  asked_same : AgreeOnTables e ws vs → ((n : ℕ) → Contains (reads_of (asked e h)) n → slice_get ws n ≡ slice_get vs n) → asked e k ≡ asked e h
-  asked_same tables read = answered_same (entity_in e h) (Names h) (DeedBelow (entity_in e h) (Names h)) ws vs c.memory (deed_of (sight_of e h) (e.function a.function).ret a.todo)
+  asked_same : AgreeOnTables e ws vs → IsTold (asked e h) → ((n : ℕ) → Contains (reads_of (asked e h)) n → slice_get ws n ≡ slice_get vs n) → asked e k ≡ asked e h
+  asked_same tables told read = answered_same (entity_in e h) (Names h) (DeedBelow (entity_in e h) (Names h)) ws vs (cells_at c.memory) (deed_of (sight_of e h) (e.function a.function).ret a.todo)
       (deed_within (sight_of e h) (Names h) (e.function a.function).ret a.todo (λ g i. i))
-      (λ g first len i is below. tables a.function.unit g first len i is below) read
+      (λ g first len i is below. tables a.function.unit g first len i is below) told read
 
-  here_same : length ws ≡ length vs → AgreeOnTables e ws vs → ((n : ℕ) → Contains (reads_of (asked e h)) n → slice_get ws n ≡ slice_get vs n) → AreSameSteps vs (step_here e h) (step_here e k)
-  here_same len tables read = subst (λ x. AreSameSteps vs (step_here e h) (step_doing e k x)) (sym (asked_same tables read)) (doing_same len (asked e h))
+  here_same : length ws ≡ length vs → AgreeOnTables e ws vs → IsTold (asked e h) → ((n : ℕ) → Contains (reads_of (asked e h)) n → slice_get ws n ≡ slice_get vs n) → AreSameSteps vs (step_here e h) (step_here e k)
+  here_same len tables told read = subst (λ x. AreSameSteps vs (step_here e h) (step_doing e k x)) (sym (asked_same tables told read)) (doing_same len (asked e h))
 
 same_there : (vs : List ℕ) (x y : Option Step) (s : Step) → x ≡ Some s → AreSameSteps vs x y → (r : Step) × (y ≡ Some r) × AreSame vs s r
 same_there vs None y s is same = absurd (cc is)
 same_there vs (Some q) None s is same = absurd same
 same_there vs (Some q) (Some r) s is same = let it : q ≡ s = cc is in (r, refl, subst (λ t. AreSame vs t r) it same)
+
+step_told : (e : Env) (h : Here) (x : Got (Deed Object)) (s : Step) → step_doing e h x ≡ Some s → IsTold x
+step_told e h (got rs a) s is = tt
+step_told e h (bad rs why) s is = tt
+step_told e h (stuck rs) s is = absurd (cc is)
 
 determined_by : (e : Env) (ws vs : List ℕ) (c : Config) (activations : List Activation) (s : Step) → length ws ≡ length vs → AgreeOnTables e ws vs →
     step_of e ws c activations ≡ Some s → ((n : ℕ) → Contains s.reads n → slice_get ws n ≡ slice_get vs n) →
@@ -279,7 +305,7 @@ determined_by : (e : Env) (ws vs : List ℕ) (c : Config) (activations : List Ac
 determined_by e ws vs c [] s len tables is read = absurd (cc is)
 determined_by e ws vs c (a ∷ older) s len tables is read =
     same_there vs (step_here e (here c a older ws)) (step_here e (here c a older vs)) s is
-    (here_same e c a older ws vs len tables (λ n d. read n
+    (here_same e c a older ws vs len tables (step_told e (here c a older ws) (asked e (here c a older ws)) s is) (λ n d. read n
     (subst (λ rs. Contains rs n) (sym (so_is (λ r. r.reads ≡ reads_of (asked e (here c a older ws))) (step_here e (here c a older ws)) s (step_reads e (here c a older ws) (asked e (here c a older ws))) is)) d)))
 
 pub steps_are_determined : StepsAreDetermined

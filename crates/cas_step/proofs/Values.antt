@@ -1,6 +1,6 @@
 -- The value of a well-sorted expression is a word or a pointer as its sort says, and there is sense in it, where what answers is so.
 use Rattle.std.proofs.Common.{arith, ◌≡◌, inl, inr, ℕ, ◌^◌, ◌+◌, ◌<◌, ◌≤◌, ℤ, pos, neg_ℤ, Bool, true, false, List, [], Option, Some, None, refl, sym, subst, if◌then◌else◌}
-use Rattle.std.specs.Prelude.{⊤, ◌⊎◌, ◌+ℤ◌, nat_lt, nat_eq, ◌==◌, ◌||◌, not}
+use Rattle.std.specs.Prelude.{⊤, slice_get, ◌⊎◌, ◌+ℤ◌, nat_lt, ◌==◌, ◌||◌}
 use Rattle.std.proofs.lemmas.Bool.{ltb-true}
 use Rattle.cas_base.specs.Ty.{words_of_ty}
 use Rattle.cas_base.specs.declared.act.Why.TheVariants.{Index, Across}
@@ -10,7 +10,6 @@ use Rattle.cas_base.specs.declared.kind.Ty.{Ty}
 use Rattle.cas_base.specs.declared.kind.Ty.TheVariants.{Int, Ptr, Array}
 use Rattle.cas_base.proofs.KindLaws.{narrowed-lt}
 use Rattle.cas_syntax.specs.declared.tree.BinaryOperator.{BinaryOperator}
-use Rattle.cas_syntax.specs.declared.tree.BinaryOperator.TheVariants as bin
 use Rattle.cas_typed.specs.declared.tree.Signedness.{Signedness}
 use Rattle.cas_typed.specs.Resolved as t
 use Rattle.cas_typed.specs.Resolved.{TypedExprTree}
@@ -21,20 +20,16 @@ use Rattle.cas_typed.specs.Types.{IsEquality, IsOrder}
 use Rattle.cas_step.specs.Asks.{Value, word, null, pointer, Asks, gives, fails, senseless, reads, looks, loads, and_then, word_in, pointed}
 use Rattle.cas_step.specs.Env.{length_of}
 use Rattle.cas_step.specs.Fits.{kind_of}
-use Rattle.cas_step.specs.Evaluate.{Sight, either, local_value, global_value, only_place, place_among, element_place, forward, backward, on_both, a_word, a_truth, condition, value_of, test_of}
-use Rattle.cas_step.specs.Literals.{HasWords, OptionHasWords}
-use Rattle.cas_step.specs.Operators.{number_of, place_below, or_index, binary_result, is_true}
+use Rattle.cas_step.specs.Evaluate.{Sight, either, global_value, only_place, place_among, element_place, forward, backward, on_both, a_word, a_truth, condition, value_of, test_of}
+use Rattle.cas_typed.specs.Literals.{HasWords}
+use Rattle.cas_step.specs.Operators.{number_of, place_below, or_index, binary_result}
 use Rattle.cas_step.specs.Pointers.{if_live, moved, behind, cell_behind, places, difference, is_same_place, equal, compared}
-use Rattle.cas_step.specs.Step.{Object, Block, Got, got, bad, stuck, having_read, if_there, trace_of, answered, cells_at, size_of, value_at, word_at}
+use Rattle.cas_step.specs.Sound.{Gets}
+use Rattle.cas_step.specs.Answered.{Got, got, bad, stuck, having_read, if_there, trace_of, answered, size_of, value_at, word_at}
+use Rattle.cas_step.specs.Step.{Object, Block, cells_at}
 use Rattle.cas_step.proofs.Answering.{got_then, answered-and_then}
 use Rattle.cas_step.proofs.Within.{Any, below}
 use Rattle.cas_step.proofs.Words.{GivesWord, binary_words, unary_words, sub_word, truth_word}
-
--- what is got is so, and it isn't stuck
-abbrev pub Gets : {A : Type 0} → (A → Type 0) → Got A → Type 0
-Gets P (got rs a) = P a
-Gets P (bad rs why) = ⊤
-Gets P (stuck rs) = ⊥
 
 pub gets-having_read : {A : Type 0} (P : A → Type 0) (before : List ℕ) (x : Got A) → Gets P x → Gets P (having_read before x)
 gets-having_read P before (got rs a) h = h
@@ -79,15 +74,15 @@ module _ (Points : Kind → Object → ℕ → Type 0) where
     pub loads : (k : Kind) (o : Object) (p m : ℕ) → Points k o p → size_of (cells_at memory o) ≡ Some m → p < m → ThereIs (OfSort so.word) (value_at (cells_at memory o) p)
     pub moves : (k : Kind) (o : Object) (p m q : ℕ) → Points k o p → size_of (cells_at memory o) ≡ Some m → q ≤ m → Points k o q
     pub lengths : (g : ℕ) (ty : Ty) → IsVariable ds g ty → length_of (s.entity g) ≡ Some (words_of_ty ty)
-    pub words : (g : ℕ) (ty : Ty) (k : Kind) (i : ℕ) → IsVariable ds g ty → kind_of ty ≡ Some k → i < words_of_ty ty → ThereIs IsWord (word_at ws (s.entity g) i)
+    pub words : (g : ℕ) (ty : Ty) (k : Kind) (i : ℕ) → IsVariable ds g ty → kind_of ty ≡ Some k → i < words_of_ty ty → ThereIs IsWord (word_at (slice_get ws) (s.entity g) i)
 
 module _ (Points : Kind → Object → ℕ → Type 0) (vs : List Ty) (ds : List Decl) (s : Sight Object) (ws : List ℕ) (memory : List Block) (sees : Sees Points vs ds s ws memory) where
   -- what is got is so, and there is sense in it
   abbrev pub Sure : {A : Type 0} → (A → Type 0) → Asks Object A → Type 0
-  Sure P x = Gets P (answered s.entity ws memory x)
+  Sure P x = Gets P (answered s.entity (slice_get ws) (cells_at memory) x)
 
   pub sure_then : {A B : Type 0} (P : A → Type 0) (Q : B → Type 0) (x : Asks Object A) (next : A → Asks Object B) → Sure P x → ((a : A) → P a → Sure Q (next a)) → Sure Q (and_then x next)
-  sure_then P Q x next h go = subst (Gets Q) (sym (answered-and_then s.entity ws memory x next)) (got_so P Q (answered s.entity ws memory x) (λ a. answered s.entity ws memory (next a)) h go)
+  sure_then P Q x next h go = subst (Gets Q) (sym (answered-and_then s.entity (slice_get ws) (cells_at memory) x next)) (got_so P Q (answered s.entity (slice_get ws) (cells_at memory) x) (λ a. answered s.entity (slice_get ws) (cells_at memory) (next a)) h go)
 
   pub word_sure : (v : Value Object) → OfSort Points so.word v → Sure IsWord (word_in v)
   word_sure (word n) h = h
@@ -204,8 +199,8 @@ module _ (Points : Kind → Object → ℕ → Type 0) (vs : List Ty) (ds : List
   element_sure g k n sign v is h = sure_then IsWord (IsUnder n) (word_in v) _ (word_sure v h) (λ m l. among_by (length_of (s.entity g)) n (number_of sign m) (sees.lengths g (Array k n) is))
 
   global_sure : (g : ℕ) (ty : Ty) (k : Kind) (i : ℕ) → IsVariable ds g ty → kind_of ty ≡ Some k → i < words_of_ty ty → Sure (OfSort Points so.word) (global_value g i)
-  global_sure g ty k i is of h = gets-having_read (OfSort Points so.word) (trace_of (s.entity g) i) _
-      (there_gets IsWord (OfSort Points so.word) (word_at ws (s.entity g) i) _ (sees.words g ty k i is of h) (λ n l. l))
+  global_sure g ty k i is of h = there_gets IsWord (OfSort Points so.word) (word_at (slice_get ws) (s.entity g) i) _ (sees.words g ty k i is of h)
+      (λ n l. gets-having_read (OfSort Points so.word) (trace_of (s.entity g) i) (got [] (word n)) l)
 
   given_sure : (x : Asks Object ℕ) → GivesWord x → Sure IsWord x
   given_sure (gives n) h = h

@@ -15,7 +15,7 @@ use Rattle.cas_typed.specs.Resolved.{TypedFunTree, TypedModuleTree}
 use Rattle.cas_typed.specs.Sorts.{IsSortedModule}
 use Rattle.cas_step.specs.Asks.{word}
 use Rattle.cas_step.specs.Env.{FunctionAt, Function, Entity, function, shared, table, lock, Env}
-use Rattle.cas_step.specs.Literals.{BodyHasWords}
+use Rattle.cas_typed.specs.Literals.{BodyHasWords}
 use Rattle.cas_step.specs.Step.{Config, Step, step, start}
 
 -- the function that stands there

@@ -1,10 +1,10 @@
+pub mod Answered
 pub mod Asks
 pub mod Env
 pub mod Evaluate
 pub mod Fits
 pub mod Items
 pub mod Laws
-pub mod Literals
 pub mod Operators
 pub mod Pointers
 pub mod Sound

@@ -1,18 +1,23 @@
 -- What holds of each thread that fits: values have the types of their cells, pointers go to places within or at the end of
 -- objects of their kind, and what is to do are parts of the function's body.
-use Rattle.std.specs.Prelude.{◌≡◌, ⊤, ℕ, ◌<◌, ◌≤◌, nat_eq, if◌then◌else◌, Bool, IsTrue, List, [], ◌∷◌, length, map, Option, Some, None, slice_get}
+use Rattle.std.specs.Prelude.{◌≡◌, ⊤, ℕ, ◌^◌, ◌<◌, ◌≤◌, nat_eq, if◌then◌else◌, IsTrue, List, [], ◌∷◌, length, map, Option, Some, None, slice_get}
 use Rattle.cas_base.specs.Kind.{is_of_kind}
 use Rattle.cas_base.specs.Ty.{words_of_ty}
 use Rattle.cas_base.specs.declared.kind.Kind.{Kind}
 use Rattle.cas_base.specs.declared.kind.Ty.{Ty}
 use Rattle.cas_base.specs.declared.kind.Ty.TheVariants.{Int, Ptr, Array}
-use Rattle.cas_typed.specs.Resolved.{TypedFunTree, TypedModuleTree}
-use Rattle.cas_typed.specs.Sorts.{MayKeep}
+use Rattle.cas_typed.specs.Resolved.{TypedExprTree, TypedFunTree, TypedModuleTree}
+use Rattle.cas_typed.specs.Modules.{decl_of}
+use Rattle.cas_typed.specs.Sorts as sorts
+use Rattle.cas_typed.specs.Sorts.{Sort, HasSort, MayKeep}
 use Rattle.cas_step.specs.Asks.{Value, word, null, pointer}
 use Rattle.cas_step.specs.Env.{FunctionAt, Env}
-use Rattle.cas_step.specs.Fits.{IsAt, Suits, AreEntries, FitsConfig}
+use Rattle.cas_step.specs.Evaluate.{value_of}
+use Rattle.cas_step.specs.Fits.{IsAt, Suits, AreEntries, FitsWords, FitsConfig}
+use Rattle.cas_typed.specs.Literals.{HasWords}
 use Rattle.cas_step.specs.Stands.{MayDo}
-use Rattle.cas_step.specs.Step.{Object, Activation, Block, Config}
+use Rattle.cas_step.specs.Answered.{Got, got, bad, stuck, answered}
+use Rattle.cas_step.specs.Step.{Object, Activation, Block, Config, cells_at, sight_of, Step, step}
 
 -- the types of an activation's locals
 abbrev pub types_of : Env → Activation → List Ty
@@ -90,3 +95,29 @@ pub record IsSound (modules : List TypedModuleTree) (e : Env) (c : Config) : Typ
 abbrev pub FittingIsSound : Type 0
 FittingIsSound = (modules : List TypedModuleTree) (e : Env) (entries : List FunctionAt) (c : Config) →
     Suits modules e → AreEntries modules e entries → FitsConfig e entries c → IsSound modules e c
+
+-- A sound thread that hasn't ended has a step over words that fit, behind which it is sound and the words fit.
+abbrev pub SoundThreadsStep : Type 0
+SoundThreadsStep = (modules : List TypedModuleTree) (e : Env) (ws : List ℕ) (c : Config) (a : Activation) (older : List Activation) →
+    Suits modules e → IsSound modules e c → FitsWords e ws → c.activations ≡ a ∷ older →
+    (s : Step) × (step e ws c ≡ Some s) × IsSound modules e s.next × FitsWords e s.words
+
+-- the value is of this sort
+abbrev pub IsOfSort : Env → Config → Sort → Value Object → Type 0
+IsOfSort e c sorts.word (word n) = n < 2 ^ 32
+IsOfSort e c (sorts.pointer k) null = ⊤
+IsOfSort e c (sorts.pointer k) (pointer o p) = PointsTo e c k o p
+IsOfSort e c _ _ = ⊥
+
+-- what was got is so, and it isn't stuck
+abbrev pub Gets : {A : Type 0} → (A → Type 0) → Got A → Type 0
+Gets P (got rs a) = P a
+Gets P (bad rs why) = ⊤
+Gets P (stuck rs) = ⊥
+
+-- In a sound thread a well-sorted expression has a value of its sort, or is Bad, but never senseless.
+abbrev pub ValuesAreSorted : Type 0
+ValuesAreSorted = (modules : List TypedModuleTree) (e : Env) (ws : List ℕ) (c : Config) (a : Activation) (older : List Activation) (unit : TypedModuleTree) (x : TypedExprTree) (sort : Sort) →
+    Suits modules e → IsSound modules e c → FitsWords e ws → c.activations ≡ a ∷ older → slice_get modules a.function.unit ≡ Some unit →
+    HasSort (types_of e a) (map decl_of unit.module_tree.items) x sort → HasWords x →
+    Gets (IsOfSort e c sort) (answered (e.entity a.function.unit) (slice_get ws) (cells_at c.memory) (value_of (sight_of e (record { config = c; newest = a; older = older; words = ws })) x))

@@ -1,7 +1,7 @@
 -- Which statements stand in a function's body, and which items an activation of it may have to do.
 use Rattle.std.specs.Prelude.{◌≡◌, ◌⊎◌, ⊤, Bool, true, false, List, [], ◌∷◌, Option, Some, None}
 use Rattle.cas_base.specs.declared.place.Place.{Place}
-use Rattle.cas_typed.specs.Resolved.{TypedExprTree, TypedStmtTree, block, if_, while_, do_, for_, TypedStmtOption, absent, present, TypedStmtList, no_more, one_more}
+use Rattle.cas_typed.specs.Resolved.{TypedExprTree, TypedStmtTree, block, if_, while_, do_, for_, TypedStmtOption, present, TypedStmtList, no_more, one_more}
 use Rattle.cas_step.specs.Items.{Todo, begin, begun, loop, next, after_break, after_continue}
 
 -- one of these statements

@@ -1,5 +1,6 @@
--- The step of a thread over shared words. (Clight's small steps.)
-use Rattle.std.specs.Prelude.{ℕ, ◌+◌, nat_eq, ◌&&◌, Bool, if◌then◌else◌, List, [], ◌∷◌, ◌++◌, length, replicate, Option, Some, None, slice_get, slice_index_or, slice_set}
+-- The step of a thread of a whole program over shared words. (Clight's small steps.) A module alone has no steps of these: its
+-- run answers the same deeds by its share, and by its own objects and those of the outside.
+use Rattle.std.specs.Prelude.{ℕ, ◌+◌, nat_eq, ◌&&◌, Bool, if◌then◌else◌, List, [], ◌∷◌, replicate, Option, Some, None, slice_get, slice_index_or, slice_set}
 use Rattle.cas_base.specs.Ty.{words_of_ty}
 use Rattle.cas_base.specs.Word.{narrowed}
 use Rattle.cas_base.specs.declared.act.Act.{Act}
@@ -9,9 +10,9 @@ use Rattle.cas_base.specs.declared.kind.Ty.{Ty}
 use Rattle.cas_base.specs.declared.kind.Ty.TheVariants.{Int, Ptr}
 use Rattle.cas_base.specs.declared.place.Place.{Place}
 use Rattle.cas_typed.specs.declared.tree.Destination.{Destination}
-use Rattle.cas_step.specs.Asks as asks
-use Rattle.cas_step.specs.Asks.{Asks, Value, word, null}
-use Rattle.cas_step.specs.Env.{FunctionAt, Entity, function, shared, table, lock, Env}
+use Rattle.cas_step.specs.Answered.{Got, got, bad, stuck, value_at, answered}
+use Rattle.cas_step.specs.Asks.{Value, word, null, pointer}
+use Rattle.cas_step.specs.Env.{FunctionAt, Entity, function, shared, lock, Env}
 use Rattle.cas_step.specs.Evaluate.{Sight}
 use Rattle.cas_step.specs.Items.{Todo, begin_all, Deed, goes_on, stores, writes, calls, returns, locks, unlocks, prints, deed_of, place_of}
 
@@ -58,16 +59,6 @@ local_at (Some locals) n = slice_get locals n
 abbrev pub cells_at : List Block → Object → Option (List (Value Object))
 cells_at memory o = local_at (locals_at memory o.serial) o.local
 
--- how many cells they are
-abbrev pub size_of : Option (List (Value Object)) → Option ℕ
-size_of None = None
-size_of (Some cells) = Some (length cells)
-
--- the value at a place of them, if it is there
-abbrev pub value_at : Option (List (Value Object)) → (place : ℕ) → Option (Value Object)
-value_at None p = None
-value_at (Some cells) p = slice_get cells p
-
 -- locals with a value at a place of one of them
 abbrev pub with_local : List (List (Value Object)) → (local place : ℕ) → Value Object → List (List (Value Object))
 with_local locals n i v = slice_set locals n (slice_set (slice_index_or locals n []) i v)
@@ -82,47 +73,6 @@ memory_with (b ∷ bs) o i v =
 abbrev pub memory_without : List Block → (serial : ℕ) → List Block
 memory_without [] serial = []
 memory_without (b ∷ bs) serial = if nat_eq b.serial serial then bs else b ∷ memory_without bs serial
-
--- what is asked, answered
-
--- what was got, why nothing was, or that it is stuck, since there was no sense in it or what was asked for isn't there; each with the
--- shared words that were read before
-pub data Got (A : Type 0) : Type 0 where
-  got : (reads : List ℕ) → A → Got A
-  bad : (reads : List ℕ) → Why → Got A
-  stuck : (reads : List ℕ) → Got A
-
--- the same with these reads before
-abbrev pub having_read : {A : Type 0} → List ℕ → Got A → Got A
-having_read before (got rs a) = got (before ++ rs) a
-having_read before (bad rs why) = bad (before ++ rs) why
-having_read before (stuck rs) = stuck (before ++ rs)
-
--- what is got by what is there
-abbrev pub if_there : {V A : Type 0} → Option V → (V → Got A) → Got A
-if_there None next = stuck []
-if_there (Some v) next = next v
-
--- the word at a place of a global, if it is there
-abbrev pub word_at : List ℕ → Option Entity → (place : ℕ) → Option ℕ
-word_at ws (Some (shared first n guard)) i = slice_get ws (first + i)
-word_at ws (Some (table first n)) i = slice_get ws (first + i)
-word_at ws _ i = None
-
--- what reading this word of a global puts into the footprint: words of tables of constants are in none
-abbrev pub trace_of : Option Entity → (place : ℕ) → List ℕ
-trace_of (Some (shared first n guard)) i = (first + i) ∷ []
-trace_of _ i = []
-
--- what is got where these words and this memory answer. All words are read at one moment
-abbrev pub answered : {A : Type 0} → (entity : ℕ → Option Entity) → (words : List ℕ) → List Block → Asks Object A → Got A
-answered entity ws memory (asks.gives a) = got [] a
-answered entity ws memory (asks.fails why) = bad [] why
-answered entity ws memory asks.senseless = stuck []
-answered entity ws memory (asks.reads g i more) =
-    having_read (trace_of (entity g) i) (if_there (word_at ws (entity g) i) (λ n. answered entity ws memory (more n)))
-answered entity ws memory (asks.looks o more) = answered entity ws memory (more (size_of (cells_at memory o)))
-answered entity ws memory (asks.loads o p more) = if_there (value_at (cells_at memory o) p) (λ v. answered entity ws memory (more v))
 
 -- the step
 
@@ -196,9 +146,14 @@ module _ (e : Env) (h : Here) where
     place = place_of (e.function h.newest.function).closing h.newest.todo;
   }
 
+  -- the same, where there is such a word, which holds this one until then
+  abbrev pub word_step : (reads : List ℕ) → (held : Option ℕ) → (number value : ℕ) → List Todo → Option Step
+  word_step rs None number n todo = None
+  word_step rs (Some held) number n todo = Some (write_step rs number n todo)
+
   -- a step that writes a word of a shared global
   abbrev pub global_step : (reads : List ℕ) → Option Entity → (place value : ℕ) → List Todo → Option Step
-  global_step rs (Some (shared first len guard)) i n todo = Some (write_step rs (first + i) n todo)
+  global_step rs (Some (shared first len guard)) i n todo = word_step rs (slice_get h.words (first + i)) (first + i) n todo
   global_step rs _ i n todo = None
 
   -- a step that stores a value into a cell, which holds this one until then
@@ -226,15 +181,24 @@ with_call e activations memory serial f vs target = record {
 }
 
 -- a returned value, converted to the type of the local that keeps it
-abbrev pub converted : Ty → Value Object → Value Object
-converted (Int k) (word n) = word (narrowed n k)
-converted _ v = v
+abbrev pub converted : Ty → Value Object → Option (Value Object)
+converted (Int k) (word n) = Some (word (narrowed n k))
+converted (Ptr k) null = Some null
+converted (Ptr k) (pointer o p) = Some (pointer o p)
+converted _ v = None
+
+-- the memory with a value in a cell that holds another until then
+abbrev pub memory_storing : List Block → (held : Option (Value Object)) → Object → (place : ℕ) → Option (Value Object) → Option (List Block)
+memory_storing memory None o i v = None
+memory_storing memory (Some held) o i None = None
+memory_storing memory (Some held) o i (Some v) = Some (memory_with memory o i v)
 
 -- the memory where the caller with this serial number has kept what was returned; nothing can't be kept
 abbrev pub memory_keeping : List Block → (serial : ℕ) → Option Destination → Option (Value Object) → Option (List Block)
 memory_keeping memory serial None v = Some memory
 memory_keeping memory serial (Some d) None = None
-memory_keeping memory serial (Some d) (Some v) = Some (memory_with memory (record { serial = serial; local = d.local }) 0 (converted d.ty v))
+memory_keeping memory serial (Some d) (Some v) =
+    let o : Object = record { serial = serial; local = d.local } in memory_storing memory (value_at (cells_at memory o) 0) o 0 (converted d.ty v)
 
 module _ (e : Env) (h : Here) where
   -- a call
@@ -272,7 +236,7 @@ module _ (e : Env) (h : Here) where
 
   -- the step of the newest activation's first item
   abbrev pub step_here : Option Step
-  step_here = step_doing (answered (entity_in e h) h.words h.config.memory (deed_of (sight_of e h) (e.function h.newest.function).ret h.newest.todo))
+  step_here = step_doing (answered (entity_in e h) (slice_get h.words) (cells_at h.config.memory) (deed_of (sight_of e h) (e.function h.newest.function).ret h.newest.todo))
 
 -- the next step of a thread over these shared words; none where it has ended, or is stuck, which no thread of typed modules is
 abbrev pub step_of : Env → List ℕ → Config → (activations : List Activation) → Option Step

@@ -1,7 +1,7 @@
 //! Laws of the step, each the contract of a function without effect.
 
 ghost use Rattle.cas_step.specs.Laws.{FootprintsAreNamed, StepsAreDetermined, StepsFit, TablesStay, WritesAreToldOf};
-ghost use Rattle.cas_step.specs.Sound.{FittingIsSound};
+ghost use Rattle.cas_step.specs.Sound.{FittingIsSound, SoundThreadsStep, ValuesAreSorted};
 
 /// A thread's footprint has only words of shared globals that its statement names.
 pub fn footprints_are_named()
@@ -33,4 +33,15 @@ pub fn fitting_is_sound()
 /// Bad its next configuration and the next words fit.
 pub fn steps_fit()
     ensures { StepsFit }
+{}
+
+/// A sound thread that hasn't ended has a step over words that fit, whatever its first item does; behind it the thread is
+/// sound and the words fit.
+pub fn sound_threads_step()
+    ensures { SoundThreadsStep }
+{}
+
+/// In a sound thread a well-sorted expression has a value of its sort, or is Bad; it is never senseless.
+pub fn values_are_sorted()
+    ensures { ValuesAreSorted }
 {}
