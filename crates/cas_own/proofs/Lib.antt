@@ -1,0 +1,3 @@
+mod Examples
+pub mod Names
+pub mod Sets

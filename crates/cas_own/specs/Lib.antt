@@ -1,0 +1,5 @@
+pub mod Locks
+pub mod Uses
+pub mod Flow
+pub mod Checked
+pub mod Laws
