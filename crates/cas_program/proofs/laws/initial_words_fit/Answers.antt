@@ -1,0 +1,8 @@
+use Rattle.cas_program.proofs.Starting.{guards_are_words, initial_words_fit}
+use Rattle.cas_program.proofs.laws.initial_words_fit.Goals as goal
+
+pub returns-clause-words : goal.returns-clause-words
+returns-clause-words c = initial_words_fit
+
+pub returns-clause-guards : goal.returns-clause-guards
+returns-clause-guards c = guards_are_words
