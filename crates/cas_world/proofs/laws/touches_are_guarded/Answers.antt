@@ -1,0 +1,16 @@
+use Rattle.cas_world.proofs.Races as races
+use Rattle.cas_world.proofs.laws.touches_are_guarded.Goals as goal
+
+pub returns : goal.returns
+returns c =
+    races.touches_are_guarded
+    (record {
+      suits = c.programs_suit.ensures;
+      bodies = c.typed_modules_have_bodies.ensures.bodies;
+      shared_ones = c.guards_are_locks.ensures.shared_ones;
+      guards = c.guards_are_locks.ensures.guards;
+      names = c.guards_are_locks.ensures.names;
+      functions = c.declarations_agree.ensures.functions;
+      entries = c.entries_are_entered.ensures.none_held;
+      footprints = c.footprints_are_named.ensures;
+    })
