@@ -1,5 +1,5 @@
 -- How the work of a command ends, from how its parts ended.
-use Rattle.std.proofs.Common.{◌≡◌, ◌<◌, ◌⊎◌, ℕ, List, [], ◌∷◌, ◌++◌, Some, None, Result, Ok, Err, refl, ◌∙◌, inl, inr, subst, append-nil, codes, arith}
+use Rattle.std.proofs.Common.{◌≡◌, ◌<◌, ◌⊎◌, ℕ, List, [], ◌∷◌, ◌++◌, Some, None, Result, Ok, Err, refl, ◌∙◌, inl, inr, subst, codes, arith}
 use Rattle.std.specs.declared.vec.Vec.{Vec}
 use Rattle.std.specs.declared.alloc.Global.{Global}
 use Rattle.cas_top.specs.declared.refusal.Refusal.{Refusal}
@@ -7,9 +7,9 @@ use Rattle.cas_top.specs.declared.refusal.Refusal.TheVariants as refusal
 use Rattle.std.specs.List.{concat}
 use Rattle.cas_top.specs.Answer.{Told, Taken, IsRead, IsText, IsRefusal, IsCut, IsPartly, IsUntold, usage, cannot_read, too_long, refused}
 use Rattle.cas_top.specs.Plan.{PrintsLines, RefusesText}
-use Rattle.cas_top.specs.Printed.{line_of, fault_line}
+use Rattle.cas_top.specs.Printed.{line_of}
 use Rattle.cas_outside.specs.Sink.{TakesPrefix}
-use Rattle.cas_top.specs.View.{IsEnd, IsPutLines, IsTold, IsSaid, IsCause, IsShown, Counts}
+use Rattle.cas_top.specs.View.{module_line, IsEnd, IsPutLines, IsTold, IsSaid, IsCause, IsShown, Counts}
 use Rattle.cas_top.specs.Words.{Run, Command, Wanted, run, source_text}
 
 -- the lines of a module that was read are the text of the command
@@ -36,8 +36,7 @@ end_of_put told r source lock lines before after old new (Err refusal.Memory) fi
 end_of_put told r source lock lines before after old new (Err refusal.Usage) first second prints put same = absurd put
 end_of_put told r source lock lines before after old new (Err (refusal.Unread n)) first second prints put same = absurd put
 end_of_put told r source lock lines before after old new (Err (refusal.TooLong n)) first second prints put same = absurd put
-end_of_put told r source lock lines before after old new (Err (refusal.Misread n code p)) first second prints put same = absurd put
-end_of_put told r source lock lines before after old new (Err (refusal.NotFirstForm n)) first second prints put same = absurd put
+end_of_put told r source lock lines before after old new (Err (refusal.Faulty n f)) first second prints put same = absurd put
 
 -- a module text that is refused
 pub refusal_of_text : (told : Told) (r : Run) (source lock line : List ℕ) →
@@ -47,12 +46,6 @@ refusal_of_text told r source lock line first second refuses = record {
   read = (first, (second, tt));
   plan = (refl, refuses);
 }
-
--- a line with nothing behind the name
-pub told_of_name : (status : ℕ) (line : List ℕ) (before now : ℕ) (old new : Taken) (answer : ℕ) →
-    IsTold status (line_of (line ++ [])) before now old new answer → IsTold status (line_of line) before now old new answer
-told_of_name status line before now old new answer h =
-    let P : List ℕ → Type 0 = λ l. IsTold status (line_of l) before now old new answer in subst P (append-nil line) h
 
 -- both texts were read, the shelf telling the same all along, and the lines were put
 pub run_end : (told told' : Told) (r : Run) (w v : Wanted) (source text lock : List ℕ) (lines shown : List (List ℕ)) (before mid after : List (List ℕ)) (old new : Taken) (answer : Result (Unit {0}) Refusal) →
@@ -72,10 +65,8 @@ run_end told told' r w v source text lock lines shown before mid after old new a
 cause_of_shown : (told : Told) (r : Run) (source lock : List ℕ) (before after : List (List ℕ)) (now : Taken) (why : Refusal) →
     IsRead told (source_text r.source) source → IsRead told (source_text r.lock) lock → after ≡ before → IsShown r source (Err why) →
     IsCause told (run r) before after now now why
-cause_of_shown told r source lock before after now (refusal.Misread n code p) first second same shown =
-    (refusal_of_text told r source lock (fault_line n.now code p) first second shown, same, refl)
-cause_of_shown told r source lock before after now (refusal.NotFirstForm n) first second same shown =
-    (refusal_of_text told r source lock (line_of (n.now ++ codes ":1:1: R0")) first second shown, same, refl)
+cause_of_shown told r source lock before after now (refusal.Faulty n f) first second same shown =
+    (refusal_of_text told r source lock (module_line n.now f) first second shown, same, refl)
 cause_of_shown told r source lock before after now refusal.Memory first second same shown = (inl refl, same)
 cause_of_shown told r source lock before after now refusal.Usage first second same shown = absurd shown
 cause_of_shown told r source lock before after now (refusal.Unread n) first second same shown = absurd shown
@@ -125,12 +116,9 @@ unwritten_command told c before after out_old out_new puts puts_now (refusal.Unr
 unwritten_command told c before after out_old out_new puts puts_now (refusal.TooLong name) count now old new answer cause counts said four =
     let h = untold 12 _ count now old new answer (inr (omega arith)) said four in
     inr (cause.2, counts, (h.0, line_of (codes "cascc: too long " ++ name.now), too_long c name.now cause.0, h.1))
-unwritten_command told c before after out_old out_new puts puts_now (refusal.Misread name code p) count now old new answer cause counts said four =
+unwritten_command told c before after out_old out_new puts puts_now (refusal.Faulty name f) count now old new answer cause counts said four =
     let h = untold 1 _ count now old new answer (inl (omega arith)) said four in
-    inr (cause.2, counts, (h.0, fault_line name.now code p, refused c 1 (fault_line name.now code p) cause.0, h.1))
-unwritten_command told c before after out_old out_new puts puts_now (refusal.NotFirstForm name) count now old new answer cause counts said four =
-    let h = untold 1 _ count now old new answer (inl (omega arith)) said four in
-    inr (cause.2, counts, (h.0, line_of (name.now ++ codes ":1:1: R0"), refused c 1 (line_of (name.now ++ codes ":1:1: R0")) cause.0, h.1))
+    inr (cause.2, counts, (h.0, module_line name.now f, refused c 1 (module_line name.now f) cause.0, h.1))
 unwritten_command told c before after out_old out_new puts puts_now refusal.Unwritten count now old new answer cause counts said four = inl counts
 unwritten_command told c before after out_old out_new puts puts_now refusal.Memory count now old new answer cause counts said four = absurd (four_nine answer said.0 four)
 
@@ -140,8 +128,7 @@ pub unread_or_kept : (told : Told) (c : Command) (before after : List (List ℕ)
 unread_or_kept told c before after old new puts puts_now refusal.Usage cause counts = absurd cause
 unread_or_kept told c before after old new puts puts_now (refusal.Unread name) cause counts = inr (cause.1, counts)
 unread_or_kept told c before after old new puts puts_now (refusal.TooLong name) cause counts = inl cause.1
-unread_or_kept told c before after old new puts puts_now (refusal.Misread name code p) cause counts = inl cause.1
-unread_or_kept told c before after old new puts puts_now (refusal.NotFirstForm name) cause counts = inl cause.1
+unread_or_kept told c before after old new puts puts_now (refusal.Faulty name f) cause counts = inl cause.1
 unread_or_kept told c before after old new puts puts_now refusal.Unwritten cause counts = inl cause.1
 unread_or_kept told c before after old new puts puts_now refusal.Memory cause counts = inl cause.1
 
@@ -154,8 +141,7 @@ pub cut_of_cause : (told : Told) (c : Command) (before after : List (List ℕ)) 
 cut_of_cause told c before after old new refusal.Usage cause = absurd cause
 cut_of_cause told c before after old new (refusal.Unread name) cause = inl cause.1
 cut_of_cause told c before after old new (refusal.TooLong name) cause = inl cause.2
-cut_of_cause told c before after old new (refusal.Misread name code p) cause = inl cause.2
-cut_of_cause told c before after old new (refusal.NotFirstForm name) cause = inl cause.2
+cut_of_cause told c before after old new (refusal.Faulty name f) cause = inl cause.2
 cut_of_cause told c before after old new refusal.Unwritten cause = inr cause.0
 cut_of_cause told c before after old new refusal.Memory cause = cause.0
 
@@ -165,7 +151,6 @@ pub partly_of_cause : (told : Told) (c : Command) (before after : List (List ℕ
 partly_of_cause told c before after old new puts puts_now refusal.Usage cause counts risen = absurd cause
 partly_of_cause told c before after old new puts puts_now (refusal.Unread name) cause counts risen = absurd (not_risen puts puts_now counts risen)
 partly_of_cause told c before after old new puts puts_now (refusal.TooLong name) cause counts risen = absurd (not_risen puts puts_now counts risen)
-partly_of_cause told c before after old new puts puts_now (refusal.Misread name code p) cause counts risen = absurd (not_risen puts puts_now counts risen)
-partly_of_cause told c before after old new puts puts_now (refusal.NotFirstForm name) cause counts risen = absurd (not_risen puts puts_now counts risen)
+partly_of_cause told c before after old new puts puts_now (refusal.Faulty name f) cause counts risen = absurd (not_risen puts puts_now counts risen)
 partly_of_cause told c before after old new puts puts_now refusal.Unwritten cause counts risen = cause.0
 partly_of_cause told c before after old new puts puts_now refusal.Memory cause counts risen = absurd (not_risen puts puts_now counts risen)

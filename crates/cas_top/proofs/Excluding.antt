@@ -4,10 +4,15 @@ use Rattle.cas_outside.specs.Shelf.{Texts, text_of}
 use Rattle.cas_top.specs.Answer.{IsRead, AreRead, IsFirstLong}
 use Rattle.cas_top.specs.Exclusion.{CausesExclude}
 use Rattle.cas_clight.specs.Tree.{ModuleTree}
-use Rattle.cas_read.proofs.Texts.{one_module, no_module_and_fault}
+use Rattle.cas_parse.proofs.Texts.{one_module, no_module_and_fault}
 use Rattle.cas_syntax.specs.Tree as syntax
 use Rattle.cas_top.specs.First_form.{first_form}
-use Rattle.cas_top.specs.Plan.{prints, refuses, Plans, PrintsLines, RefusesText}
+use Rattle.cas_typed.proofs.Modules.{typed_without_fault}
+use Rattle.cas_typed.specs.Faults.{Fault}
+use Rattle.cas_typed.specs.Modules.{IsTyped}
+use Rattle.cas_typed.specs.Resolved.{TypedModuleTree}
+use Rattle.cas_typed.specs.Walk.{HasTypeFault}
+use Rattle.cas_top.specs.Plan.{prints, refuses, Plans, PrintsLines, RefusesText, misread, untyped, formless}
 use Rattle.cas_top.specs.Words.{Command, Run, Wanted, run, wanted_texts}
 
 some_injective : (x y : List ℕ) → Some x ≡ Some y → x ≡ y
@@ -46,11 +51,20 @@ one_form name m n tree same some none =
     let kept : first_form name n ≡ Some tree = subst P same some in
     cc
 
+-- a typed module has no fault of typing
+typed_and_faulty : (m n : syntax.ModuleTree) (r : TypedModuleTree) (f : Fault) → m ≡ n → IsTyped m r → HasTypeFault n f → ⊥
+typed_and_faulty m n r f same typed fault =
+    let P : syntax.ModuleTree → Type 0 = λ x. IsTyped x r in
+    typed_without_fault n r f (subst P same typed) fault
+
 -- a text that prints lines isn't refused
 shown_and_refused : (r : Run) (text : List ℕ) (lines : List (List ℕ)) (line : List ℕ) → PrintsLines text r.thread lines → RefusesText r text line → ⊥
-shown_and_refused r text lines line (tree, (m, read, form), report, finished, whole) (inl (code, p, fault, same)) = no_module_and_fault text m code p read fault
-shown_and_refused r text lines line (tree, (m, read, form), report, finished, whole) (inr (n, other, none, same)) =
-    one_form r.thread m n tree (one_module text m n read other) form none
+shown_and_refused r text lines line (tree, form, report, finished, whole) (misread code p fault) =
+    no_module_and_fault text form.read_module code p form.read fault
+shown_and_refused r text lines line (tree, form, report, finished, whole) (untyped m f read fault) =
+    typed_and_faulty form.read_module m form.resolved f (one_module text form.read_module m form.read read) form.typed fault
+shown_and_refused r text lines line (tree, form, report, finished, whole) (formless m resolved read typed none) =
+    one_form r.thread form.read_module m tree (one_module text form.read_module m form.read read) form.form none
 
 -- on the same texts a command doesn't come to both
 pub one_plan : (c : Command) (texts lines : List (List ℕ)) (s t : ℕ) (line : List ℕ) → Plans c texts (prints s lines) → Plans c texts (refuses t line) → ⊥

@@ -1,16 +1,20 @@
 -- A module of the first form has code.
-use Rattle.std.proofs.Common.{◌≡◌, ℕ, Bool, true, false, ◌&&◌, List, [], ◌∷◌, ◌++◌, Option, Some, None, if◌then◌else◌, refl, subst}
+use Rattle.std.proofs.Common.{◌≡◌, ℕ, Bool, true, false, ◌&&◌, List, [], ◌∷◌, ◌++◌, map, Option, Some, None, if◌then◌else◌, refl, sym, ap, ◌∙◌, subst}
 use Rattle.cas_base.specs.declared.kind.Kind.TheVariants.{I32}
 use Rattle.cas_base.specs.declared.place.Place.{Place}
 use Rattle.cas_clight.specs.Tree as clight
 use Rattle.cas_clight.specs.declared.tree.BinaryOperator.TheVariants as operator
-use Rattle.cas_syntax.specs.Tree.{ExprTree, literal, binary, StmtTree, StmtList, no_more, one_more, print, FunTree, ItemTree, define, ModuleTree, form_tree, item_tree}
+use Rattle.cas_syntax.specs.Tree.{ExprTree, literal, binary, StmtTree, StmtList, no_more, one_more, print, FunTree, ItemTree, global, prototype, define, ModuleTree, form_tree, item_tree, module_tree}
 use Rattle.cas_syntax.specs.declared.tree.Fun.{Fun}
 use Rattle.cas_syntax.specs.declared.tree.Item.{Item}
 use Rattle.cas_syntax.specs.declared.tree.Item.TheVariants as item
 use Rattle.cas_syntax.specs.declared.tree.Expr.{Expr}
 use Rattle.cas_syntax.specs.declared.tree.StmtForm.{StmtForm, Print}
 use Rattle.cas_syntax.specs.declared.tree.BinaryOperator.TheVariants.{Add}
+use Rattle.cas_typed.specs.Modules.{filled_item, IsTyped}
+use Rattle.cas_typed.specs.Resolved.{TypedModuleTree}
+use Rattle.cas_typed.specs.Typed_as.{IsTypedAs}
+use Rattle.cas_typed.specs.declared.typed.Typed.{Typed}
 use Rattle.cas_top.specs.First_form.{sum_of, added, printing, body_of, module_with, is_entry_named, first_form_of, first_form}
 use Rattle.cas_top.specs.Machine.{IsExprCode, loads, adds, IsBodyCode, IsItemsCode}
 use Rattle.cas_top.specs.declared.machine.Instr.{Instr}
@@ -88,3 +92,17 @@ no_function name _ h = refl
 pub of_function : (name : List ℕ) (items : List ItemTree) (f : FunTree) → items ≡ define f ∷ [] → is_entry_named name f ≡ true →
     first_form_of name items ≡ module_with f (body_of f.body)
 of_function name items f e h = rw (e, h)
+
+-- values that are filled up don't matter to the form
+filled_items_form : (name : List ℕ) (items : List ItemTree) → first_form_of name (map filled_item items) ≡ first_form_of name items
+filled_items_form name [] = refl
+filled_items_form name (global d vs p ∷ []) = refl
+filled_items_form name (prototype d hs p ∷ []) = refl
+filled_items_form name (define f ∷ []) = refl
+filled_items_form name (a ∷ b ∷ items) = two_items name (filled_item a) (filled_item b) (map filled_item items) ∙ sym (two_items name a b items)
+
+-- a typed module is of the first form where the module that it was made of is
+pub form_of_typed : (name : List ℕ) (m : ModuleTree) (typed : Typed) (r : TypedModuleTree) → IsTypedAs typed r → IsTyped m r →
+    first_form name (module_tree typed.filled) ≡ first_form name m
+form_of_typed name m typed r stands good =
+    ap (first_form name) (sym stands.module_tree ∙ good.module_tree) ∙ filled_items_form name m.items

@@ -10,6 +10,8 @@ use Rattle.cas_clight.specs.declared.tree.Expr.{Expr}
 use Rattle.cas_syntax.specs.Reading.{IsReadAs}
 use Rattle.cas_syntax.specs.Tree.{ExprTree, literal, binary, StmtList, no_more, one_more, print, FunTree, ItemTree, define, ModuleTree}
 use Rattle.cas_syntax.specs.declared.tree.BinaryOperator.TheVariants.{Add}
+use Rattle.cas_typed.specs.Modules.{IsTyped}
+use Rattle.cas_typed.specs.Resolved.{TypedModuleTree}
 
 -- the sum and a further literal
 abbrev pub added : Option clight.ExprTree → (value : ℕ) → Option clight.ExprTree
@@ -54,9 +56,13 @@ first_form_of name _ = None
 abbrev pub first_form : (name : List ℕ) → ModuleTree → Option clight.ModuleTree
 first_form name m = first_form_of name m.items
 
--- the text is read as a module of the first form, whose function has this name
-abbrev pub IsFirstForm : (text name : List ℕ) → clight.ModuleTree → Type 0
-IsFirstForm text name tree = (m : ModuleTree) × IsReadAs text m × (first_form name m ≡ Some tree)
+-- the text is read as a typed module of the first form, whose function has this name
+pub record IsFirstForm (text name : List ℕ) (tree : clight.ModuleTree) : Type 0 where
+  pub read_module : ModuleTree
+  pub read : IsReadAs text read_module
+  pub resolved : TypedModuleTree
+  pub typed : IsTyped read_module resolved
+  pub form : first_form name read_module ≡ Some tree
 
 -- the tree of an expression, where there is one
 abbrev pub held : Option Expr → Option clight.ExprTree

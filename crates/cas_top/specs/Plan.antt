@@ -1,5 +1,5 @@
 -- What a command comes to on the texts of its names: a refusal, or lines to print.
-use Rattle.std.specs.Prelude.{◌≡◌, ◌↔◌, ◌⊎◌, ℕ, None, List, [], ◌∷◌, ◌++◌, Some, slice_get, codes}
+use Rattle.std.specs.Prelude.{◌≡◌, ◌↔◌, ℕ, None, List, [], ◌∷◌, Some, slice_get}
 use Rattle.cas_clight.specs.Tree.{ModuleTree}
 use Rattle.cas_clight.specs.Program.{env_of}
 use Rattle.cas_clight.specs.Step.{FunctionAt}
@@ -8,9 +8,13 @@ use Rattle.cas_base.specs.declared.place.Place.{Place}
 use Rattle.cas_lex.specs.declared.code.ReadCode.{ReadCode}
 use Rattle.cas_syntax.specs.Reading.{IsReadAs, HasReadFault}
 use Rattle.cas_syntax.specs.Tree as syntax
+use Rattle.cas_typed.specs.Faults.{Fault}
+use Rattle.cas_typed.specs.Modules.{IsTyped}
+use Rattle.cas_typed.specs.Resolved.{TypedModuleTree}
+use Rattle.cas_typed.specs.Walk.{HasTypeFault}
 use Rattle.cas_top.specs.First_form.{first_form, IsFirstForm}
 use Rattle.cas_top.specs.Machine.{Report, IsItemsCode, RunsTo}
-use Rattle.cas_top.specs.Printed.{line_of, report_lines, fault_line}
+use Rattle.cas_top.specs.Printed.{report_lines, fault_line, type_fault_line, form_line}
 use Rattle.cas_top.specs.Words.{Command, Run, run}
 use Rattle.cas_top.specs.declared.machine.End.{End}
 use Rattle.cas_top.specs.declared.machine.End.TheVariants.{Done}
@@ -56,11 +60,13 @@ PrintsLines text thread lines =
     (tree : ModuleTree) × IsFirstForm text thread tree
     × (report : Report) × IsFinished tree report × (lines ≡ report_lines report)
 
--- the line that refuses a module text: its first fault; or `R0`, where it is read as a module that isn't of the first form
-abbrev pub RefusesText : Run → (text line : List ℕ) → Type 0
-RefusesText r text line =
-    ((code : ReadCode) × (p : Place) × HasReadFault text code p × (line ≡ fault_line r.source code p))
-    ⊎ ((m : syntax.ModuleTree) × IsReadAs text m × (first_form r.thread m ≡ None) × (line ≡ line_of (r.source ++ codes ":1:1: R0")))
+-- The line that refuses a module text: of its first fault; of the first fault of typing of the module that it is read as; or
+-- `R0`, of a typed module that isn't of the first form.
+pub data RefusesText (r : Run) (text : List ℕ) : (line : List ℕ) → Type 0 where
+  misread : (code : ReadCode) (p : Place) → HasReadFault text code p → RefusesText r text (fault_line r.source code p)
+  untyped : (m : syntax.ModuleTree) (f : Fault) → IsReadAs text m → HasTypeFault m f → RefusesText r text (type_fault_line r.source f)
+  formless : (m : syntax.ModuleTree) (resolved : TypedModuleTree) → IsReadAs text m → IsTyped m resolved → first_form r.thread m ≡ None →
+      RefusesText r text (form_line r.source)
 
 -- what a command comes to, where these are the texts of its names in their order
 abbrev pub Plans : Command → (texts : List (List ℕ)) → Plan → Type 0

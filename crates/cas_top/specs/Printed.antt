@@ -1,10 +1,15 @@
--- The lines that `run` prints, and that of a fault of a module text.
-use Rattle.std.specs.Prelude.{ℕ, ◌+◌, List, [], ◌∷◌, ◌++◌, map, codes}
+-- The lines that `run` prints, and that of a fault of a module.
+use Rattle.std.specs.Prelude.{ℕ, ◌+◌, List, [], ◌∷◌, ◌++◌, map, Option, Some, None, codes}
 use Rattle.std.specs.Fmt.{decimal, signed_decimal}
 use Rattle.cas_base.specs.Word.{signed}
 use Rattle.cas_base.specs.declared.place.Place.{Place}
 use Rattle.cas_lex.specs.declared.code.ReadCode.{ReadCode}
 use Rattle.cas_lex.specs.declared.code.ReadCode.TheVariants.{R1, R2, R3, R4, R5, R6, R7, R8}
+use Rattle.cas_typed.specs.Faults.{Fault, fault, limit}
+use Rattle.cas_typed.specs.declared.fault.TypeCode.{TypeCode}
+use Rattle.cas_typed.specs.declared.fault.TypeCode.TheVariants.{T1, T2, T3, T4, T5, T6, T7}
+use Rattle.cas_typed.specs.declared.fault.TypeCount.{TypeCount}
+use Rattle.cas_typed.specs.declared.fault.TypeCount.TheVariants.{Parameters, Cells, Nodes, Functions, Words}
 use Rattle.cas_top.specs.Machine.{Report}
 use Rattle.cas_top.specs.declared.machine.End.{End}
 use Rattle.cas_top.specs.declared.machine.End.TheVariants as end
@@ -35,7 +40,11 @@ end_lines k (e ∷ ends) = end_line k e ∷ end_lines (k + 1) ends
 abbrev pub report_lines : Report → List (List ℕ)
 report_lines r = map out_line r.out ++ end_lines 0 r.ends
 
--- the code of a fault, in letters
+-- `NAME:LINE:COL: REST`
+abbrev pub place_line : (name : List ℕ) → Place → (rest : List ℕ) → List ℕ
+place_line name p rest = line_of (name ++ codes ":" ++ decimal p.line ++ codes ":" ++ decimal p.col ++ codes ": " ++ rest)
+
+-- the code of a text's fault, in letters
 abbrev pub code_letters : ReadCode → List ℕ
 code_letters R1 = codes "R1"
 code_letters R2 = codes "R2"
@@ -48,5 +57,45 @@ code_letters R8 = codes "R8"
 
 -- `NAME:LINE:COL: CODE`
 abbrev pub fault_line : (name : List ℕ) → ReadCode → Place → List ℕ
-fault_line name code p =
-    line_of (name ++ codes ":" ++ decimal p.line ++ codes ":" ++ decimal p.col ++ codes ": " ++ code_letters code)
+fault_line name code p = place_line name p (code_letters code)
+
+-- the code of a fault of typing, in letters
+abbrev pub type_letters : TypeCode → List ℕ
+type_letters T1 = codes "T1"
+type_letters T2 = codes "T2"
+type_letters T3 = codes "T3"
+type_letters T4 = codes "T4"
+type_letters T5 = codes "T5"
+type_letters T6 = codes "T6"
+type_letters T7 = codes "T7"
+
+-- what is counted, in a word
+abbrev pub count_word : TypeCount → List ℕ
+count_word Parameters = codes "parameters"
+count_word Cells = codes "cells"
+count_word Nodes = codes "nodes"
+count_word Functions = codes "functions"
+count_word Words = codes "words"
+
+-- the name that is kept, if there is one, behind a space
+abbrev pub kept_name : Option (List ℕ) → List ℕ
+kept_name None = []
+kept_name (Some name) = codes " " ++ name
+
+-- a fault of typing in words: `CODE`, `CODE NAME`, or `T8 COUNT NUMBER`
+abbrev pub type_fault_words : Fault → List ℕ
+type_fault_words (fault code p kept) = type_letters code ++ kept_name kept
+type_fault_words (limit p what n) = codes "T8 " ++ count_word what ++ codes " " ++ decimal n
+
+-- where it stands
+abbrev pub type_fault_place : Fault → Place
+type_fault_place (fault code p kept) = p
+type_fault_place (limit p what n) = p
+
+-- `NAME:LINE:COL: ` and the fault
+abbrev pub type_fault_line : (name : List ℕ) → Fault → List ℕ
+type_fault_line name f = place_line name (type_fault_place f) (type_fault_words f)
+
+-- `NAME:1:1: R0`, of a module that isn't of the first form
+abbrev pub form_line : (name : List ℕ) → List ℕ
+form_line name = line_of (name ++ codes ":1:1: R0")

@@ -4,6 +4,8 @@ use Rattle.std.specs.declared.vec.Vec.{Vec}
 use Rattle.std.specs.declared.alloc.Global.{Global}
 use Rattle.cas_outside.specs.Shelf.{TellsLonger}
 use Rattle.cas_outside.specs.Sink.{TakesAll, TakesPrefix}
+use Rattle.cas_top.specs.declared.refusal.ModuleFault.{ModuleFault}
+use Rattle.cas_top.specs.declared.refusal.ModuleFault.TheVariants as fault
 use Rattle.cas_top.specs.declared.refusal.Refusal.{Refusal}
 use Rattle.cas_top.specs.declared.refusal.Refusal.TheVariants as refusal
 use Rattle.cas_top.specs.declared.words.Command.{Command}
@@ -12,7 +14,14 @@ use Rattle.cas_top.specs.declared.words.Run.{Run}
 use Rattle.cas_top.specs.declared.words.Wanted.{Wanted}
 use Rattle.cas_top.specs.Answer.{Told, Taken, IsRefusal, IsFirstLong, IsCut, IsPartly, IsPrinted, IsRead, IsFailed, IsTried}
 use Rattle.cas_top.specs.Plan.{PrintsLines, RefusesText}
-use Rattle.cas_top.specs.Printed.{line_of, fault_line}
+use Rattle.cas_syntax.specs.Reading.{IsReadAs}
+use Rattle.cas_syntax.specs.Tree.{ModuleTree}
+use Rattle.cas_typed.specs.Faults as type
+use Rattle.cas_typed.specs.Modules.{IsTyped}
+use Rattle.cas_typed.specs.Resolved.{TypedModuleTree}
+use Rattle.cas_typed.specs.Typed_as.{IsTypedAs}
+use Rattle.cas_typed.specs.declared.typed.Typed.{Typed}
+use Rattle.cas_top.specs.Printed.{line_of, fault_line, type_fault_line, form_line}
 use Rattle.cas_top.specs.Words as words
 
 abbrev pub run_view : Run → words.Run
@@ -39,11 +48,24 @@ IsPutLines old text new (Err refusal.Unwritten) = TakesPrefix old text new
 IsPutLines old text new (Err refusal.Memory) = TakesPrefix old text new
 IsPutLines old text new (Err r) = ⊥
 
+-- the line of a module's fault
+abbrev pub module_line : (name : List ℕ) → ModuleFault → List ℕ
+module_line name (fault.Misread code p) = fault_line name code p
+module_line name (fault.Untyped code p kept) = type_fault_line name (type.fault code p kept)
+module_line name (fault.Excessive p what counted) = type_fault_line name (type.limit p what counted)
+module_line name fault.Formless = form_line name
+
+-- the typed module that a text is read as, or why there is none
+abbrev pub IsTypedText : words.Run → (text : List ℕ) → Result Typed Refusal → Type 0
+IsTypedText r text (Ok typed) = (m : ModuleTree) × (t : TypedModuleTree) × IsReadAs text m × IsTypedAs typed t × IsTyped m t
+IsTypedText r text (Err (refusal.Faulty n f)) = RefusesText r text (module_line n.now f)
+IsTypedText r text (Err refusal.Memory) = Unit {0}
+IsTypedText r text (Err other) = ⊥
+
 -- the lines that a module text prints, or why it prints none
 abbrev pub IsShown : words.Run → (text : List ℕ) → Result (Vec (List ℕ) Global) Refusal → Type 0
 IsShown r text (Ok lines) = PrintsLines text r.thread lines.items
-IsShown r text (Err (refusal.Misread n code p)) = RefusesText r text (fault_line n.now code p)
-IsShown r text (Err (refusal.NotFirstForm n)) = RefusesText r text (line_of (n.now ++ codes ":1:1: R0"))
+IsShown r text (Err (refusal.Faulty n f)) = RefusesText r text (module_line n.now f)
 IsShown r text (Err refusal.Memory) = Unit {0}
 IsShown r text (Err other) = ⊥
 
@@ -53,10 +75,8 @@ IsCause told c before after old new refusal.Usage = ⊥
 IsCause told c before after old new (refusal.Unread name) = IsFailed told c before after name.now × (new ≡ old)
 IsCause told c before after old new (refusal.TooLong name) =
     IsFirstLong told (words.wanted_texts c) name.now × (after ≡ before) × (new ≡ old)
-IsCause told c before after old new (refusal.Misread name code p) =
-    IsRefusal told c 1 (fault_line name.now code p) × (after ≡ before) × (new ≡ old)
-IsCause told c before after old new (refusal.NotFirstForm name) =
-    IsRefusal told c 1 (line_of (name.now ++ codes ":1:1: R0")) × (after ≡ before) × (new ≡ old)
+IsCause told c before after old new (refusal.Faulty name f) =
+    IsRefusal told c 1 (module_line name.now f) × (after ≡ before) × (new ≡ old)
 IsCause told c before after old new refusal.Unwritten = IsPartly told (Some c) old new × (after ≡ before)
 IsCause told c before after old new refusal.Memory = IsCut told (Some c) old new × (after ≡ before)
 
@@ -87,5 +107,4 @@ IsSaid refusal.Memory before now old new answer = (answer ≡ 9) × IsTried (lin
 IsSaid refusal.Usage before now old new answer = IsTold 2 (line_of (codes "cascc: usage")) before now old new answer
 IsSaid (refusal.Unread name) before now old new answer = IsTold 3 (line_of (codes "cascc: cannot read " ++ name.now)) before now old new answer
 IsSaid (refusal.TooLong name) before now old new answer = IsTold 12 (line_of (codes "cascc: too long " ++ name.now)) before now old new answer
-IsSaid (refusal.Misread name code p) before now old new answer = IsTold 1 (fault_line name.now code p) before now old new answer
-IsSaid (refusal.NotFirstForm name) before now old new answer = IsTold 1 (line_of (name.now ++ codes ":1:1: R0")) before now old new answer
+IsSaid (refusal.Faulty name f) before now old new answer = IsTold 1 (module_line name.now f) before now old new answer

@@ -4,15 +4,17 @@
 ghost use Rattle.std.specs.Prelude.{◌≡◌, ◌≤◌, length};
 ghost use Rattle.std.specs.List.{concat};
 ghost use Rattle.cas_top.specs.Words.{run, source_limit};
-ghost use Rattle.cas_top.specs.View.{command_view, run_view, wanted_view, IsEnd, Counts, IsFetched, IsPutLines, IsShown};
+ghost use Rattle.cas_top.specs.View.{command_view, run_view, wanted_view, IsEnd, Counts, IsFetched, IsPutLines, IsShown, IsTypedText};
 
 use crate::first_form::first_form;
 use crate::outcome::lines_of;
-use crate::refusal::Refusal;
+use crate::refusal::{ModuleFault, Refusal};
 use crate::words::{Command, Run, Wanted, source_text};
 use cas_base::{NoMemory, Text};
 use cas_outside::{Shelf, ShelfFault, Sink, SinkFault};
 use cas_read::{ReadFault, read_module};
+use cas_type::{TypeFault, type_module};
+use cas_typed::Typed;
 use std::alloc::Global;
 
 /// Does the work of a command.
@@ -74,25 +76,50 @@ fn fetch<'a, S: Shelf>(
     }
 }
 
+// The typed module that a text is read as.
+fn typed_module<'a>(alloc: Global, text: &[u8], given: Run<'a>) -> Result<Typed, Refusal<'a>>
+    requires { length text.now ≤ source_limit }
+    ensures typed { IsTypedText (run_view given.entry) text.now result }
+{
+    let tree = match read_module(alloc, text) {
+        Ok(tree) => tree,
+        Err(ReadFault::At { code, place }) => {
+            return Err(Refusal::Faulty(given.source, ModuleFault::Misread(code, place)));
+        }
+        Err(ReadFault::Memory) => return Err(Refusal::Memory),
+    };
+    match type_module(alloc, tree) {
+        Ok(typed) => Ok(typed),
+        Err(TypeFault::At { code, place, name }) => {
+            Err(Refusal::Faulty(given.source, ModuleFault::Untyped(code, place, name)))
+        }
+        Err(
+            TypeFault::Limit {
+                place,
+                what,
+                counted,
+            },
+        ) => { Err(Refusal::Faulty(given.source, ModuleFault::Excessive(place, what, counted))) }
+        Err(TypeFault::Memory) => Err(Refusal::Memory),
+    }
+}
+
 // The lines that a module text prints on one thread.
 fn lines_of_text<'a>(alloc: Global, text: &[u8], given: Run<'a>) -> Result<Vec<Text>, Refusal<'a>>
     requires { length text.now ≤ source_limit }
     ensures shown { IsShown (run_view given.entry) text.now result }
 {
-    let tree = match read_module(alloc, text) {
-        Ok(tree) => tree,
-        Err(ReadFault::At { code, place }) => {
-            return Err(Refusal::Misread(given.source, code, place));
-        }
-        Err(ReadFault::Memory) => return Err(Refusal::Memory),
+    let typed = match typed_module(alloc, text, given) {
+        Ok(typed) => typed,
+        Err(refusal) => return Err(refusal),
     };
-    match first_form(alloc, &tree, given.thread) {
+    match first_form(alloc, typed.module(), given.thread) {
         Ok(Some(module)) => match lines_of(alloc, &module) {
             Ok(Some(lines)) => Ok(lines),
             Ok(None) => unreachable!(),
             Err(NoMemory) => Err(Refusal::Memory),
         },
-        Ok(None) => Err(Refusal::NotFirstForm(given.source)),
+        Ok(None) => Err(Refusal::Faulty(given.source, ModuleFault::Formless)),
         Err(NoMemory) => Err(Refusal::Memory),
     }
 }

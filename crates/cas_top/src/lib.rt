@@ -12,6 +12,8 @@ mod refusal;
 #[cfg(test)]
 mod tests;
 mod top;
+#[cfg(test)]
+mod typing_tests;
 mod words;
 
 pub use top::cascc;

@@ -1,10 +1,14 @@
-//! The lines that a run prints, and that of a fault of a module text.
-ghost use Rattle.std.specs.Prelude.{◌≡◌, ◌<◌, ◌^◌, ◌++◌, IfOk, OnOk, length, map};
-ghost use Rattle.cas_top.specs.Printed.{code_letters, fault_line, out_line, end_words, end_line, end_lines, report_lines};
+//! The lines that a run prints, and that of a module's fault.
+ghost use Rattle.std.specs.Prelude.{◌≡◌, ◌<◌, ◌^◌, ◌++◌, IfOk, OnOk, Some, codes, length, map};
+ghost use Rattle.std.specs.Fmt.{decimal};
+ghost use Rattle.cas_top.specs.View.{module_line};
+ghost use Rattle.cas_top.specs.Printed.{code_letters, count_word, form_line, kept_name, out_line, end_words, end_line, end_lines, place_line, report_lines, type_letters};
 
 use crate::machine::{End, Report};
-use cas_base::{NoMemory, Place, Text};
+use crate::refusal::ModuleFault;
+use cas_base::{Name, NoMemory, Place, Text};
 use cas_read::ReadCode;
+use cas_typed::{TypeCode, TypeCount};
 use std::alloc::Global;
 
 /// The lines of a report: its outputs in order, and then the ends of its threads.
@@ -69,23 +73,93 @@ fn end_words(end: End) -> &'static str
     }
 }
 
-/// `NAME:LINE:COL: CODE`.
-pub(crate) fn fault_line(
-    alloc: Global,
-    name: &str,
-    code: ReadCode,
-    place: Place,
-) -> Result<Text, NoMemory>
-    ensures { IfOk result (λ line. line ≡ fault_line name.now code place) }
+/// The line of a module's fault: `NAME:LINE:COL: ` with its code, and what is kept.
+pub(crate) fn module_line(alloc: Global, name: &str, fault: ModuleFault) -> Result<Text, NoMemory>
+    ensures { IfOk result (λ line. line ≡ module_line name.now fault) }
+{
+    match fault {
+        ModuleFault::Misread(code, place) => place_line(alloc, name, place, read_letters(code)),
+        ModuleFault::Untyped(code, place, None) => {
+            place_line(alloc, name, place, type_letters(code))
+        }
+        ModuleFault::Untyped(code, place, Some(kept)) => {
+            let words = named_fault(alloc, code, &kept)?;
+            place_line(alloc, name, place, words.as_str())
+        }
+        ModuleFault::Excessive(place, what, counted) => {
+            let words = limit_words(alloc, what, counted)?;
+            place_line(alloc, name, place, words.as_str())
+        }
+        ModuleFault::Formless => form_line(alloc, name),
+    }
+}
+
+// `NAME:LINE:COL: REST`.
+fn place_line(alloc: Global, name: &str, place: Place, rest: &str) -> Result<Text, NoMemory>
+    ensures { IfOk result (λ line. line ≡ place_line name.now place rest.now) }
 {
     let Place { line, col } = place;
-    let letters = code_letters(code);
-    let text = format!(in alloc; "{name}:{line}:{col}: {letters}\n")?;
+    let text = format!(in alloc; "{name}:{line}:{col}: {rest}\n")?;
     Ok(Text::of(text))
 }
 
-// The code of a fault, in letters.
-fn code_letters(code: ReadCode) -> &'static str
+// `CODE NAME`.
+fn named_fault(alloc: Global, code: TypeCode, kept: &Name) -> Result<Text, NoMemory>
+    ensures { IfOk result (λ words. words ≡ type_letters code ++ kept_name (Some kept.now)) }
+{
+    let letters = type_letters(code);
+    let kept = kept.as_str();
+    let text = format!(in alloc; "{letters} {kept}")?;
+    Ok(Text::of(text))
+}
+
+// `T8 COUNT NUMBER`.
+fn limit_words(alloc: Global, what: TypeCount, counted: u64) -> Result<Text, NoMemory>
+    ensures { IfOk result (λ words. words ≡ codes "T8 " ++ count_word what ++ codes " " ++ decimal counted) }
+{
+    let word = count_word(what);
+    let text = format!(in alloc; "T8 {word} {counted}")?;
+    Ok(Text::of(text))
+}
+
+// `NAME:1:1: R0`.
+fn form_line(alloc: Global, name: &str) -> Result<Text, NoMemory>
+    ensures { IfOk result (λ line. line ≡ form_line name.now) }
+{
+    let text = format!(in alloc; "{name}:1:1: R0\n")?;
+    Ok(Text::of(text))
+}
+
+// The code of a fault of typing, in letters.
+fn type_letters(code: TypeCode) -> &'static str
+    ensures { result.now ≡ type_letters code }
+{
+    match code {
+        TypeCode::T1 => "T1",
+        TypeCode::T2 => "T2",
+        TypeCode::T3 => "T3",
+        TypeCode::T4 => "T4",
+        TypeCode::T5 => "T5",
+        TypeCode::T6 => "T6",
+        TypeCode::T7 => "T7",
+    }
+}
+
+// What is counted, in a word.
+fn count_word(what: TypeCount) -> &'static str
+    ensures { result.now ≡ count_word what }
+{
+    match what {
+        TypeCount::Parameters => "parameters",
+        TypeCount::Cells => "cells",
+        TypeCount::Nodes => "nodes",
+        TypeCount::Functions => "functions",
+        TypeCount::Words => "words",
+    }
+}
+
+// The code of a text's fault, in letters.
+fn read_letters(code: ReadCode) -> &'static str
     ensures { result.now ≡ code_letters code }
 {
     match code {

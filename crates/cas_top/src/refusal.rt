@@ -2,13 +2,14 @@
 
 ghost use Rattle.std.specs.Prelude.{◌≡◌, ◌++◌, IfOk, string_bytes};
 ghost use Rattle.cas_top.specs.Answer.{IsTried};
-ghost use Rattle.cas_top.specs.Printed.{fault_line, line_of};
-ghost use Rattle.cas_top.specs.View.{IsSaid, IsTold};
+ghost use Rattle.cas_top.specs.Printed.{line_of};
+ghost use Rattle.cas_top.specs.View.{module_line, IsSaid, IsTold};
 
-use crate::printed::fault_line;
-use cas_base::{NoMemory, Place};
+use crate::printed::module_line;
+use cas_base::{Name, NoMemory, Place};
 use cas_outside::{Sink, SinkFault};
 use cas_read::ReadCode;
+use cas_typed::{TypeCode, TypeCount};
 use std::alloc::Global;
 
 /// The status where a put failed.
@@ -17,8 +18,21 @@ pub(crate) const UNWRITTEN: u8 = 4;
 /// The status for want of memory.
 pub(crate) const OUT_OF_MEMORY: u8 = 9;
 
+/// Why a module is refused.
+#[derive(Drop)]
+pub(crate) enum ModuleFault {
+    /// The text has this fault first, at this place.
+    Misread(ReadCode, Place),
+    /// This fault of typing is the first, at this place, with the name that is kept.
+    Untyped(TypeCode, Place, Option<Name>),
+    /// The first fault of typing is that a count passes its limit, at this place.
+    Excessive(Place, TypeCount, u64),
+    /// The module isn't of the first form, or its function isn't the thread's.
+    Formless,
+}
+
 /// Why a command ends without all of its text being put.
-#[derive(Clone, Copy)]
+#[derive(Drop)]
 pub(crate) enum Refusal<'a> {
     /// The words give no command.
     Usage,
@@ -26,10 +40,8 @@ pub(crate) enum Refusal<'a> {
     Unread(&'a str),
     /// The text of this name is longer than its limit.
     TooLong(&'a str),
-    /// The module text of this name has this fault first, at this place.
-    Misread(&'a str, ReadCode, Place),
-    /// The module of this name isn't of the first form, or its function isn't the thread's.
-    NotFirstForm(&'a str),
+    /// The module of this name is refused.
+    Faulty(&'a str, ModuleFault),
     /// A put on `out` failed.
     Unwritten,
     /// Want of memory.
@@ -42,10 +54,9 @@ pub(crate) fn refuse<E: Sink>(alloc: Global, err: &mut E, refusal: Refusal) -> u
 {
     match refusal {
         Refusal::Usage => say(err, b"cascc: usage\n", 2),
-        Refusal::Unread(name) => say_name(alloc, err, "cascc: cannot read ", name, "", 3),
-        Refusal::TooLong(name) => say_name(alloc, err, "cascc: too long ", name, "", 12),
-        Refusal::Misread(name, code, place) => say_fault(alloc, err, name, code, place),
-        Refusal::NotFirstForm(name) => say_name(alloc, err, "", name, ":1:1: R0", 1),
+        Refusal::Unread(name) => say_name(alloc, err, "cascc: cannot read ", name, 3),
+        Refusal::TooLong(name) => say_name(alloc, err, "cascc: too long ", name, 12),
+        Refusal::Faulty(name, fault) => say_fault(alloc, err, name, fault),
         Refusal::Unwritten => try_line(err, b"cascc: cannot write\n", UNWRITTEN),
         Refusal::Memory => try_line(err, b"cascc: memory\n", OUT_OF_MEMORY),
     }
@@ -62,28 +73,21 @@ fn say<E: Sink>(err: &mut E, line: &[u8], status: u8) -> u8
     }
 }
 
-// Puts the line of a refusal with this status, with a name in it.
-fn say_name<E: Sink>(
-    alloc: Global,
-    err: &mut E,
-    before: &str,
-    name: &str,
-    after: &str,
-    status: u8,
-) -> u8
-    ensures { IsTold status (line_of (before.now ++ name.now ++ after.now)) (E.faults err.old) (E.faults err.new) (E.taken err.old) (E.taken err.new) result }
+// Puts the line of a refusal with this status, with a name behind these words.
+fn say_name<E: Sink>(alloc: Global, err: &mut E, words: &str, name: &str, status: u8) -> u8
+    ensures { IsTold status (line_of (words.now ++ name.now)) (E.faults err.old) (E.faults err.new) (E.taken err.old) (E.taken err.new) result }
 {
-    match line(alloc, before, name, after) {
+    match line(alloc, words, name) {
         Ok(line) => say(err, line.as_bytes(), status),
         Err(NoMemory) => try_line(err, b"cascc: memory\n", OUT_OF_MEMORY),
     }
 }
 
-// Puts the line of a fault of a module text.
-fn say_fault<E: Sink>(alloc: Global, err: &mut E, name: &str, code: ReadCode, place: Place) -> u8
-    ensures { IsTold 1 (fault_line name.now code place) (E.faults err.old) (E.faults err.new) (E.taken err.old) (E.taken err.new) result }
+// Puts the line of a module's fault.
+fn say_fault<E: Sink>(alloc: Global, err: &mut E, name: &str, fault: ModuleFault) -> u8
+    ensures { IsTold 1 (module_line name.now fault) (E.faults err.old) (E.faults err.new) (E.taken err.old) (E.taken err.new) result }
 {
-    match fault_line(alloc, name, code, place) {
+    match module_line(alloc, name, fault) {
         Ok(line) => say(err, line.as_str().as_bytes(), 1),
         Err(NoMemory) => try_line(err, b"cascc: memory\n", OUT_OF_MEMORY),
     }
@@ -101,10 +105,10 @@ fn try_line<E: Sink>(err: &mut E, line: &[u8], status: u8) -> u8
     }
 }
 
-// A line with a name in it.
-fn line(alloc: Global, before: &str, name: &str, after: &str) -> Result<String, NoMemory>
-    ensures { IfOk result (λ l. string_bytes l ≡ line_of (before.now ++ name.now ++ after.now)) }
+// A line of words with a name behind them.
+fn line(alloc: Global, words: &str, name: &str) -> Result<String, NoMemory>
+    ensures { IfOk result (λ l. string_bytes l ≡ line_of (words.now ++ name.now)) }
 {
-    let line = format!(in alloc; "{before}{name}{after}\n")?;
+    let line = format!(in alloc; "{words}{name}\n")?;
     Ok(line)
 }

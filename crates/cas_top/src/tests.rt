@@ -5,7 +5,7 @@ ghost use Rattle.std.specs.Prelude.{None, []};
 
 use crate::cascc;
 use cas_base::Text;
-use cas_outside::{MemoryShelf, MemorySink, OpenGate, Shelf, ShelfFault};
+use cas_outside::{MemoryShelf, MemorySink, OpenGate, Shelf, ShelfFault, Sink, SinkFault};
 use std::alloc::{AllocError, Global};
 use std::process::Abort;
 use std::test::Fail;
@@ -17,7 +17,7 @@ const SUM: &str = "void w(int me) { print(40 + 1); }";
 
 const PRINTED: &str = "0 41\nthread 0 done\n";
 
-const REFUSED: &str = "m.c:1:1: R0\n";
+pub(crate) const REFUSED: &str = "m.c:1:1: R0\n";
 
 const CANNOT_WRITE: &str = "cascc: cannot write\n";
 
@@ -34,25 +34,26 @@ struct Given<'a> {
 
 // The status and the bytes that a call is to answer.
 #[derive(Clone, Copy)]
-struct Answer<'a> {
+pub(crate) struct Answer<'a> {
     status: u8,
     out: &'a str,
     err: &'a str,
 }
 
-// The words of the sum's run, with nothing that fails.
+// The words of the sum's run. No call reads a third time, or puts a third time on `out` or a second time on `err`: that
+// would fail.
 fn sum_run<'a>() -> Given<'a> {
     Given {
         words: &RUN,
         module_text: SUM,
         lock_text: "lock:\n",
-        reads: &[],
-        outs: &[],
-        errs: &[],
+        reads: &[3],
+        outs: &[3],
+        errs: &[2],
     }
 }
 
-fn wanted<'a>(status: u8, out: &'a str, err: &'a str) -> Answer<'a> {
+pub(crate) fn wanted<'a>(status: u8, out: &'a str, err: &'a str) -> Answer<'a> {
     Answer { status, out, err }
 }
 
@@ -107,7 +108,7 @@ fn assert_answer<R: Abort + Threads + Sync>(
 }
 
 // The text, so many times.
-fn repeated(alloc: Global, text: &str, count: usize) -> Result<String, AllocError> {
+pub(crate) fn repeated(alloc: Global, text: &str, count: usize) -> Result<String, AllocError> {
     let mut whole = String::new(alloc);
     for _ in 0..count {
         whole.push_str(text)?;
@@ -121,7 +122,7 @@ fn ones(alloc: Global, others: usize) -> Result<String, AllocError> {
     format!(in alloc; "void w(int me) {{ print(1{added}); }}")
 }
 
-fn assert_module<R: Abort + Threads + Sync>(
+pub(crate) fn assert_module<R: Abort + Threads + Sync>(
     rt: &R,
     alloc: Global,
     text: &str,
@@ -325,7 +326,7 @@ fn reads_that_fail_are_told(rt: HostRuntime) -> Result<(), Fail> {
 #[test]
 fn puts_that_fail_are_told(rt: HostRuntime) -> Result<(), Fail> {
     let alloc = rt.alloc();
-    assert_faults(&rt, alloc, [&[], &[1], &[]], wanted(4, "", CANNOT_WRITE))?;
+    assert_faults(&rt, alloc, [&[], &[1], &[2]], wanted(4, "", CANNOT_WRITE))?;
     assert_faults(
         &rt,
         alloc,
@@ -351,12 +352,45 @@ impl Shelf for FullShelf {
     }
 }
 
+// A sink that has no memory for its first put, and takes what is put later.
+#[derive(Drop)]
+struct NarrowSink {
+    was_put: bool,
+    bytes: Vec<u8>,
+}
+
+impl NarrowSink {
+    fn new(alloc: Global) -> Self {
+        NarrowSink {
+            was_put: false,
+            bytes: Vec::new(alloc),
+        }
+    }
+}
+
+impl Sink for NarrowSink {
+    ghost taken = { λ _. None };
+
+    ghost faults = { λ _. 0 };
+
+    fn put(&mut self, bytes: &[u8]) -> Result<(), SinkFault> {
+        if !self.was_put {
+            self.was_put = true;
+            return Err(SinkFault::Memory);
+        }
+        match self.bytes.extend_from_slice(bytes) {
+            Ok(()) => Ok(()),
+            Err(_) => Err(SinkFault::Memory),
+        }
+    }
+}
+
 #[test]
 fn want_of_memory_is_told(rt: HostRuntime) -> Result<(), Fail> {
     let alloc = rt.alloc();
     let words = words_of(alloc, &RUN)?;
     let mut out = sink_of(alloc, &[])?;
-    let mut err = sink_of(alloc, &[])?;
+    let mut err = sink_of(alloc, &[2])?;
     let status = cascc(
         &rt,
         alloc,
@@ -369,5 +403,40 @@ fn want_of_memory_is_told(rt: HostRuntime) -> Result<(), Fail> {
     assert_eq!(rt; status, 9);
     assert_eq!(rt; out.bytes(), b"".as_slice());
     assert_eq!(rt; err.bytes(), b"cascc: memory\n".as_slice());
+    Ok(())
+}
+
+#[test]
+fn puts_without_memory_are_told(rt: HostRuntime) -> Result<(), Fail> {
+    let alloc = rt.alloc();
+    let mut shelf = shelf_of(alloc, sum_run())?;
+    let mut out = NarrowSink::new(alloc);
+    let mut err = sink_of(alloc, &[2])?;
+    let status = cascc(
+        &rt,
+        alloc,
+        words_of(alloc, &RUN)?.as_slice(),
+        &mut shelf,
+        &mut out,
+        &mut err,
+        &OpenGate,
+    );
+    assert_eq!(rt; status, 9);
+    assert_eq!(rt; out.bytes.as_slice(), b"".as_slice());
+    assert_eq!(rt; err.bytes(), b"cascc: memory\n".as_slice());
+    let mut silent = sink_of(alloc, &[])?;
+    let mut narrow = NarrowSink::new(alloc);
+    let status = cascc(
+        &rt,
+        alloc,
+        &[],
+        &mut shelf,
+        &mut silent,
+        &mut narrow,
+        &OpenGate,
+    );
+    assert_eq!(rt; status, 9);
+    assert_eq!(rt; silent.bytes(), b"".as_slice());
+    assert_eq!(rt; narrow.bytes.as_slice(), b"cascc: memory\n".as_slice());
     Ok(())
 }

@@ -21,7 +21,7 @@ use std::thread::Threads;
 /// | Status | Where |
 /// |---|---|
 /// | 0 | the command's text was put whole |
-/// | 1 | the module text has a fault, R1 to R8, told with its place; or it's read as a module that isn't of the first form, or whose function isn't the thread's (`R0`) |
+/// | 1 | the module text has a fault, R1 to R8, or its module one of typing, T1 to T8, told with its place; or the module is typed but isn't of the first form, or its function isn't the thread's (`R0`) |
 /// | 2 | the words give no command |
 /// | 3 | a name's text couldn't be read |
 /// | 4 | a put failed |
