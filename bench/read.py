@@ -73,23 +73,25 @@ def measure(path, lock):
     return seconds, usage.ru_maxrss * 1024, said.decode().strip().rsplit(": ", 1)[-1]
 
 
-def main():
+def best_of_five(text):
+    """The least seconds of five runs on a module text, their greatest peak of memory in bytes, and the answer."""
     if not os.path.exists(PROGRAM):
         sys.exit("build the program first: bin/cascc run examples/hello.c --lock examples/lock.s --threads w")
     with tempfile.TemporaryDirectory() as folder:
-        lock = os.path.join(folder, "lock.s")
-        with open(lock, "w") as file:
-            file.write("")
-        print("| Text | Bytes | Seconds, best of five | Peak bytes a byte of text | Answer |")
-        print("|---|---|---|---|---|")
-        for name, text in texts():
-            path = os.path.join(folder, "m.c")
-            with open(path, "w") as file:
-                file.write(text)
-            runs = [measure(path, lock) for _ in range(5)]
-            seconds = min(run[0] for run in runs)
-            memory = max(run[1] for run in runs)
-            print(f"| {name} | {len(text):,} | {seconds:.3f} | {memory / len(text):.0f} | {runs[0][2]} |")
+        path, lock = os.path.join(folder, "m.c"), os.path.join(folder, "lock.s")
+        for name, content in ((path, text), (lock, "")):
+            with open(name, "w") as file:
+                file.write(content)
+        runs = [measure(path, lock) for _ in range(5)]
+    return min(run[0] for run in runs), max(run[1] for run in runs), runs[0][2]
+
+
+def main():
+    print("| Text | Bytes | Seconds, best of five | Peak bytes a byte of text | Answer |")
+    print("|---|---|---|---|---|")
+    for name, text in texts():
+        seconds, memory, answer = best_of_five(text)
+        print(f"| {name} | {len(text):,} | {seconds:.3f} | {memory / len(text):.0f} | {answer} |")
 
 
 if __name__ == "__main__":

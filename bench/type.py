@@ -4,14 +4,13 @@
 Runs crates/cascc/out/cascc itself (build it by `bin/cascc`), best of five, on modules of up to 1,000 functions in the
 shape of generated ones, and on texts that cost the typer most. Needs python3, and gcc for its column.
 """
-import os
 import shutil
 import subprocess
 import sys
 import tempfile
 import time
 
-from read import PROGRAM, generated, measure
+from read import best_of_five, generated
 
 
 def as_c(text):
@@ -54,36 +53,30 @@ def texts():
     yield "20 times 199 blocks with a local each", deep(199, 20), False
 
 
-def syntax_only(path):
-    """Seconds of one run of gcc that looks at the text alone."""
-    begin = time.perf_counter()
-    done = subprocess.run(["gcc", "-fsyntax-only", path], capture_output=True)
-    if done.returncode != 0:
-        sys.exit(f"{path}: gcc: {done.stderr.decode()}")
-    return time.perf_counter() - begin
+def syntax_only(text):
+    """The least seconds of five runs of gcc that look at a text alone; nothing where there is no gcc."""
+    if not shutil.which("gcc"):
+        return ""
+    with tempfile.NamedTemporaryFile("w", suffix=".c") as file:
+        file.write(text)
+        file.flush()
+        spent = []
+        for _ in range(5):
+            begin = time.perf_counter()
+            done = subprocess.run(["gcc", "-fsyntax-only", file.name], capture_output=True)
+            spent.append(time.perf_counter() - begin)
+            if done.returncode != 0:
+                sys.exit(f"gcc: {done.stderr.decode()}")
+    return f"{min(spent):.3f}"
 
 
 def main():
-    if not os.path.exists(PROGRAM):
-        sys.exit("build the program first: bin/cascc run examples/hello.c --lock examples/lock.s --threads w")
-    with tempfile.TemporaryDirectory() as folder:
-        lock = os.path.join(folder, "lock.s")
-        with open(lock, "w") as file:
-            file.write("")
-        print("| Module | Bytes | Seconds, best of five | `gcc -fsyntax-only` | Answer |")
-        print("|---|---|---|---|---|")
-        for name, text, in_c in texts():
-            path, path_c = os.path.join(folder, "m.c"), os.path.join(folder, "in_c.c")
-            with open(path, "w") as file:
-                file.write(text)
-            runs = [measure(path, lock) for _ in range(5)]
-            seconds = min(run[0] for run in runs)
-            beside = ""
-            if in_c and shutil.which("gcc"):
-                with open(path_c, "w") as file:
-                    file.write(as_c(text))
-                beside = f"{min(syntax_only(path_c) for _ in range(5)):.3f}"
-            print(f"| {name} | {len(text):,} | {seconds:.3f} | {beside} | {runs[0][2]} |")
+    print("| Module | Bytes | Seconds, best of five | `gcc -fsyntax-only` | Answer |")
+    print("|---|---|---|---|---|")
+    for name, text, in_c in texts():
+        seconds, _, answer = best_of_five(text)
+        beside = syntax_only(as_c(text)) if in_c else ""
+        print(f"| {name} | {len(text):,} | {seconds:.3f} | {beside} | {answer} |")
 
 
 if __name__ == "__main__":
