@@ -1,6 +1,6 @@
 //! Why a module isn't checked.
 
-use cas_base::{Name, Place};
+use cas_base::{Name, NoMemory, Place};
 
 /// What is wrong with the locks of a module.
 #[derive(Clone, Copy, Debug, PartialEq, Eq, Hash)]
@@ -34,4 +34,15 @@ pub enum OwnFault {
         place: Place,
         lock: Name,
     },
+}
+
+impl From<NoMemory> for OwnFault {
+    ghost from_gives = { λ _ fault. fault ≡ Memory };
+
+    ghost use Rattle.std.specs.Prelude.{◌≡◌};
+    ghost use Rattle.cas_own.specs.declared.fault.OwnFault.TheVariants.{Memory};
+
+    fn from(_error: NoMemory) -> Self {
+        OwnFault::Memory
+    }
 }

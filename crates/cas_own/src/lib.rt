@@ -4,7 +4,9 @@
 //! `cas_syntax` and `cas_typed`.
 #![tactic(auto)]
 
+mod checked;
 mod fault;
 pub mod laws;
 
+pub use checked::Checked;
 pub use fault::{OwnCode, OwnFault};
