@@ -1,0 +1,13 @@
+pub mod Added
+pub mod Before
+pub mod Bodies_walked
+pub mod Declared
+pub mod Fitting
+pub mod Item_steps
+pub mod Items_walked
+pub mod Known
+pub mod Parts_within
+pub mod Rows_walked
+pub mod Steps
+pub mod Typed_fits
+pub mod Within
