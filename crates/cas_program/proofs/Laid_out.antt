@@ -28,12 +28,12 @@ kinds_length (Shared ty name) = length-replicate (words_of_ty ty) _
 kinds_length (Table ty) = length-replicate (words_of_ty ty) _
 kinds_length (Function ret params holds) = refl
 
-get_front : {X : Type 0} (xs ys : List X) (i : ℕ) → i < length xs → slice_get (xs ++ ys) i ≡ slice_get xs i
+pub get_front : {X : Type 0} (xs ys : List X) (i : ℕ) → i < length xs → slice_get (xs ++ ys) i ≡ slice_get xs i
 get_front [] ys i less = absurd (omega (arith, less))
 get_front (x ∷ xs) ys zero less = refl
 get_front (x ∷ xs) ys (suc i) less = get_front xs ys i (omega (arith, less))
 
-get_behind : {X : Type 0} (xs ys : List X) (i : ℕ) → slice_get (xs ++ ys) (i + length xs) ≡ slice_get ys i
+pub get_behind : {X : Type 0} (xs ys : List X) (i : ℕ) → slice_get (xs ++ ys) (i + length xs) ≡ slice_get ys i
 get_behind [] ys i = ap (slice_get ys) (omega arith)
 get_behind (x ∷ xs) ys i =
     let e : i + length (x ∷ xs) ≡ suc (i + length xs) = omega arith in

@@ -8,3 +8,4 @@ pub mod Meanings
 mod Placed
 mod Starting
 mod Suiting
+mod Valued

@@ -39,7 +39,7 @@ fit_both [] (n ∷ ns) js ms first second = absurd first
 fit_both (k ∷ ks) [] js ms first second = absurd first
 fit_both (k ∷ ks) (n ∷ ns) js ms first second = (first.0, fit_both ks ns js ms first.1 second)
 
-fit_length : (ks : List (Option Kind)) (ns : List ℕ) → FitEach ks ns → length ns ≡ length ks
+pub fit_length : (ks : List (Option Kind)) (ns : List ℕ) → FitEach ks ns → length ns ≡ length ks
 fit_length [] [] fits = refl
 fit_length [] (n ∷ ns) fits = absurd fits
 fit_length (k ∷ ks) [] fits = absurd fits
@@ -59,7 +59,7 @@ fit_variable (Ptr k) vs values is = absurd values
 fit_variable (Array k n) vs values is = fit_values k vs n is (recursion_from_All (λ v. IsTrue (is_of_kind v k)) vs values.1)
 
 -- the words of what is defined fit
-fit_form : (form : Form) (vs : List ℕ) → IsGlobal form vs → length vs ≡ elements_of (variable_type form) → FitEach (kinds_of_form form) (first_words form vs)
+pub fit_form : (form : Form) (vs : List ℕ) → IsGlobal form vs → length vs ≡ elements_of (variable_type form) → FitEach (kinds_of_form form) (first_words form vs)
 fit_form Lock vs is count = (tt, tt)
 fit_form (Shared ty guard) vs is count = fit_variable ty vs is count
 fit_form (Table ty) vs is count = fit_variable ty vs is count
@@ -84,10 +84,10 @@ fit_function d ds ws true is rest = subst (λ ks. FitEach (ks ++ kinds_in ds) ws
 fit_function d ds ws false is rest = rest
 
 -- each variable among these that is defined has as many values as elements
-abbrev AreFilled : List ItemTree → Type 0
+abbrev pub AreFilled : List ItemTree → Type 0
 AreFilled items = (n : ℕ) (d : Decl) (vs : List ℕ) (p : Place) → slice_get items n ≡ Some (global d vs p) → d.defined ≡ true → length vs ≡ elements_of (variable_type d.form)
 
-fit_items : (items : List ItemTree) → ItemsAreFormed items → AreFilled items → FitEach (kinds_in (definitions (map decl_of items))) (flat_map item_words items)
+pub fit_items : (items : List ItemTree) → ItemsAreFormed items → AreFilled items → FitEach (kinds_in (definitions (map decl_of items))) (flat_map item_words items)
 fit_items [] formed filled = tt
 fit_items (global d vs p ∷ rest) formed filled =
     fit_global d vs (definitions (map decl_of rest)) (flat_map item_words rest) d.defined formed.0.0 (λ is. filled zero d vs p refl is) (fit_items rest formed.1 (λ n. filled (suc n)))

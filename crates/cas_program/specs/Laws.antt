@@ -1,14 +1,16 @@
 -- What is claimed of programs: that the environment of a program suits its modules, and that declarations of one name in several
 -- modules are of one thing. A lock goes by the word that it has in the program.
-use Rattle.std.specs.Prelude.{◌≡◌, ◌↔◌, ℕ, ◌^◌, ◌<◌, ◌≤◌, IsTrue, List, [], length, Option, Some, None, slice_get, Contains}
+use Rattle.std.specs.Prelude.{◌≡◌, ◌↔◌, ℕ, ◌+◌, ◌^◌, ◌<◌, ◌≤◌, true, IsTrue, List, [], length, Option, Some, None, slice_get, Contains}
 use Rattle.cas_base.specs.Decl.{agrees}
 use Rattle.cas_base.specs.declared.decl.Decl.{Decl}
 use Rattle.cas_base.specs.declared.decl.Form.TheVariants.{Lock, Shared, Function as AFunction}
 use Rattle.cas_base.specs.declared.kind.Ty.{Ty}
+use Rattle.cas_base.specs.declared.place.Place.{Place}
 use Rattle.cas_own.specs.Locks.{guard_of, holds_of}
 use Rattle.cas_settle.specs.Settle.{place_of as place_named}
-use Rattle.cas_step.specs.Env.{FunctionAt, function, shared, lock}
+use Rattle.cas_step.specs.Env.{FunctionAt, Entity, function, shared, table, lock}
 use Rattle.cas_step.specs.Fits.{IsAt, Suits, AreEntries, FitsWords, HasWord}
+use Rattle.cas_syntax.specs.Tree.{global}
 use Rattle.cas_typed.specs.Resolved.{TypedFunTree, TypedModuleTree}
 use Rattle.cas_program.specs.Program.{IsProgram, decls_of, units_of, env_of, entries_of, initial_words}
 
@@ -50,6 +52,37 @@ abbrev pub GuardsAreWords : Type 0
 GuardsAreWords = (modules : List TypedModuleTree) (entries : List (List ℕ)) → IsProgram modules entries → (n g first len w : ℕ) →
     (env_of modules).entity n g ≡ Some (shared first len (Some w)) →
     (w < length (initial_words modules)) × (slice_get (env_of modules).kinds w ≡ Some None)
+
+-- this many words from this one on belong to a shared global or a table
+abbrev pub IsCell : Option Entity → (first len : ℕ) → Type 0
+IsCell (Some (shared first n guard)) at len = (first ≡ at) × (n ≡ len)
+IsCell (Some (table first n)) at len = (first ≡ at) × (n ≡ len)
+IsCell _ at len = ⊥
+
+-- a module defines what has this name, with as many values as here are words; and from this word on a program begins with these
+pub record HasValues (modules : List TypedModuleTree) (name : List ℕ) (first len : ℕ) : Type 0 where
+  pub unit : ℕ
+  pub item : ℕ
+  pub unit_tree : TypedModuleTree
+  pub decl : Decl
+  pub values : List ℕ
+  pub place : Place
+  pub unit_is : slice_get modules unit ≡ Some unit_tree
+  pub item_is : slice_get unit_tree.module_tree.items item ≡ Some (global decl values place)
+  pub defines : decl.defined ≡ true
+  pub named : decl.name ≡ name
+  pub count : length values ≡ len
+  pub words : (k n : ℕ) → slice_get values k ≡ Some n → slice_get (initial_words modules) (first + k) ≡ Some n
+
+-- Each word of a global begins with its value at the global's definition. A typed module has one for each word: 0 where the text has none.
+abbrev pub InitialValuesStand : Type 0
+InitialValuesStand = (modules : List TypedModuleTree) (entries : List (List ℕ)) → IsProgram modules entries → (n g first len : ℕ) (d : Decl) →
+    Declares modules n g d → IsCell ((env_of modules).entity n g) first len → HasValues modules d.name first len
+
+-- A lock's word begins with 1.
+abbrev pub LocksBeginFree : Type 0
+LocksBeginFree = (modules : List TypedModuleTree) (entries : List (List ℕ)) → IsProgram modules entries → (n l w : ℕ) →
+    (env_of modules).entity n l ≡ Some (lock w) → slice_get (initial_words modules) w ≡ Some 1
 
 -- guards
 

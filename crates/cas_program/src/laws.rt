@@ -1,6 +1,6 @@
 //! Laws of programs, each the contract of a function without effect.
 
-ghost use Rattle.cas_program.specs.Laws.{DeclarationsAgree, EntriesAreEntered, EntriesAreInOrder, EntriesHoldNone, FunctionsAgree, GuardsAgree, GuardsAreLocks, GuardsAreWords, InitialWordsFit, LocksAreByName, LocksAreDeclared, ProgramsSuit, SharedAreDeclared};
+ghost use Rattle.cas_program.specs.Laws.{DeclarationsAgree, EntriesAreEntered, EntriesAreInOrder, EntriesHoldNone, FunctionsAgree, GuardsAgree, GuardsAreLocks, GuardsAreWords, InitialValuesStand, InitialWordsFit, LocksAreByName, LocksAreDeclared, LocksBeginFree, ProgramsSuit, SharedAreDeclared};
 
 /// The environment of a program suits its modules: each declaration stands for what it declares, and no word belongs to two
 /// globals or locks.
@@ -16,10 +16,13 @@ pub fn entries_are_entered()
     ensures none_held { EntriesHoldNone }
 {}
 
-/// The words with which a program begins are values of its kinds, as many as there are, and each guard is a lock's word.
+/// The words with which a program begins are values of its kinds, as many as there are, and each guard is a lock's word. Each
+/// word of a global begins with its value at the global's definition, and a lock's with 1.
 pub fn initial_words_fit()
     ensures words { InitialWordsFit }
     ensures guards { GuardsAreWords }
+    ensures values { InitialValuesStand }
+    ensures locks { LocksBeginFree }
 {}
 
 /// What guards a shared global in its module is a lock of the program, and a lock has one word in all modules, which is
