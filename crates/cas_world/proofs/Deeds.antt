@@ -29,7 +29,7 @@ Every P (reads g i more) = (n : ℕ) → Every P (more n)
 Every P (looks o more) = (size : Option ℕ) → Every P (more size)
 Every P (loads o p more) = (v : _) → Every P (more v)
 
-every_then : {O A B : Type 0} (P : B → Type 0) (x : Asks O A) (k : A → Asks O B) → ((a : A) → Every P (k a)) → Every P (and_then x k)
+pub every_then : {O A B : Type 0} (P : B → Type 0) (x : Asks O A) (k : A → Asks O B) → ((a : A) → Every P (k a)) → Every P (and_then x k)
 every_then P (gives a) k h = h a
 every_then P (fails why) k h = tt
 every_then P senseless k h = tt

@@ -23,7 +23,7 @@ use Rattle.cas_world.proofs.Walked.{Lands}
 use Rattle.cas_world.specs.Fitting.{IsFitting, WorldsFit, EndsAreTold}
 use Rattle.cas_world.specs.Races.{program_world}
 use Rattle.cas_world.specs.Turns.{ended, at_lock, at_step, at_next, at_config, state_of}
-use Rattle.cas_world.specs.World.{World, holders_after, world_after, MayStep, Interleaves, at_first, and_step, started, Reaches, HasEnded}
+use Rattle.cas_world.specs.World.{World, holders_after, world_after, IsNext, MayStep, Interleaves, at_first, and_step, started, Reaches, HasEnded}
 
 -- lists
 
@@ -57,86 +57,82 @@ holders_length (act.Out n) i hs = refl
 holders_length act.Done i hs = refl
 holders_length (act.Bad why) i hs = refl
 
--- which lock a step takes
+-- which lock a step takes or gives back
+
+-- the act is on this lock
+abbrev IsOnLock : Act → (lock : ℕ) → Type 0
+IsOnLock (act.Lock k) l = k ≡ l
+IsOnLock (act.Unlock k) l = k ≡ l
+IsOnLock _ l = ⊥
 
 module _ (e : Env) (h : Here) where
-  -- the word that the step takes as a lock is that of an item
-  abbrev pub TakesItem : Step → Type 0
-  TakesItem s = (l : ℕ) → s.act ≡ act.Lock l → (item : ℕ) × (entity_in e h item ≡ Some (lock l))
+  -- the lock that the step is on is that of an item
+  abbrev pub IsOnItem : Step → Type 0
+  IsOnItem s = (l : ℕ) → IsOnLock s.act l → (item : ℕ) × (entity_in e h item ≡ Some (lock l))
 
-  takes_global : (rs : List ℕ) (it : Option Entity) (i n : ℕ) (todo : List Todo) → Lands TakesItem (global_step e h rs it i n todo)
-  takes_global rs None i n todo = tt
-  takes_global rs (Some (function f)) i n todo = tt
-  takes_global rs (Some outside) i n todo = tt
-  takes_global rs (Some (shared first len guard)) i n todo = takes_word (slice_get h.words (first + i)) (first + i)
+  on_global : (rs : List ℕ) (it : Option Entity) (i n : ℕ) (todo : List Todo) → Lands IsOnItem (global_step e h rs it i n todo)
+  on_global rs None i n todo = tt
+  on_global rs (Some (function f)) i n todo = tt
+  on_global rs (Some outside) i n todo = tt
+  on_global rs (Some (shared first len guard)) i n todo = on_word (slice_get h.words (first + i)) (first + i)
     where
-      takes_word : (before : Option ℕ) (number : ℕ) → Lands TakesItem (word_step e h rs before number n todo)
-      takes_word None number = tt
-      takes_word (Some old) number = λ l is. absurd (cc is)
-  takes_global rs (Some (table first len)) i n todo = tt
-  takes_global rs (Some (lock w)) i n todo = tt
+      on_word : (before : Option ℕ) (number : ℕ) → Lands IsOnItem (word_step e h rs before number n todo)
+      on_word None number = tt
+      on_word (Some old) number = λ l is. absurd is
+  on_global rs (Some (table first len)) i n todo = tt
+  on_global rs (Some (lock w)) i n todo = tt
 
-  takes_store : (rs : List ℕ) (before : Option (Value Object)) (o : Object) (i : ℕ) (v : Value Object) (todo : List Todo) → Lands TakesItem (store_step e h rs before o i v todo)
-  takes_store rs None o i v todo = tt
-  takes_store rs (Some old) o i v todo = λ l is. absurd (cc is)
+  on_store : (rs : List ℕ) (before : Option (Value Object)) (o : Object) (i : ℕ) (v : Value Object) (todo : List Todo) → Lands IsOnItem (store_step e h rs before o i v todo)
+  on_store rs None o i v todo = tt
+  on_store rs (Some old) o i v todo = λ l is. absurd is
 
-  takes_call : (rs : List ℕ) (it : Option Entity) (vs : List (Value Object)) (target : Option Destination) (todo : List Todo) → Lands TakesItem (call_step e h rs it vs target todo)
-  takes_call rs None vs target todo = tt
-  takes_call rs (Some (function f)) vs target todo = λ l is. absurd (cc is)
-  takes_call rs (Some outside) vs target todo = tt
-  takes_call rs (Some (shared first len guard)) vs target todo = tt
-  takes_call rs (Some (table first len)) vs target todo = tt
-  takes_call rs (Some (lock w)) vs target todo = tt
+  on_call : (rs : List ℕ) (it : Option Entity) (vs : List (Value Object)) (target : Option Destination) (todo : List Todo) → Lands IsOnItem (call_step e h rs it vs target todo)
+  on_call rs None vs target todo = tt
+  on_call rs (Some (function f)) vs target todo = λ l is. absurd is
+  on_call rs (Some outside) vs target todo = tt
+  on_call rs (Some (shared first len guard)) vs target todo = tt
+  on_call rs (Some (table first len)) vs target todo = tt
+  on_call rs (Some (lock w)) vs target todo = tt
 
-  takes_return_to : (rs : List ℕ) (older : List Activation) (memory : Option (List Block)) → Lands TakesItem (return_to e h rs older memory)
-  takes_return_to rs older None = tt
-  takes_return_to rs older (Some memory) = λ l is. absurd (cc is)
+  on_return_to : (rs : List ℕ) (older : List Activation) (memory : Option (List Block)) → Lands IsOnItem (return_to e h rs older memory)
+  on_return_to rs older None = tt
+  on_return_to rs older (Some memory) = λ l is. absurd is
 
-  takes_return : (rs : List ℕ) (older : List Activation) (v : Option (Value Object)) → Lands TakesItem (return_step e h rs older v)
-  takes_return rs [] v = λ l is. absurd (cc is)
-  takes_return rs (a ∷ older) v = takes_return_to rs (a ∷ older) (memory_keeping (memory_without h.config.memory h.newest.serial) a.serial h.newest.target v)
+  on_return : (rs : List ℕ) (older : List Activation) (v : Option (Value Object)) → Lands IsOnItem (return_step e h rs older v)
+  on_return rs [] v = λ l is. absurd is
+  on_return rs (a ∷ older) v = on_return_to rs (a ∷ older) (memory_keeping (memory_without h.config.memory h.newest.serial) a.serial h.newest.target v)
 
-  same_taken : (l k : ℕ) → act.Lock l ≡ act.Lock k → l ≡ k
-  same_taken l k is = cc is
+  on_lock : (rs : List ℕ) (item : ℕ) (it : Option Entity) (act_on : ℕ → Act) (todo : List Todo) → ((w l : ℕ) → IsOnLock (act_on w) l → w ≡ l) → entity_in e h item ≡ it →
+      Lands IsOnItem (lock_step e h rs it act_on todo)
+  on_lock rs item None act_on todo same there = tt
+  on_lock rs item (Some (function f)) act_on todo same there = tt
+  on_lock rs item (Some outside) act_on todo same there = tt
+  on_lock rs item (Some (shared first len guard)) act_on todo same there = tt
+  on_lock rs item (Some (table first len)) act_on todo same there = tt
+  on_lock rs item (Some (lock w)) act_on todo same there = λ l is. (item, there ∙ ap (λ k. Some (lock k)) (same w l is))
 
-  takes_lock : (rs : List ℕ) (item : ℕ) (it : Option Entity) (todo : List Todo) → entity_in e h item ≡ it → Lands TakesItem (lock_step e h rs it act.Lock todo)
-  takes_lock rs item None todo there = tt
-  takes_lock rs item (Some (function f)) todo there = tt
-  takes_lock rs item (Some outside) todo there = tt
-  takes_lock rs item (Some (shared first len guard)) todo there = tt
-  takes_lock rs item (Some (table first len)) todo there = tt
-  takes_lock rs item (Some (lock w)) todo there = λ l is. (item, there ∙ ap (λ k. Some (lock k)) (same_taken w l is))
+  on_doing : (x : Got (Deed Object)) → Lands IsOnItem (step_doing e h x)
+  on_doing (stuck rs) = tt
+  on_doing (bad rs why) = λ l is. absurd is
+  on_doing (got rs (goes_on todo)) = λ l is. absurd is
+  on_doing (got rs (stores o i v todo)) = on_store rs (value_at (cells_at h.config.memory o) i) o i v todo
+  on_doing (got rs (writes g i n todo)) = on_global rs (entity_in e h g) i n todo
+  on_doing (got rs (calls g vs target todo)) = on_call rs (entity_in e h g) vs target todo
+  on_doing (got rs (returns v)) = on_return rs h.older v
+  on_doing (got rs (locks g todo)) = on_lock rs g (entity_in e h g) act.Lock todo (λ w l is. is) refl
+  on_doing (got rs (unlocks g todo)) = on_lock rs g (entity_in e h g) act.Unlock todo (λ w l is. is) refl
+  on_doing (got rs (prints n todo)) = λ l is. absurd is
 
-  takes_unlock : (rs : List ℕ) (it : Option Entity) (todo : List Todo) → Lands TakesItem (lock_step e h rs it act.Unlock todo)
-  takes_unlock rs None todo = tt
-  takes_unlock rs (Some (function f)) todo = tt
-  takes_unlock rs (Some outside) todo = tt
-  takes_unlock rs (Some (shared first len guard)) todo = tt
-  takes_unlock rs (Some (table first len)) todo = tt
-  takes_unlock rs (Some (lock w)) todo = λ l is. absurd (cc is)
+  on_here : Lands IsOnItem (step_here e h)
+  on_here = on_doing (answered (entity_in e h) (slice_get h.words) (cells_at h.config.memory) (deed_of (sight_of e h) (e.function h.newest.function).ret h.newest.todo))
 
-  takes_doing : (x : Got (Deed Object)) → Lands TakesItem (step_doing e h x)
-  takes_doing (stuck rs) = tt
-  takes_doing (bad rs why) = λ l is. absurd (cc is)
-  takes_doing (got rs (goes_on todo)) = λ l is. absurd (cc is)
-  takes_doing (got rs (stores o i v todo)) = takes_store rs (value_at (cells_at h.config.memory o) i) o i v todo
-  takes_doing (got rs (writes g i n todo)) = takes_global rs (entity_in e h g) i n todo
-  takes_doing (got rs (calls g vs target todo)) = takes_call rs (entity_in e h g) vs target todo
-  takes_doing (got rs (returns v)) = takes_return rs h.older v
-  takes_doing (got rs (locks g todo)) = takes_lock rs g (entity_in e h g) todo refl
-  takes_doing (got rs (unlocks g todo)) = takes_unlock rs (entity_in e h g) todo
-  takes_doing (got rs (prints n todo)) = λ l is. absurd (cc is)
-
-  takes_here : Lands TakesItem (step_here e h)
-  takes_here = takes_doing (answered (entity_in e h) (slice_get h.words) (cells_at h.config.memory) (deed_of (sight_of e h) (e.function h.newest.function).ret h.newest.todo))
-
--- the lock that a thread takes is that of an item
-taken_at : (e : Env) (ws : List ℕ) (c : Config) (s : Step) (l : ℕ) (activations : List Activation) → step_of e ws c activations ≡ Some s → s.act ≡ act.Lock l →
+-- the lock that a thread's step is on is that of an item
+on_item : (e : Env) (ws : List ℕ) (c : Config) (s : Step) (l : ℕ) (activations : List Activation) → step_of e ws c activations ≡ Some s → IsOnLock s.act l →
     (n item : ℕ) × (e.entity n item ≡ Some (lock l))
-taken_at e ws c s l [] is takes = absurd (cc is)
-taken_at e ws c s l (a ∷ older) is takes =
+on_item e ws c s l [] is on = absurd (cc is)
+on_item e ws c s l (a ∷ older) is on =
     let h : Here = record { config = c; newest = a; older = older; words = ws } in
-    let (item, there) = lands_is (TakesItem e h) (step_here e h) s (takes_here e h) is l takes in
+    let (item, there) = lands_is (IsOnItem e h) (step_here e h) s (on_here e h) is l on in
     (a.function.unit, item, there)
 
 -- what is known of programs and steps
@@ -235,6 +231,10 @@ module _ (facts : Facts) (modules : List TypedModuleTree) (entries : List (List 
       subst (λ x. StandsFor modules e Lock x) there (subst (λ f. StandsFor modules e f (e.entity n item)) form stands) in
       as_long e.kinds w.holders l None fit.holders kind
 
+  on_lock_there : (w : World) → Fit w → (i : ℕ) (s : Step) (l : ℕ) → IsNext e w i s → IsOnLock s.act l → (holder : Option ℕ) × (slice_get w.holders l ≡ Some holder)
+  on_lock_there w fit i s l next on =
+      let (n, item, there) = on_item e w.words next.config s l next.config.activations next.steps on in lock_is_there w fit n item l there
+
   fitting : (w : World) → Fit w → IsFitting modules e w
   fitting w fit = record {
     words = fit.words;
@@ -243,8 +243,8 @@ module _ (facts : Facts) (modules : List TypedModuleTree) (entries : List (List 
     steps = λ i c a older stands there.
         let (s, steps, sound_next, words_fit) = next_of w c fit (fit.sound i c stands) a older there in
         (s, record { config = c; stands = stands; steps = steps });
-    locks = λ i l s next takes.
-        let (n, item, there) = taken_at e w.words next.config s l next.config.activations next.steps takes in lock_is_there w fit n item l there;
+    locks = λ i l s next takes. on_lock_there w fit i s l next (subst (λ a. IsOnLock a l) (sym takes) refl);
+    unlocks = λ i l s next gives. on_lock_there w fit i s l next (subst (λ a. IsOnLock a l) (sym gives) refl);
   }
 
   pub worlds_fit_in : (w : World) → Reaches e (program_world modules entries) w → IsFitting modules e w

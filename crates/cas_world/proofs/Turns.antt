@@ -4,7 +4,7 @@ use Rattle.cas_base.specs.declared.act.Act.{Act}
 use Rattle.cas_base.specs.declared.act.Act.TheVariants as act
 use Rattle.cas_step.specs.Env.{Env}
 use Rattle.cas_step.specs.Step.{Config, Step, step}
-use Rattle.cas_world.specs.World.{World, world_after, IsEnabled, MayStep, Interleaves, and_step}
+use Rattle.cas_world.specs.World.{World, IsEnabled, MayStep, Interleaves, and_step}
 use Rattle.cas_world.specs.Turns.{State, running, ended, waits, bad, at_lock, at_step, at_next, at_config, state_of, after_turn, turn, turns, threads_from, round, rounds, taker, taken, taken_in_rounds, TurnsInterleave, RoundsInterleave}
 
 -- a thread that runs may take the step

@@ -11,13 +11,15 @@ use Rattle.cas_world.specs.Races.{program_world}
 use Rattle.cas_world.specs.Turns.{ended, state_of}
 use Rattle.cas_world.specs.World.{World, IsNext, Reaches, HasEnded}
 
--- a world fits: its words do, the holders are as many, its threads are sound, none is stuck, and each lock that a next step takes is there
+-- a world fits: its words do, the holders are as many, its threads are sound, none is stuck, and each lock that a next step
+-- takes or gives back is there
 pub record IsFitting (modules : List TypedModuleTree) (e : Env) (w : World) : Type 0 where
   pub words : FitsWords e w.words
   pub holders : length w.holders ≡ length w.words
   pub sound : (i : ℕ) (c : Config) → slice_get w.threads i ≡ Some c → IsSound modules e c
   pub steps : (i : ℕ) (c : Config) (a : Activation) (older : List Activation) → slice_get w.threads i ≡ Some c → c.activations ≡ a ∷ older → (s : Step) × IsNext e w i s
   pub locks : (i l : ℕ) (s : Step) → IsNext e w i s → s.act ≡ act.Lock l → (holder : Option ℕ) × (slice_get w.holders l ≡ Some holder)
+  pub unlocks : (i l : ℕ) (s : Step) → IsNext e w i s → s.act ≡ act.Unlock l → (holder : Option ℕ) × (slice_get w.holders l ≡ Some holder)
 
 -- In each program with at most 2 ^ 32 threads each world that is reached fits, whether its modules are checked or not.
 abbrev pub WorldsFit : Type 0

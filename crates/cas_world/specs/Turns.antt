@@ -1,5 +1,5 @@
 -- What a thread stands at in a world, the turns of a schedule, and rounds over all threads.
-use Rattle.std.specs.Prelude.{◌≡◌, ℕ, zero, suc, ◌+◌, List, [], ◌∷◌, ◌++◌, length, Option, Some, None, slice_get}
+use Rattle.std.specs.Prelude.{◌≡◌, ◌↔◌, ℕ, zero, suc, ◌+◌, List, [], ◌∷◌, ◌++◌, length, replicate, Option, Some, None, slice_get}
 use Rattle.cas_base.specs.declared.act.Act.{Act}
 use Rattle.cas_base.specs.declared.act.Act.TheVariants as act
 use Rattle.cas_base.specs.declared.act.Why.{Why}
@@ -64,7 +64,7 @@ threads_from i (suc n) = i ∷ threads_from (i + 1) n
 abbrev pub round : Env → World → World
 round e w = turns e w (threads_from 0 (length w.threads))
 
--- so many rounds; one that changes nothing is the last that changes anything
+-- so many rounds; behind one that changes nothing, none does
 abbrev pub rounds : Env → World → (count : ℕ) → World
 rounds e w zero = w
 rounds e w (suc n) = rounds e (round e w) n
@@ -92,3 +92,18 @@ TurnsInterleave = (e : Env) (first w : World) (threads schedule : List ℕ) → 
 abbrev pub RoundsInterleave : Type 0
 RoundsInterleave = (e : Env) (first w : World) (threads : List ℕ) (count : ℕ) → Interleaves e first threads w →
     Interleaves e first (threads ++ taken_in_rounds e w count) (rounds e w count)
+
+-- A turn that is taken changes its thread: each step does that may be taken.
+abbrev pub TurnsMove : Type 0
+TurnsMove = (e : Env) (w : World) (i : ℕ) (s : Step) → state_of e w i ≡ running s → slice_get (turn e w i).threads i ≡ slice_get w.threads i → ⊥
+
+-- A thread whose turn changes nothing stays so, however many turns it gets; and behind a round that changes nothing, none does.
+abbrev pub TurnsStay : Type 0
+TurnsStay = (e : Env) (w : World) (i count : ℕ) → turn e w i ≡ w → turns e w (replicate count i) ≡ w
+
+abbrev pub RoundsStay : Type 0
+RoundsStay = (e : Env) (w : World) (count : ℕ) → round e w ≡ w → rounds e w count ≡ w
+
+-- A round changes nothing exactly where no turn in it is taken.
+abbrev pub RoundsTakeTurns : Type 0
+RoundsTakeTurns = (e : Env) (w : World) → (round e w ≡ w) ↔ (taken e w (threads_from 0 (length w.threads)) ≡ [])

@@ -3,7 +3,7 @@
 ghost use Rattle.cas_world.specs.Fitting.{EndsAreTold, WorldsFit};
 ghost use Rattle.cas_world.specs.Owned.{StepsKeepOwned, WorldsAreOwned};
 ghost use Rattle.cas_world.specs.Races.{RacesAbsent, TouchesAreGuarded, UnlocksAreOfHolders};
-ghost use Rattle.cas_world.specs.Turns.{RoundsInterleave, TurnsInterleave};
+ghost use Rattle.cas_world.specs.Turns.{RoundsInterleave, RoundsStay, RoundsTakeTurns, TurnsInterleave, TurnsMove, TurnsStay};
 ghost use Rattle.cas_world.specs.Walks.{NamesAreWalked};
 
 /// Each program of checked modules is race-free, safe or not: no two threads that may step touch one shared word, one of
@@ -68,8 +68,17 @@ pub fn turns_interleave()
     ensures rounds { RoundsInterleave }
 {}
 
+/// A turn that is taken changes its thread. So a thread whose turn changes nothing stays so, behind a round that changes
+/// nothing none does, and a round changes nothing exactly where no turn in it is taken.
+pub fn turns_stay()
+    ensures moved { TurnsMove }
+    ensures thread { TurnsStay }
+    ensures rounds { RoundsStay }
+    ensures taken { RoundsTakeTurns }
+{}
+
 /// In each program with at most 2^32 threads, checked or not, each world that is reached fits: its words are values of their
-/// kinds, its threads are sound and never stuck, and each lock that a next step takes is there. So what a thread stands at
+/// kinds, its threads are sound and never stuck, and each lock that a next step takes or gives back is there. So what a thread stands at
 /// is its end exactly where it has ended. (Type soundness by preservation and progress, of threads that take turns.)
 pub fn worlds_fit()
     ensures fit { WorldsFit }
