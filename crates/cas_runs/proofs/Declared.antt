@@ -1,5 +1,5 @@
 -- At an edge that fits a program it is known of each of its functions how many values it returns.
-use Rattle.std.proofs.Common.{◌≡◌, ℕ, List, [], ◌∷◌, length, Bool, true, false, ◌&&◌, if◌then◌else◌, Some, refl, ap, subst}
+use Rattle.std.proofs.Common.{◌≡◌, ℕ, List, [], ◌∷◌, length, Bool, true, false, ◌&&◌, if◌then◌else◌, Some, refl, sym, ap, ◌∙◌, subst}
 use Rattle.cas_base.specs.declared.decl.Decl.{Decl}
 use Rattle.cas_base.specs.declared.decl.Unit.{Unit as UnitOf}
 use Rattle.cas_base.specs.declared.decl.Form.{Form}
@@ -31,5 +31,5 @@ declared_known edge words (d ∷ ds) name h e = by (same_name d.name name && def
 module _ {F S : Type 0} (l : Language F S) where
   pub results_known : (edge : Edge) (words : Words) (units : List (UnitOf F)) (entry : NameBytes) → FitsProgram l edge words units entry → (name : NameBytes) → has_function l (all_functions units) name ≡ true → (n : ℕ) × (results_of edge name ≡ Some n)
   results_known edge words units entry fits name there =
-      let known = declared_known edge words (all_decls units) name fits.declared (fits.defined name there) in
+      let known = declared_known edge words (all_decls units) name fits.declared (sym (fits.defined name) ∙ there) in
       (length (returned known.0.ret), ap count_of known.1)

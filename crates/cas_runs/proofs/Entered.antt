@@ -17,11 +17,11 @@ abbrev has_named : List Decl → NameBytes → Bool
 has_named [] name = false
 has_named (d ∷ ds) name = if same_name d.name name then true else has_named ds name
 
-dropped : (t x : Bool) → (if t && false then true else x) ≡ x
+pub dropped : (t x : Bool) → (if t && false then true else x) ≡ x
 dropped true x = refl
 dropped false x = refl
 
-taken : (t x : Bool) → (if t then true else x) ≡ (if t && true then true else x)
+pub taken : (t x : Bool) → (if t then true else x) ≡ (if t && true then true else x)
 taken true x = refl
 taken false x = refl
 

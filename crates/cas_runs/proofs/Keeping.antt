@@ -6,7 +6,7 @@ use Rattle.cas_runs.specs.Label.{RunLabel, Lock, Unlock, Out, Done}
 use Rattle.cas_runs.specs.Edge.{LockWord, AreGuarded, AreUnder, IsOfKind}
 use Rattle.cas_runs.specs.Outside.{IsAmong, first, later}
 use Rattle.cas_runs.specs.Machine.{Act, Quiet, Says, Crosses, Locks, Hears, Bad, Stops, CanCross, Halt, Ended, Taken, Saying, Unlocks, Prints, Ends, label_of, Leads, Block, Run, starts, quiet, labelled}
-use Rattle.cas_runs.specs.Rules.{and_lock, except_lock, locks_after, IsShared, MaySay, HasEnded, MayHalt, HasCrossed, IsHearing, KeepsRules, SaysInKind, KeepsKinds}
+use Rattle.cas_runs.specs.Rules.{and_lock, except_lock, locks_after, IsShared, MaySay, HasEnded, MayHalt, HasCrossed, IsHearing, KeepsRules, SaysInKind, KeepsKinds, KeepsLocks}
 use Rattle.cas_runs.proofs.Composing.{said_stays}
 use Rattle.cas_runs.specs.Sections.{Instruction, Take, Give, Load, Store, Print, Spin, Standing, At, Over, one_lock, first_of_words, act_of, act_at, footprint_at, sections, StoresWords}
 
@@ -264,3 +264,6 @@ sections_in_kind price program words = record {
   says = λ ls bs b x r. says_kinds ls x (holds_at price program words r);
   crosses = λ ls bs b x r next e. absurd (not_crossing price program words x next e);
 }
+
+pub sections_hold : (price : ℕ) (program : List Instruction) → StoresWords program → KeepsLocks one_lock (sections price program)
+sections_hold price program words = record { crosses = λ ls bs b x r next e. absurd (not_crossing price program words x next e) }

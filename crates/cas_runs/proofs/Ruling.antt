@@ -7,12 +7,10 @@ use Rattle.cas_runs.specs.Naming.{Value, Number, ArePlaced, Part, parts_at, Nami
 use Rattle.cas_runs.specs.Machine.{Act, Quiet, Says, Crosses, Locks, Hears, Bad, Stops, label_of, Machine, CanCross, Leads, Block, Run, starts as begins_run, quiet, labelled}
 use Rattle.cas_runs.specs.Rules.{and_lock, locks_after, IsShared, Leaves, LeavesAll, Carries, IsReturn, MaySay, MayCross, HasEnded, MayHalt, Proceeds, KeepsRules}
 use Rattle.cas_runs.specs.Rules as rules
-use Rattle.cas_runs.specs.Refines.{Refines}
 use Rattle.cas_runs.specs.Bounds.{IsTariff}
 use Rattle.cas_runs.specs.Access.{Stretch, Holding, words_in, with_lock, without_lock}
 use Rattle.cas_runs.specs.Unit.{Setting, AreLaidOut, IsLayout, lock_at, lock_number, guard_of}
 use Rattle.cas_runs.specs.Calls.{Last, Goes, Takes, Gives, Puts, Calls, Tails, Returns, Activations, Scene, Frame, Waits, Outer, Past, Thread, Away, Runs, Leaves as LeavesNow, Over, Wrong, nothing_touched, same_share, if_shown, crosses_as, can_cross, with_naming, to_outside, calls_by, leaves_by, crosses_if, leaves, kept_results, leaves_with, leaves_later, goes_back, returns, resumes, comes_back, with_share, takes_lock, takes, gives_lock, gives, find, with_own, without_own, one_begun, calls_in, enters_at, enters, step_at, calls_out, calls, acts, hears, machine, no_past, no_holding, outside_first, starts, language}
-use Rattle.cas_runs.proofs.Composing.{refines_itself}
 use Rattle.cas_runs.proofs.Found.{found_named}
 use Rattle.cas_runs.proofs.Tests.{objects_from, share_from, same_name_self}
 use Rattle.cas_runs.proofs.Showing.{some_crossing}
@@ -38,7 +36,7 @@ mutual
   pub data RunsFor {F A : Type 0} : List Pending → List (Frame F A) → Type 0 where
     at_bottom : RunsFor [] []
     at_waits : {ps : List Pending} {f : F} {n : ℕ} {results : Option ℕ} {next : List Value → Option A} {stack : List (Frame F A)} → RunsFor ps stack → RunsFor ps (Waits f n results next ∷ stack)
-    at_outer : {ps : List Pending} {g : NameBytes} {results : Option ℕ} {stack : List (Frame F A)} → AwayFor ps stack → RunsFor (Entered g ∷ ps) (Outer results ∷ stack)
+    at_outer : {ps : List Pending} {g : NameBytes} {locks : List ℕ} {results : Option ℕ} {stack : List (Frame F A)} → AwayFor ps stack → RunsFor (Entered g locks ∷ ps) (Outer results ∷ stack)
 
   pub data AwayFor {F A : Type 0} : List Pending → List (Frame F A) → Type 0 where
     at_first : AwayFor [] []
@@ -62,7 +60,7 @@ module _ {F A : Type 0} (l : Activations F A) (setting : Setting) (scene : Scene
   data Inv (ls : List RunLabel) : Thread F A → Type 0 where
     away : {stack : List (Frame F A)} {p : Past} {h : Holding} (ps : List Pending) → Common ls p h → ExactAll setting.layout (crossed ls) h.memory p.naming → pending ls ≡ ps → AwayFor ps stack → Inv ls (Away stack p h)
     runs : {f : F} {n e : ℕ} {a : A} {stack : List (Frame F A)} {p : Past} {h : Holding} → Common ls p h → RunsFor (pending ls) stack → Inv ls (Runs f n a e stack p h)
-    leaving : {values : List Value} {stack : List (Frame F A)} {p : Past} {h : Holding} (g : NameBytes) (older : List Pending) → Common ls p h → pending ls ≡ Entered g ∷ older → AwayFor older stack → Inv ls (LeavesNow values stack p h)
+    leaving : {values : List Value} {stack : List (Frame F A)} {p : Past} {h : Holding} (g : NameBytes) (locks : List ℕ) (older : List Pending) → Common ls p h → pending ls ≡ Entered g locks ∷ older → AwayFor older stack → Inv ls (LeavesNow values stack p h)
     over : HasEnded ls → Inv ls Over
     wrong : Inv ls Wrong
 
@@ -176,8 +174,8 @@ module _ {F A : Type 0} (l : Activations F A) (setting : Setting) (scene : Scene
   call_sound ls p h c values stack w function (Enter name crossing) y can e = absurd can
   call_sound ls p h c values stack w function (Back crossing) y can e = absurd can
 
-  leave_sound : (ls : List RunLabel) (p : Past) (h : Holding) → Common ls p h → (values : List Value) (stack : List (Frame F A)) (g : NameBytes) (older : List Pending) → pending ls ≡ Entered g ∷ older → AwayFor older stack → (k : RunLabel) (y : Thread F A) → CanCross k → leaves_by setting.layout values stack p h k ≡ Some y → MayCross E ls k × Inv (k ∷ ls) y
-  leave_sound ls p h c values stack g older newest w (Leave crossing) y can e = shown (crosses_as setting.layout values p h crossing) refl e
+  leave_sound : (ls : List RunLabel) (p : Past) (h : Holding) → Common ls p h → (values : List Value) (stack : List (Frame F A)) (g : NameBytes) (locks : List ℕ) (older : List Pending) → pending ls ≡ Entered g locks ∷ older → AwayFor older stack → (k : RunLabel) (y : Thread F A) → CanCross k → leaves_by setting.layout values stack p h k ≡ Some y → MayCross E ls k × Inv (k ∷ ls) y
+  leave_sound ls p h c values stack g locks older newest w (Leave crossing) y can e = shown (crosses_as setting.layout values p h crossing) refl e
     where
       shown : (o : Option Naming) → crosses_as setting.layout values p h crossing ≡ o → to_outside stack p h o ≡ Some y → MayCross E ls (Leave crossing) × Inv (Leave crossing ∷ ls) y
       shown None i j = absurd (cc j)
@@ -185,20 +183,20 @@ module _ {F A : Type 0} (l : Activations F A) (setting : Setting) (scene : Scene
           let s = crossed_so ls p h c values crossing ns i in
           let out = out_common ls (Leave crossing) p h c crossing ns s refl refl in
           let there : Away stack (with_naming p ns) h ≡ y = cc j in
-          ((record { function = g; older = older; newest = newest }, s.carries), subst (λ v. Inv (Leave crossing ∷ ls) v) there (away older out.0 out.1 (ap without_newest newest) w))
-  leave_sound ls p h c values stack g older newest w (Call name crossing) y can e = absurd (cc e)
-  leave_sound ls p h c values stack g older newest w (Lock lock ws) y can e = absurd can
-  leave_sound ls p h c values stack g older newest w (Unlock lock ws) y can e = absurd can
-  leave_sound ls p h c values stack g older newest w (Out word) y can e = absurd can
-  leave_sound ls p h c values stack g older newest w Done y can e = absurd can
-  leave_sound ls p h c values stack g older newest w (Enter name crossing) y can e = absurd can
-  leave_sound ls p h c values stack g older newest w (Back crossing) y can e = absurd can
+          ((record { function = g; locks = locks; older = older; newest = newest }, s.carries), subst (λ v. Inv (Leave crossing ∷ ls) v) there (away older out.0 out.1 (ap without_newest newest) w))
+  leave_sound ls p h c values stack g locks older newest w (Call name crossing) y can e = absurd (cc e)
+  leave_sound ls p h c values stack g locks older newest w (Lock lock ws) y can e = absurd can
+  leave_sound ls p h c values stack g locks older newest w (Unlock lock ws) y can e = absurd can
+  leave_sound ls p h c values stack g locks older newest w (Out word) y can e = absurd can
+  leave_sound ls p h c values stack g locks older newest w Done y can e = absurd can
+  leave_sound ls p h c values stack g locks older newest w (Enter name crossing) y can e = absurd can
+  leave_sound ls p h c values stack g locks older newest w (Back crossing) y can e = absurd can
 
-  leaves_sound : (ls : List RunLabel) (p : Past) (h : Holding) → Common ls p h → (values : List Value) (stack : List (Frame F A)) (g : NameBytes) (older : List Pending) → pending ls ≡ Entered g ∷ older → AwayFor older stack → Sound ls (leaves setting.layout values stack p h)
-  leaves_sound ls p h c values stack g older newest w = by (can_cross setting.layout p values)
+  leaves_sound : (ls : List RunLabel) (p : Past) (h : Holding) → Common ls p h → (values : List Value) (stack : List (Frame F A)) (g : NameBytes) (locks : List ℕ) (older : List Pending) → pending ls ≡ Entered g locks ∷ older → AwayFor older stack → Sound ls (leaves setting.layout values stack p h)
+  leaves_sound ls p h c values stack g locks older newest w = by (can_cross setting.layout p values)
     where
       by : (t : Bool) → Sound ls (crosses_if t (leaves_by setting.layout values stack p h))
-      by true = leave_sound ls p h c values stack g older newest w
+      by true = leave_sound ls p h c values stack g locks older newest w
       by false = tt
 
   -- Calls and returns.
@@ -210,11 +208,11 @@ module _ {F A : Type 0} (l : Activations F A) (setting : Setting) (scene : Scene
   returns_sound : (ls : List RunLabel) (p : Past) (h : Holding) → Common ls p h → (values : List Value) (ps : List Pending) (stack : List (Frame F A)) → pending ls ≡ ps → RunsFor ps stack → Sound ls (returns setting.layout values stack p h)
   returns_sound ls p h c values ps stack e at_bottom = (tt, over refl)
   returns_sound ls p h c values ps stack e (at_waits {f = f} {n = n} {results = results} {next = next} {stack = rest} w) = goes_back_sound ls p h c f n rest (subst (λ v. RunsFor v rest) (sym e) w) (and_then (kept_results results values) next)
-  returns_sound ls p h c values ps stack e (at_outer {ps = older} {g = g} {results = results} {stack = rest} w) = by (kept_results results values)
+  returns_sound ls p h c values ps stack e (at_outer {ps = older} {g = g} {locks = locks} {results = results} {stack = rest} w) = by (kept_results results values)
     where
       by : (o : Option (List Value)) → Sound ls (leaves_with setting.layout o rest p h)
       by None = tt
-      by (Some kept) = leaves_sound ls p h c kept rest g older e w
+      by (Some kept) = leaves_sound ls p h c kept rest g locks older e w
 
   begins_sound : (ls : List RunLabel) (p : Past) (h : Holding) → Common ls p h → (f : F) → Laid f → (stack : List (Frame F A)) → RunsFor (pending ls) stack → (o : Option A) → Sound ls (calls_in l f o stack p h)
   begins_sound ls p h c f k stack w None = tt
@@ -310,16 +308,16 @@ module _ {F A : Type 0} (l : Activations F A) (setting : Setting) (scene : Scene
   back_inv ls crossing p h c (Some values) ps stack e at_first = wrong
   back_inv ls crossing p h c (Some values) ps stack e (at_call at_bottom) = wrong
   back_inv ls crossing p h c (Some values) ps stack e (at_call (at_waits {f = f} {n = n} {results = results} {next = next} {stack = rest} w)) = resumes_inv (Back crossing ∷ ls) p h c f n rest (subst (λ v. RunsFor v rest) (sym (ap without_newest e)) w) (and_then (kept_results results values) next)
-  back_inv ls crossing p h c (Some values) ps stack e (at_call (at_outer {ps = older} {g = g} {results = results} {stack = rest} w)) = by (kept_results results values)
+  back_inv ls crossing p h c (Some values) ps stack e (at_call (at_outer {ps = older} {g = g} {locks = locks} {results = results} {stack = rest} w)) = by (kept_results results values)
     where
       by : (o : Option (List Value)) → Inv (Back crossing ∷ ls) (leaves_later o rest p h)
       by None = wrong
-      by (Some kept) = leaving g older c (ap without_newest e) w
+      by (Some kept) = leaving g locks older c (ap without_newest e) w
 
   hears_inv : (ls : List RunLabel) (p : Past) (h : Holding) → Common ls p h → ExactAll setting.layout (crossed ls) h.memory p.naming → (ps : List Pending) (stack : List (Frame F A)) → pending ls ≡ ps → AwayFor ps stack → (k : RunLabel) → MayBring E ls k → Inv (k ∷ ls) (hears l setting scene stack p h k)
   hears_inv ls p h c exact ps stack e w (Enter name crossing) m =
       let d = in_common ls (Enter name crossing) p h c exact crossing m.brings refl refl in
-      enters_inv (Enter name crossing ∷ ls) _ _ d (Outer (results_of E name) ∷ stack) (subst (λ v. RunsFor (Entered name ∷ v) (Outer (results_of E name) ∷ stack)) (sym e) (at_outer w)) (all_taken (brought h.memory p.naming 0 crossing.objects).naming crossing.values) (find l scene.functions name)
+      enters_inv (Enter name crossing ∷ ls) _ _ d (Outer (results_of E name) ∷ stack) (subst (λ v. RunsFor (Entered name (locks_of crossing.share) ∷ v) (Outer (results_of E name) ∷ stack)) (sym e) (at_outer w)) (all_taken (brought h.memory p.naming 0 crossing.objects).naming crossing.values) (find l scene.functions name)
       (λ f g. find_laid scene.functions laid name f g)
   hears_inv ls p h c exact ps stack e w (Back crossing) m =
       back_inv ls crossing _ _ (in_common ls (Back crossing) p h c exact crossing m.brings refl refl) (all_taken (brought h.memory p.naming 0 crossing.objects).naming crossing.values) ps stack e w
@@ -333,7 +331,7 @@ module _ {F A : Type 0} (l : Activations F A) (setting : Setting) (scene : Scene
   sound : (ls : List RunLabel) (x : Thread F A) → Inv ls x → Sound ls (M.act x)
   sound ls x (away {stack = stack} {p = p} {h = h} ps c exact e w) = hears_inv ls p h c exact ps stack e w
   sound ls x (runs {f = f} {n = n} {a = a} {stack = stack} {p = p} {h = h} c w) = acts_sound ls p (step_at l setting a h).holding (step_common ls p h c a) f n stack w (step_at l setting a h).last
-  sound ls x (leaving {values = values} {stack = stack} {p = p} {h = h} g older c newest w) = leaves_sound ls p h c values stack g older newest w
+  sound ls x (leaving {values = values} {stack = stack} {p = p} {h = h} g locks older c newest w) = leaves_sound ls p h c values stack g locks older newest w
   sound ls x (over e) = e
   sound ls x wrong = tt
 
@@ -355,7 +353,7 @@ module _ {F A : Type 0} (l : Activations F A) (setting : Setting) (scene : Scene
     touched : (ls : List RunLabel) (x : Thread F A) → Inv ls x → ((v : ℕ) → IsAmong v (M.footprint x).reads → IsShared E (locks_after ls) v) × ((v : ℕ) → IsAmong v (M.footprint x).writes → IsShared E (locks_after ls) v)
     touched ls x (away ps c exact e w) = ((λ v m. elim m [ ]), (λ v m. elim m [ ]))
     touched ls x (runs {a = a} {p = p} {h = h} c w) = let k = step_kept ls p h c a in ((λ v m. subst (λ u. IsShared E u v) c.locks (k.reads v m)), (λ v m. subst (λ u. IsShared E u v) c.locks (k.writes v m)))
-    touched ls x (leaving g older c newest w) = ((λ v m. elim m [ ]), (λ v m. elim m [ ]))
+    touched ls x (leaving g locks older c newest w) = ((λ v m. elim m [ ]), (λ v m. elim m [ ]))
     touched ls x (over e) = ((λ v m. elim m [ ]), (λ v m. elim m [ ]))
     touched ls x wrong = ((λ v m. elim m [ ]), (λ v m. elim m [ ]))
 
@@ -488,21 +486,3 @@ module _ {F A : Type 0} (l : Activations F A) (setting : Setting) (prices : IsTa
       let scene : Scene F = record { functions = fs; within = fs; crosses = false } in
       let first = starts l (find l fs entry) thread in
       thread_rules l setting scene first prices laid laid (find l fs entry) thread (λ f e. find_laid l setting scene first prices laid laid fs laid entry f e) refl
-
-  -- a unit refines itself
-  pub unit_itself : (fs : List F) → IsLayout (language l) fs setting.layout → Refines setting.edge ((language l).unit setting fs) ((language l).unit setting fs)
-  unit_itself fs laid =
-      let rules = unit_rules fs laid in
-      refines_itself setting.edge ((language l).unit setting fs) rules.proceeds
-
-  -- so does a function alone
-  pub alone_itself : (f : F) → IsLayout (language l) (f ∷ []) setting.layout → Refines setting.edge ((language l).alone setting f) ((language l).alone setting f)
-  alone_itself f laid =
-      let rules = alone_rules f laid in
-      refines_itself setting.edge ((language l).alone setting f) rules.proceeds
-
-  -- and a thread of a whole program
-  pub thread_itself : (fs : List F) (entry : NameBytes) (thread : ℕ) → IsLayout (language l) fs setting.layout → Refines setting.edge ((language l).thread setting fs entry thread) ((language l).thread setting fs entry thread)
-  thread_itself fs entry thread laid =
-      let rules = program_rules fs entry thread laid in
-      refines_itself setting.edge ((language l).thread setting fs entry thread) rules.proceeds

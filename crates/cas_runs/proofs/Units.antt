@@ -14,6 +14,7 @@ module _ {F G H T S R : Type 0} (lt : Language F T) (ls : Language G S) (lr : La
     decls = h.decls ∙ k.decls;
     globals = h.globals ∙ k.globals;
     names = h.names ∙ k.names;
+    defined = k.defined;
     naming = λ l. h.naming (k.naming l);
     laid_out_too = λ l p. h.laid_out_too (k.naming l) (k.laid_out_too l p);
     refines = λ setting fits laid.
@@ -22,10 +23,11 @@ module _ {F G H T S R : Type 0} (lt : Language F T) (ls : Language G S) (lr : La
         (h.refines (laid_out setting (k.naming setting.layout)) middle (k.laid_out_too setting.layout laid)) (k.refines setting fits laid);
   }
 
-  pub functions_both : (decl : Decl) (t : F) (s : G) (r : H) → FunctionRefines lt ls decl t s → FunctionRefines ls lr decl s r → FunctionRefines lt lr decl t r
-  functions_both decl t s r h k = record {
+  pub functions_both : (decls : List Decl) (name : NameBytes) (t : F) (s : G) (r : H) → FunctionRefines lt ls decls name t s → FunctionRefines ls lr decls name s r → FunctionRefines lt lr decls name t r
+  functions_both decls name t s r h k = record {
     target_name = h.target_name;
     source_name = k.source_name;
+    defined = k.defined;
     naming = λ l. h.naming (k.naming l);
     laid_out_too = λ l p. h.laid_out_too (k.naming l) (k.laid_out_too l p);
     refines = λ setting fits laid.

@@ -1,5 +1,5 @@
 -- Legal labels: what threads do together on words behind atomic locks.
-use Rattle.std.specs.Prelude.{◌≡◌, ℕ, nat_eq, List, [], ◌∷◌, Some, None, if◌then◌else◌}
+use Rattle.std.specs.Prelude.{◌≡◌, ℕ, ◌<◌, nat_eq, List, [], ◌∷◌, Some, None, if◌then◌else◌}
 use Rattle.cas_runs.specs.Label.{RunLabel, Lock, Unlock, Out, Done, Enter, Back, Call, Leave}
 use Rattle.cas_runs.specs.Edge.{Cell, LockWord, SharedWord, TableWord}
 
@@ -50,10 +50,10 @@ IsLegalNext cells before (Back c) = ⊥
 IsLegalNext cells before (Call f c) = ⊥
 IsLegalNext cells before (Leave c) = ⊥
 
--- legal labels of threads over these words, the newest first
-abbrev pub IsLegal : List Cell → List ThreadLabel → Type 0
-IsLegal cells [] = Unit {0}
-IsLegal cells (l ∷ ls) = IsLegalNext cells ls l.label × IsLegal cells ls
+-- legal labels of so many threads over these words, the newest first: each is of a thread that is there
+abbrev pub IsLegal : List Cell → (threads : ℕ) → List ThreadLabel → Type 0
+IsLegal cells n [] = Unit {0}
+IsLegal cells n (l ∷ ls) = (l.thread < n) × IsLegalNext cells ls l.label × IsLegal cells n ls
 
 -- the labels of one thread
 abbrev pub projection : ℕ → List ThreadLabel → List RunLabel

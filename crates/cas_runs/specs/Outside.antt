@@ -4,10 +4,10 @@ use Rattle.cas_base.specs.declared.kind.Kind.{Kind}
 use Rattle.cas_runs.specs.Label.{NameBytes, Shown, Word, Place, Outside, Object, Crossing, RunLabel, Lock, Unlock, Out, Done, Enter, Back, Call, Leave, locks_of}
 use Rattle.cas_runs.specs.Edge.{Signature, Edge, IsOfKind, IsShare, AreOfTypes, returned, signature_of, most_cells, most_live}
 
--- a call or an entry that hasn't returned yet
+-- a call or an entry that hasn't returned yet, with the locks of the share that came or went with it
 pub data Pending : Type 0 where
   Called : (function : NameBytes) (locks : List ℕ) → Pending
-  Entered : (function : NameBytes) → Pending
+  Entered : (function : NameBytes) (locks : List ℕ) → Pending
 
 abbrev pub without_newest : List Pending → List Pending
 without_newest [] = []
@@ -16,7 +16,7 @@ without_newest (p ∷ ps) = ps
 -- the calls and entries that haven't returned, the newest first. Labels are the newest first
 abbrev pub pending : List RunLabel → List Pending
 pending [] = []
-pending (Enter f crossing ∷ ls) = Entered f ∷ pending ls
+pending (Enter f crossing ∷ ls) = Entered f (locks_of crossing.share) ∷ pending ls
 pending (Call f crossing ∷ ls) = Called f (locks_of crossing.share) ∷ pending ls
 pending (Back crossing ∷ ls) = without_newest (pending ls)
 pending (Leave crossing ∷ ls) = without_newest (pending ls)

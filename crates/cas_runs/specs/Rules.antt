@@ -4,8 +4,8 @@ use Rattle.cas_base.specs.declared.kind.Kind.{Kind}
 use Rattle.cas_base.specs.declared.kind.Kind.TheVariants.{U32}
 use Rattle.cas_base.specs.declared.kind.Ty.{Ty}
 use Rattle.cas_runs.specs.Label.{NameBytes, Inside, Object, Crossing, RunLabel, Lock, Unlock, Out, Done, Enter, Back, Call, Leave, locks_of}
-use Rattle.cas_runs.specs.Edge.{LockWord, SharedWord, Signature, Edge, AreOfTypes, returned, signature_of, IsOfKind, AreOfKinds, guarded, AreUnder, IsOrdered, IsShare}
-use Rattle.cas_runs.specs.Outside.{Pending, Entered, AreWordsOf, IsAmong, pending, crossed, numbered}
+use Rattle.cas_runs.specs.Edge.{LockWord, SharedWord, Signature, Edge, AreOfTypes, returned, signature_of, IsOfKind, AreOfKinds, guarded, AreUnder, IsOrdered, IsShare, most_cells}
+use Rattle.cas_runs.specs.Outside.{Pending, Entered, AreWordsOf, IsAmong, Holds, pending, crossed, numbered}
 use Rattle.cas_runs.specs.Machine.{Act, Quiet, Says, Crosses, Locks, Hears, Bad, Stops, Halt, Ended, Taken, Full, Machine, Saying, label_of, CanCross, Block, Run}
 
 -- the lock and these, in ascending order
@@ -81,8 +81,9 @@ pub record Carries (edge : Edge) (before : List RunLabel) (crossing : Crossing) 
 -- the unit returns from the newest entry
 pub record IsReturn (before : List RunLabel) : Type 0 where
   pub function : NameBytes
+  pub locks : List ℕ
   pub older : List Pending
-  pub newest : pending before ≡ Entered function ∷ older
+  pub newest : pending before ≡ Entered function locks ∷ older
 
 -- a label that the unit may say after these. An Unlock is of a lock in the share, and carries as many words as that guards
 abbrev pub MaySay : Edge → List RunLabel → RunLabel → Type 0
@@ -167,18 +168,24 @@ abbrev pub AllShowWords : List Object → Type 0
 AllShowWords [] = Unit {0}
 AllShowWords (o ∷ os) = ShowsWords o o.contents × AllShowWords os
 
--- the values are of these types, and the words of the share and of the objects are of their kinds
+-- each object has cells, and no more than an object can have
+abbrev pub AreSized : List Object → Type 0
+AreSized [] = Unit {0}
+AreSized (o ∷ os) = (1 ≤ o.size) × (o.size ≤ most_cells) × AreSized os
+
+-- the values are of these types, the words of the share and of the objects are of their kinds, and the objects are as large as objects can be
 pub record CrossInKind (edge : Edge) (types : List Ty) (crossing : Crossing) : Type 0 where
   pub values : AreOfTypes crossing.objects types crossing.values
   pub share : IsShare edge crossing.share
   pub objects : AllShowWords crossing.objects
+  pub sizes : AreSized crossing.objects
 
 -- what the label carries is in kind: arguments are of the parameters' types, and a result is of the type of the function that was entered
 abbrev pub SaysInKind : Edge → List RunLabel → RunLabel → Type 0
 SaysInKind edge before (Unlock l words) = AreOfKinds words (guarded l edge.cells)
 SaysInKind edge before (Out w) = IsOfKind w U32
 SaysInKind edge before (Call f crossing) = (s : Signature) → signature_of edge.functions f ≡ Some s → CrossInKind edge s.params crossing
-SaysInKind edge before (Leave crossing) = (g : NameBytes) (older : List Pending) (s : Signature) → pending before ≡ Entered g ∷ older → signature_of edge.functions g ≡ Some s → CrossInKind edge (returned s.ret) crossing
+SaysInKind edge before (Leave crossing) = (g : NameBytes) (locks : List ℕ) (older : List Pending) (s : Signature) → pending before ≡ Entered g locks ∷ older → signature_of edge.functions g ≡ Some s → CrossInKind edge (returned s.ret) crossing
 SaysInKind edge before (Lock l words) = Unit {0}
 SaysInKind edge before Done = Unit {0}
 SaysInKind edge before (Enter f crossing) = Unit {0}
@@ -189,3 +196,18 @@ SaysInKind edge before (Back crossing) = Unit {0}
 pub record KeepsKinds {S : Type 0} (edge : Edge) (m : Machine S) : Type 0 where
   pub says : (ls : List RunLabel) (bs : List Block) (b : Block) (x : S) → Run edge m ls bs b x → (saying : Saying) (y : S) → m.act x ≡ Says saying y → SaysInKind edge ls (label_of saying)
   pub crosses : (ls : List RunLabel) (bs : List Block) (b : Block) (x : S) → Run edge m ls bs b x → (next : RunLabel → Option S) → m.act x ≡ Crosses next → (l : RunLabel) (y : S) → CanCross l → next l ≡ Some y → SaysInKind edge ls l
+
+-- at a Call the share has the locks that the called function holds, and at a Leave those that it had at its Enter
+abbrev pub SaysLocks : Edge → List RunLabel → RunLabel → Type 0
+SaysLocks edge before (Call f crossing) = (s : Signature) → signature_of edge.functions f ≡ Some s → Holds (locks_of crossing.share) s.holds
+SaysLocks edge before (Leave crossing) = (g : NameBytes) (locks : List ℕ) (older : List Pending) → pending before ≡ Entered g locks ∷ older → locks_of crossing.share ≡ locks
+SaysLocks edge before (Lock l words) = Unit {0}
+SaysLocks edge before (Unlock l words) = Unit {0}
+SaysLocks edge before (Out w) = Unit {0}
+SaysLocks edge before Done = Unit {0}
+SaysLocks edge before (Enter f crossing) = Unit {0}
+SaysLocks edge before (Back crossing) = Unit {0}
+
+-- and what the source keeps of locks, since its ownership is checked: a language between goes over its edge where its source does
+pub record KeepsLocks {S : Type 0} (edge : Edge) (m : Machine S) : Type 0 where
+  pub crosses : (ls : List RunLabel) (bs : List Block) (b : Block) (x : S) → Run edge m ls bs b x → (next : RunLabel → Option S) → m.act x ≡ Crosses next → (l : RunLabel) (y : S) → CanCross l → next l ≡ Some y → SaysLocks edge ls l

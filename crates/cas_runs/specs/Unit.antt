@@ -26,12 +26,13 @@ pub record Stack : Type 0 where
 abbrev pub first_address : ℕ
 first_address = 4096
 
--- a stack that a thread can have at the edge: at whole words past those of globals and locks, not too small or too large, with addresses that are words
+-- a stack that a thread can have at the edge: at whole words past those of globals and locks, not too small or too large, with addresses that are words,
+-- also that of its end, which is never 0
 pub record IsStack (edge : Edge) (stack : Stack) : Type 0 where
   pub words_before : ℕ
   pub aligned : stack.address ≡ 4 * words_before
   pub past_words : first_address + 4 * length edge.cells ≤ stack.address
-  pub in_reach : stack.address + 4 * stack.size ≤ 2 ^ 32
+  pub in_reach : stack.address + 4 * stack.size < 2 ^ 32
   pub least : 16 ≤ stack.size
   pub most : stack.size ≤ most_live
 
@@ -213,6 +214,10 @@ abbrev pub has_function : {F S : Type 0} → Language F S → List F → NameByt
 has_function l [] name = false
 has_function l (f ∷ fs) name = if same_name (l.name f) name then true else has_function l fs name
 
+-- the functions are those that these declarations define, by their names
+abbrev pub AreDefined : {F S : Type 0} → Language F S → List Decl → List F → Type 0
+AreDefined l decls fs = (name : NameBytes) → has_function l fs name ≡ defines decls name
+
 -- the outside may enter the functions for which the test is true, and no others
 abbrev pub OnlyInside : (NameBytes → Bool) → List Signature → Type 0
 OnlyInside test [] = Unit {0}
@@ -243,13 +248,21 @@ pub record FitsUnit (edge : Edge) (words : Words) (stack : Stack) (code : Code) 
   pub apart : AllApart words decls
   pub entered : OnlyInside (defines decls) edge.functions
 
--- an edge, a stack and places of code at which a function of this declaration may run alone
-pub record FitsFunction (edge : Edge) (words : Words) (stack : Stack) (code : Code) (decl : Decl) : Type 0 where
+-- an edge, a stack and places of code at which the function of this name, of a unit with these declarations, may run alone: all others are outside
+pub record FitsFunction (edge : Edge) (words : Words) (stack : Stack) (code : Code) (decls : List Decl) (name : NameBytes) : Type 0 where
   pub edge_is : IsEdge edge
   pub stack_is : IsStack edge stack
   pub code_is : IsCode code edge.functions
-  pub declared : IsDeclared edge words decl.name decl.form
-  pub entered : OnlyInside (same_name decl.name) edge.functions
+  pub declared : AreDeclared edge words decls
+  pub apart : AllApart words decls
+  pub entered : OnlyInside (same_name name) edge.functions
+
+-- what is known where these functions run, in a unit, alone or in a program, with these declarations: the edge has all that is declared, no two names
+-- share words, and each of the functions is declared as defined
+pub record AreKnown {F S : Type 0} (l : Language F S) (edge : Edge) (words : Words) (decls : List Decl) (fs : List F) : Type 0 where
+  pub declared : AreDeclared edge words decls
+  pub apart : AllApart words decls
+  pub defined : (name : NameBytes) → has_function l fs name ≡ true → defines decls name ≡ true
 
 -- the function has the type of a thread's entry: it takes the thread's number, returns nothing and holds no lock
 pub record IsEntry (edge : Edge) (entry : NameBytes) : Type 0 where
@@ -274,34 +287,36 @@ abbrev pub all_functions : {F : Type 0} → List (UnitOf F) → List F
 all_functions [] = []
 all_functions (u ∷ us) = u.funs ++ all_functions us
 
--- an edge at which a thread of the whole program of these units may run: the edge has all that they declare, with their data, each of their functions
--- is declared as defined, and the entry is one of them
+-- an edge at which a thread of the whole program of these units may run: the edge has all that they declare, with their data, their functions are those
+-- that they declare as defined, and the entry is one of them
 pub record FitsProgram {F S : Type 0} (l : Language F S) (edge : Edge) (words : Words) (units : List (UnitOf F)) (entry : NameBytes) : Type 0 where
   pub edge_is : IsEdge edge
   pub declared : AreDeclared edge words (all_decls units)
   pub data_there : HaveData edge words (all_globals units)
   pub apart : AllApart words (all_decls units)
-  pub defined : (name : NameBytes) → has_function l (all_functions units) name ≡ true → defines (all_decls units) name ≡ true
+  pub defined : AreDefined l (all_decls units) (all_functions units)
   pub there : has_function l (all_functions units) entry ≡ true
   pub entry_is : IsEntry edge entry
 
--- the unit t refines the unit s: their declarations, their data and the names of their functions are equal, and its runs refine those of s in each setting of s, where its own objects are
--- at the places that the naming gives
+-- the unit t refines the unit s: their declarations, their data and the names of their functions are equal, the functions are those that are declared as defined,
+-- and its runs refine those of s in each setting of s, where its own objects are at the places that the naming gives
 pub record UnitRefines {F G S T : Type 0} (lt : Language F T) (ls : Language G S) (t : UnitOf F) (s : UnitOf G) : Type 0 where
   pub decls : t.decls ≡ s.decls
   pub globals : t.globals ≡ s.globals
   pub names : names_of lt t.funs ≡ names_of ls s.funs
+  pub defined : AreDefined ls s.decls s.funs
   pub naming : Layout → Layout
   pub laid_out_too : (layout : Layout) → IsLayout ls s.funs layout → IsLayout lt t.funs (naming layout)
   pub refines : (setting : Setting) → FitsUnit setting.edge setting.words setting.stack setting.code s.decls s.globals → IsLayout ls s.funs setting.layout → Refines setting.edge (lt.unit (laid_out setting (naming setting.layout)) t.funs) (ls.unit setting s.funs)
 
--- the function t refines the function s, where this is the declaration of both
-pub record FunctionRefines {F G S T : Type 0} (lt : Language F T) (ls : Language G S) (decl : Decl) (t : F) (s : G) : Type 0 where
-  pub target_name : lt.name t ≡ decl.name
-  pub source_name : ls.name s ≡ decl.name
+-- the function t refines the function s, where these are the declarations of the unit of both, and both have this name, which they define
+pub record FunctionRefines {F G S T : Type 0} (lt : Language F T) (ls : Language G S) (decls : List Decl) (name : NameBytes) (t : F) (s : G) : Type 0 where
+  pub target_name : lt.name t ≡ name
+  pub source_name : ls.name s ≡ name
+  pub defined : defines decls name ≡ true
   pub naming : Layout → Layout
   pub laid_out_too : (layout : Layout) → IsLayout ls (s ∷ []) layout → IsLayout lt (t ∷ []) (naming layout)
-  pub refines : (setting : Setting) → FitsFunction setting.edge setting.words setting.stack setting.code decl → IsLayout ls (s ∷ []) setting.layout → Refines setting.edge (lt.alone (laid_out setting (naming setting.layout)) t) (ls.alone setting s)
+  pub refines : (setting : Setting) → FitsFunction setting.edge setting.words setting.stack setting.code decls name → IsLayout ls (s ∷ []) setting.layout → Refines setting.edge (lt.alone (laid_out setting (naming setting.layout)) t) (ls.alone setting s)
 
 -- at an edge that fits the program of the units ss, the thread of this entry and number of the program of ts, with equal declarations and data, refines that of ss, on each stack that it can have and wherever its code can stand
 pub record ThreadRefines {F G S T : Type 0} (lt : Language F T) (ls : Language G S) (edge : Edge) (words : Words) (ts : List (UnitOf F)) (ss : List (UnitOf G)) (entry : NameBytes) (thread : ℕ) : Type 0 where

@@ -1,4 +1,4 @@
-ghost use Rattle.std.specs.Prelude.{◌≡◌, ℕ, ◌⊎◌, List, [], ◌∷◌};
+ghost use Rattle.std.specs.Prelude.{◌≡◌, ℕ, ◌⊎◌, List, true};
 ghost use Rattle.cas_base.specs.declared.decl.Unit.{Unit as UnitOf};
 ghost use Rattle.cas_base.specs.declared.decl.Decl.{Decl};
 ghost use Rattle.cas_runs.specs.Access.{Words};
@@ -10,7 +10,7 @@ ghost use Rattle.cas_runs.specs.Machine.{Machine, Block, Run, quiet_steps, quiet
 ghost use Rattle.cas_runs.specs.Determined.{Same};
 ghost use Rattle.cas_runs.specs.Refines.{HasRun, BadBefore, PaysMore, Refines, NamesAlone, EachKept};
 ghost use Rattle.cas_runs.specs.Rules.{Proceeds};
-ghost use Rattle.cas_runs.specs.Unit.{IsLayout, Language, Setting, UnitRefines, FunctionRefines, ThreadRefines};
+ghost use Rattle.cas_runs.specs.Unit.{AreDefined, FitsProgram, Language, Setting, UnitRefines, FunctionRefines, ThreadRefines, defines};
 
 /// Refinements of machines compose.
 #[tactic(auto, using(crate::proofs::Composing::refines_both))]
@@ -27,7 +27,7 @@ pub fn units_compose<F, G, H, T, S, R>()
 /// Refinements of functions compose.
 #[tactic(auto, using(crate::proofs::Units::functions_both))]
 pub fn functions_compose<F, G, H, T, S, R>()
-    ensures { (lt : Language F T) (ls : Language G S) (lr : Language H R) (decl : Decl) (t : F) (s : G) (r : H) → FunctionRefines lt ls decl t s → FunctionRefines ls lr decl s r → FunctionRefines lt lr decl t r }
+    ensures { (lt : Language F T) (ls : Language G S) (lr : Language H R) (decls : List Decl) (name : NameBytes) (t : F) (s : G) (r : H) → FunctionRefines lt ls decls name t s → FunctionRefines ls lr decls name s r → FunctionRefines lt lr decls name t r }
 {}
 
 /// Refinements of threads compose.
@@ -49,19 +49,19 @@ pub fn refines_itself<S>()
     ensures { (edge : Edge) (m : Machine S) → Proceeds m → Refines edge m m }
 {}
 
-/// A unit in any language of activations refines itself.
+/// A unit in any language of activations refines itself, where its functions are those that it declares as defined.
 pub fn units_refine_themselves<F, A>()
-    ensures { (l : Activations F A) (setting : Setting) → IsTariff l.tariff → (fs : List F) → IsLayout (language l) fs setting.layout → Refines setting.edge ((language l).unit setting fs) ((language l).unit setting fs) }
+    ensures { (l : Activations F A) → IsTariff l.tariff → (unit : UnitOf F) → AreDefined (language l) unit.decls unit.funs → UnitRefines (language l) (language l) unit unit }
 {}
 
 /// So does a function alone.
 pub fn functions_refine_themselves<F, A>()
-    ensures { (l : Activations F A) (setting : Setting) → IsTariff l.tariff → (f : F) → IsLayout (language l) (f ∷ []) setting.layout → Refines setting.edge ((language l).alone setting f) ((language l).alone setting f) }
+    ensures { (l : Activations F A) → IsTariff l.tariff → (decls : List Decl) (f : F) → defines decls (l.name f) ≡ true → FunctionRefines (language l) (language l) decls (l.name f) f f }
 {}
 
-/// And a thread of a whole program.
+/// And a thread of a whole program, at an edge that fits it.
 pub fn threads_refine_themselves<F, A>()
-    ensures { (l : Activations F A) (setting : Setting) → IsTariff l.tariff → (fs : List F) (entry : NameBytes) (thread : ℕ) → IsLayout (language l) fs setting.layout → Refines setting.edge ((language l).thread setting fs entry thread) ((language l).thread setting fs entry thread) }
+    ensures { (l : Activations F A) → IsTariff l.tariff → (edge : Edge) (words : Words) (units : List (UnitOf F)) (entry : NameBytes) (thread : ℕ) → FitsProgram (language l) edge words units entry → ThreadRefines (language l) (language l) edge words units units entry thread }
 {}
 
 /// A thread of a whole program has no Call and no Leave. So where it refines, each of its runs is kept, or the

@@ -1,4 +1,4 @@
-ghost use Rattle.std.specs.Prelude.{◌≡◌, ℕ, IfOk, List};
+ghost use Rattle.std.specs.Prelude.{◌≡◌, ℕ, IfOk, List, true};
 ghost use Rattle.cas_base.specs.declared.decl.Decl.{Decl};
 ghost use Rattle.cas_base.specs.declared.kind.Kind.TheVariants.{U32};
 ghost use Rattle.cas_base.specs.declared.decl.Unit.{Unit as UnitOf};
@@ -9,7 +9,7 @@ ghost use Rattle.cas_runs.specs.Label.{NameBytes};
 ghost use Rattle.cas_runs.specs.Machine.{Block};
 ghost use Rattle.cas_runs.specs.Naming.{Layout, Value};
 ghost use Rattle.cas_runs.specs.Passing.{AllMade, IsPass, relation};
-ghost use Rattle.cas_runs.specs.Unit.{FitsProgram, FunctionRefines, IsEdge, IsLayout, Setting, ThreadRefines, UnitRefines, all_decls, all_functions, all_globals};
+ghost use Rattle.cas_runs.specs.Unit.{AreDefined, AreKnown, FitsProgram, FunctionRefines, IsEdge, IsLayout, Setting, ThreadRefines, UnitRefines, all_decls, all_functions, all_globals, defines};
 
 use cas_base::NoMemory;
 use std::alloc::Global;
@@ -57,23 +57,25 @@ pub trait FunctionPass {
     fn laid_out_too()
         ensures { (ts : List Self.Target) (ss : List Self.Source) → AllMade made ts ss → (layout : Layout) → IsLayout (language source) ss layout → IsLayout (language target) ts (naming ss layout) };
 
-    /// The law that what is related so is a pass.
+    /// The law that what is related so is a pass, at an edge that has what the functions' unit or program
+    /// declares.
     fn passes()
-        ensures { (setting : Setting) (ts : List Self.Target) (ss : List Self.Source) → AllMade made ts ss → IsEdge setting.edge → IsLayout (language source) ss setting.layout → IsPass (relation target source made naming same alike settled later matches ts ss setting) };
+        ensures { (setting : Setting) (ts : List Self.Target) (ss : List Self.Source) (decls : List Decl) → AllMade made ts ss → IsEdge setting.edge → AreKnown (language source) setting.edge setting.words decls ss → IsLayout (language source) ss setting.layout → IsPass (relation target source made naming same alike settled later matches ts ss setting) };
 }
 
-/// What a pass makes of a function refines it, where each runs alone.
+/// What a pass makes of a function refines it, where each runs alone, among the declarations of its unit.
 pub fn functions_refine<P: FunctionPass>()
-    ensures { (decl : Decl) (a : P.Source) (b : P.Target) → P.target.name b ≡ decl.name → P.source.name a ≡ decl.name → P.made b a → FunctionRefines (language P.target) (language P.source) decl b a }
+    ensures { (decls : List Decl) (a : P.Source) (b : P.Target) → defines decls (P.source.name a) ≡ true → P.made b a → FunctionRefines (language P.target) (language P.source) decls (P.source.name a) b a }
 {
     P::names_stay();
     P::laid_out_too();
     P::passes();
 }
 
-/// A unit of such functions, with the same declarations and data, refines the unit of the others.
+/// A unit of such functions, with the same declarations and data, refines the unit of the others, whose functions
+/// are those that it declares as defined.
 pub fn units_refine<P: FunctionPass>()
-    ensures { (s : UnitOf P.Source) (t : UnitOf P.Target) → t.decls ≡ s.decls → t.globals ≡ s.globals → AllMade P.made t.funs s.funs → UnitRefines (language P.target) (language P.source) t s }
+    ensures { (s : UnitOf P.Source) (t : UnitOf P.Target) → t.decls ≡ s.decls → t.globals ≡ s.globals → AreDefined (language P.source) s.decls s.funs → AllMade P.made t.funs s.funs → UnitRefines (language P.target) (language P.source) t s }
 {
     P::names_stay();
     P::laid_out_too();

@@ -22,6 +22,6 @@ pub use refused::{
     wrong_place_refused,
 };
 pub use rules::{
-    functions_keep_rules, programs_know_results, sections_keep_kinds, sections_keep_rules,
-    threads_keep_rules, threads_never_cross, units_call_out, units_keep_rules,
+    functions_keep_rules, programs_know_results, sections_keep_kinds, sections_keep_locks,
+    sections_keep_rules, threads_keep_rules, threads_never_cross, units_call_out, units_keep_rules,
 };

@@ -8,7 +8,7 @@ ghost use Rattle.cas_runs.specs.Calls.{Activations, Thread, language};
 ghost use Rattle.cas_runs.specs.Edge.{Edge, results_of};
 ghost use Rattle.cas_runs.specs.Label.{ArePlain, NameBytes, RunLabel};
 ghost use Rattle.cas_runs.specs.Machine.{Block, Run};
-ghost use Rattle.cas_runs.specs.Rules.{CallsOut, KeepsKinds, KeepsRules};
+ghost use Rattle.cas_runs.specs.Rules.{CallsOut, KeepsKinds, KeepsLocks, KeepsRules};
 ghost use Rattle.cas_runs.specs.Sections.{Instruction, StoresWords, one_lock, sections};
 ghost use Rattle.cas_runs.specs.Unit.{FitsProgram, FitsUnit, IsLayout, Language, Setting, all_functions, has_function};
 
@@ -21,6 +21,12 @@ pub fn sections_keep_rules()
 #[tactic(auto, using(crate::proofs::Keeping::sections_in_kind))]
 pub fn sections_keep_kinds()
     ensures { (price : ℕ) (program : List Instruction) → StoresWords program → KeepsKinds one_lock (sections price program) }
+{}
+
+/// And that on locks: it never goes over its edge.
+#[tactic(auto, using(crate::proofs::Keeping::sections_hold))]
+pub fn sections_keep_locks()
+    ensures { (price : ℕ) (program : List Instruction) → StoresWords program → KeepsLocks one_lock (sections price program) }
 {}
 
 /// The machine of a unit in any language of activations keeps the rules, whatever its functions do.
