@@ -1,21 +1,22 @@
 -- The trial's unit fits an edge, and its machine has a run in which a pointer crosses and comes back.
-use Rattle.std.proofs.Common.{◌≡◌, ℕ, zero, suc, ◌+◌, ◌<◌, ◌≤◌, List, [], ◌∷◌, ◌⊎◌, Some, None, inl, inr, refl, subst, arith}
+use Rattle.std.proofs.Common.{◌≡◌, ℕ, zero, suc, ◌+◌, ◌<◌, ◌≤◌, List, [], ◌∷◌, ◌⊎◌, Some, None, Bool, true, false, ◌&&◌, if◌then◌else◌, inl, inr, refl, sym, ap, ◌∙◌, subst, arith}
 use Rattle.cas_base.specs.declared.decl.Decl.{Decl}
 use Rattle.cas_base.specs.declared.kind.Kind.TheVariants.{I32}
 use Rattle.cas_base.specs.declared.kind.Ty.TheVariants.{Int}
 use Rattle.std.specs.Prelude.{slice_get}
-use Rattle.cas_runs.specs.Label.{Place, Crossing, RunLabel, Lock, Unlock, Out, Enter, Back, Call}
+use Rattle.cas_runs.specs.Label.{same_name, Place, Crossing, RunLabel, Lock, Unlock, Out, Enter, Back, Call}
 use Rattle.cas_runs.specs.Edge.{LockWord, SharedWord, Cell}
 use Rattle.cas_runs.specs.Naming.{ArePlaced}
 use Rattle.cas_runs.specs.Access.{Stretch}
 use Rattle.cas_runs.specs.Machine.{Quiet, Machine, Leads, begun, onward, starts, quiet, labelled}
 use Rattle.cas_runs.specs.Refines.{HasRun}
 use Rattle.cas_runs.specs.Rules.{KeepsRules}
+use Rattle.cas_runs.proofs.Entered.{dropped, taken}
 use Rattle.cas_runs.proofs.Ruling.{unit_rules}
-use Rattle.cas_runs.specs.Unit.{FitsUnit, AreApart, IsSharedCell, Setting, IsLayout}
+use Rattle.cas_runs.specs.Unit.{AreDefined, FitsUnit, AreApart, IsSharedCell, Setting, IsLayout}
 use Rattle.cas_runs.specs.Calls.{Thread, language}
 use Rattle.cas_trial.specs.declared.joining.Apart.{Apart}
-use Rattle.cas_trial.specs.Stages.{main_name, show_name, Stage, apart}
+use Rattle.cas_trial.specs.Stages.{main_name, show_name, lock_name, global_name, Stage, apart}
 use Rattle.cas_trial.proofs.Joins.{apart_prices}
 use Rattle.cas_trial.specs.Fitting.{lock_decl, global_decl, main_decl, show_decl, decls, globals, edge, words, setting, two_words, first_object, labels, program}
 
@@ -46,6 +47,17 @@ unit_fits = record {
   apart = ((lock_and_global, (no_words lock_decl main_decl (inr refl), (no_words lock_decl show_decl (inr refl), tt))), ((no_words global_decl main_decl (inr refl), (no_words global_decl show_decl (inr refl), tt)), ((no_words main_decl show_decl (inr refl), tt), (tt, tt))));
   entered = (refl, (refl, tt));
 }
+
+-- the function is the third that is declared
+this_one : (lock global main show : Bool) → (if main then true else false) ≡ (if lock && false then true else if global && false then true else if main && true then true else if show && false then true else false)
+this_one lock global main show =
+    taken main false
+    ∙ ap (λ (x : Bool). if main && true then true else x) (sym (dropped show false))
+    ∙ sym (dropped global (if main && true then true else if show && false then true else false))
+    ∙ sym (dropped lock (if global && false then true else if main && true then true else if show && false then true else false))
+
+pub unit_defined : AreDefined (language apart) decls (program ∷ [])
+unit_defined name = this_one (same_name lock_name name) (same_name global_name name) (same_name main_name name) (same_name show_name name)
 
 past_two : (j : ℕ) → 2 ≤ j → two_words j ≡ []
 past_two zero le = absurd (omega (arith, le))

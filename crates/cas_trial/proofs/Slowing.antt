@@ -3,7 +3,7 @@ use Rattle.std.proofs.Common.{◌≡◌, ℕ, ◌+◌, ◌≤◌, List, [], ◌�
 use Rattle.cas_base.specs.declared.decl.Unit.{Unit as UnitOf}
 use Rattle.cas_runs.specs.Naming.{Value, Layout, Memory}
 use Rattle.cas_runs.specs.Bounds.{IsPrice}
-use Rattle.cas_runs.specs.Unit.{Setting, IsEdge, IsLayout, UnitRefines}
+use Rattle.cas_runs.specs.Unit.{Setting, IsEdge, IsLayout, AreDefined, UnitRefines}
 use Rattle.cas_runs.specs.Calls.{language}
 use Rattle.cas_runs.specs.Access.{Holding}
 use Rattle.cas_runs.specs.Forms.{last}
@@ -75,5 +75,5 @@ slow_pass setting ts ss h edge l = record {
 }
 
 -- units of the same programs
-pub units_slow : (s t : UnitOf Relaying) → t.decls ≡ s.decls → t.globals ≡ s.globals → AllMade IsSame t.funs s.funs → UnitRefines (language slow) (language fast) t s
-units_slow s t d g h = units_pass slow fast IsSame (λ us layout. layout) (λ setting ts ss v w. v ≡ w) (λ setting ts ss. Equal) (λ setting ts ss. Equal) (λ setting ts ss n h k u v. Unit {0}) (λ setting ts ss. Midway (Bare setting ts ss) (λ f g. AtStep) SameSize) (λ f g m. refl) slow_laid_out slow_pass t s d g h
+pub units_slow : (s t : UnitOf Relaying) → t.decls ≡ s.decls → t.globals ≡ s.globals → AreDefined (language fast) s.decls s.funs → AllMade IsSame t.funs s.funs → UnitRefines (language slow) (language fast) t s
+units_slow s t d g defined h = units_pass slow fast IsSame (λ us layout. layout) (λ setting ts ss v w. v ≡ w) (λ setting ts ss. Equal) (λ setting ts ss. Equal) (λ setting ts ss n h k u v. Unit {0}) (λ setting ts ss. Midway (Bare setting ts ss) (λ f g. AtStep) SameSize) (λ f g m. refl) slow_laid_out (λ setting ts ss decls m e known l. slow_pass setting ts ss m e l) t s d g defined h

@@ -8,7 +8,7 @@ use Rattle.cas_base.specs.Word.{word_add}
 use Rattle.cas_runs.specs.Edge.{IsOfKind}
 use Rattle.cas_runs.specs.Naming.{Value, Layout, Memory}
 use Rattle.cas_runs.specs.Bounds.{IsPrice}
-use Rattle.cas_runs.specs.Unit.{Setting, IsEdge, IsLayout, UnitRefines}
+use Rattle.cas_runs.specs.Unit.{Setting, IsEdge, IsLayout, AreDefined, UnitRefines}
 use Rattle.cas_runs.specs.Calls.{Last, Puts, language}
 use Rattle.cas_runs.specs.Access.{Accesses, Then, Holding}
 use Rattle.cas_runs.specs.Forms.{FormAlike, reads, last}
@@ -90,5 +90,5 @@ sums_pass setting ts ss h edge l = record {
 }
 
 -- units of the same programs
-pub units_sum : (s t : UnitOf Relaying) → t.decls ≡ s.decls → t.globals ≡ s.globals → AllMade IsSame t.funs s.funs → UnitRefines (language plain) (language adding) t s
-units_sum s t d g h = units_pass plain adding IsSame (λ us layout. layout) (λ setting ts ss. SameWord) (λ setting ts ss. EqualWords) (λ setting ts ss. EqualWords) (λ setting ts ss n h k u v. Unit {0}) (λ setting ts ss. match_at SumsAt) (λ f g m. refl) sums_laid_out sums_pass t s d g h
+pub units_sum : (s t : UnitOf Relaying) → t.decls ≡ s.decls → t.globals ≡ s.globals → AreDefined (language adding) s.decls s.funs → AllMade IsSame t.funs s.funs → UnitRefines (language plain) (language adding) t s
+units_sum s t d g defined h = units_pass plain adding IsSame (λ us layout. layout) (λ setting ts ss. SameWord) (λ setting ts ss. EqualWords) (λ setting ts ss. EqualWords) (λ setting ts ss n h k u v. Unit {0}) (λ setting ts ss. match_at SumsAt) (λ f g m. refl) sums_laid_out (λ setting ts ss decls m e known l. sums_pass setting ts ss m e l) t s d g defined h

@@ -3,7 +3,7 @@ use Rattle.std.proofs.Common.{◌≡◌, ℕ, List, [], ◌∷◌, ◌⊎◌, So
 use Rattle.cas_runs.specs.Naming.{Value, Layout}
 use Rattle.cas_runs.specs.Machine.{Open, Block}
 use Rattle.cas_runs.specs.Access.{Holding}
-use Rattle.cas_runs.specs.Unit.{Setting, IsEdge, IsLayout, UnitRefines}
+use Rattle.cas_runs.specs.Unit.{Setting, IsEdge, IsLayout, AreDefined, UnitRefines}
 use Rattle.cas_runs.specs.Calls.{Past, with_own, one_begun, nothing_touched, language}
 use Rattle.cas_runs.specs.Passing.{Relation, AllSame, t_step, matched, ReadyIf, returns_first, passing, meets, FailsSoon, Does, FineAt, Passes, IsPass, AllMade, MadeAmong, relation, Keeps}
 use Rattle.cas_runs.specs.Unmoved.{Equal}
@@ -77,5 +77,5 @@ pub result_pass : (setting : Setting) (ts : List Relayed) (ss : List Relaying) �
 result_pass = tails_pass (λ values. values) all_first
 
 -- units whose functions return nothing
-pub units_drop : (s : UnitOf Relaying) (t : UnitOf Relayed) → t.decls ≡ s.decls → t.globals ≡ s.globals → AllMade IsTailing t.funs s.funs → UnitRefines (language tailing) (language dropping) t s
-units_drop s t d g h = units_pass tailing dropping IsTailing (λ us layout. layout) (λ setting ts ss v w. v ≡ w) (λ setting ts ss. Equal) (λ setting ts ss. Equal) (λ setting ts ss n h k u v. Unit {0}) (λ setting ts ss f g. AtCall) (λ f g m. refl) (tails_laid_out (λ values. []) none_first) (tails_pass (λ values. []) none_first) t s d g h
+pub units_drop : (s : UnitOf Relaying) (t : UnitOf Relayed) → t.decls ≡ s.decls → t.globals ≡ s.globals → AreDefined (language dropping) s.decls s.funs → AllMade IsTailing t.funs s.funs → UnitRefines (language tailing) (language dropping) t s
+units_drop s t d g defined h = units_pass tailing dropping IsTailing (λ us layout. layout) (λ setting ts ss v w. v ≡ w) (λ setting ts ss. Equal) (λ setting ts ss. Equal) (λ setting ts ss n h k u v. Unit {0}) (λ setting ts ss f g. AtCall) (λ f g m. refl) (tails_laid_out (λ values. []) none_first) (λ setting ts ss decls m e known l. tails_pass (λ values. []) none_first setting ts ss m e l) t s d g defined h

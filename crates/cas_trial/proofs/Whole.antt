@@ -1,6 +1,6 @@
 -- The whole program fits an edge, and its thread goes on after the call.
 use Rattle.std.specs.Prelude.{slice_get}
-use Rattle.std.proofs.Common.{◌≡◌, ℕ, zero, suc, ◌+◌, ◌<◌, Some, None, ap, subst, sym, ◌∙◌, ⊎_elim, inl, inr, List, [], ◌∷◌, Bool, true, false, ◌&&◌, if◌then◌else◌, refl, arith}
+use Rattle.std.proofs.Common.{◌≡◌, ℕ, zero, suc, ◌+◌, ◌<◌, Some, None, ap, subst, sym, ◌∙◌, ⊎_elim, inr, List, [], ◌∷◌, Bool, true, false, ◌&&◌, if◌then◌else◌, refl, arith}
 use Rattle.cas_base.specs.declared.decl.Decl.{Decl}
 use Rattle.cas_base.specs.declared.kind.Kind.TheVariants.{U32}
 use Rattle.cas_base.specs.declared.kind.Ty.TheVariants.{Int}
@@ -11,6 +11,7 @@ use Rattle.cas_runs.specs.Machine.{Quiet, Machine, Leads, begun, onward, starts,
 use Rattle.cas_runs.specs.Refines.{HasRun}
 use Rattle.cas_runs.specs.Unit.{laid_out, IsCode, all_functions, IsStack, IsLayout, AreApart, first_value, IsTableCell, FitsProgram, ThreadRefines}
 use Rattle.cas_runs.specs.Calls.{Thread, language}
+use Rattle.cas_runs.proofs.Entered.{dropped, taken}
 use Rattle.cas_runs.proofs.Sanity.{comes_first, comes_on, has_of, not_bad, no_label, bad_first}
 use Rattle.cas_trial.specs.Stages.{main_name, global_name}
 use Rattle.cas_trial.specs.Whole.{Routine, Point, routines, helper_name, helper_decl, main_decl, table_decl, program, edge, words, setting, labels}
@@ -23,14 +24,12 @@ at_table : (k : ℕ) → k < 1 → (c : Cell) × (slice_get edge.cells (0 + k) �
 at_table zero less = (TableWord 1, refl, (1, refl, refl))
 at_table (suc k) less = absurd (omega (arith, less))
 
-one_of_both : (s t : Bool) → (if s then true else if t then true else false) ≡ true → (if s && true then true else if t && true then true else false) ≡ true
-one_of_both true t e = refl
-one_of_both false true e = refl
-one_of_both false false e = absurd (cc e)
-
-not_table : (t x : Bool) → x ≡ true → (if t && false then true else x) ≡ true
-not_table true x e = e
-not_table false x e = e
+-- the functions are the second and the third that are declared
+these_two : (table helper main : Bool) → (if helper then true else if main then true else false) ≡ (if table && false then true else if helper && true then true else if main && true then true else false)
+these_two table helper main =
+    taken helper (if main then true else false)
+    ∙ ap (λ (x : Bool). if helper && true then true else x) (taken main false)
+    ∙ sym (dropped table (if helper && true then true else if main && true then true else false))
 
 pub routines_fit : FitsProgram (language (routines 0)) edge words program main_name
 routines_fit = record {
@@ -38,7 +37,7 @@ routines_fit = record {
   declared = ((record { first = 0; size = 1 }, refl, refl, λ k less. at_table k less), ((_, refl, refl, refl, (tt, tt)), ((_, refl, refl, refl, (tt, tt)), tt)));
   data_there = ((record { first = 0; size = 1 }, refl, ((TableWord 1, refl, refl), tt)), tt);
   apart = ((no_words table_decl helper_decl refl, (no_words table_decl main_decl refl, tt)), ((no_words helper_decl main_decl refl, tt), (tt, tt)));
-  defined = λ name e. not_table (same_name global_name name) _ (one_of_both (same_name helper_name name) (same_name main_name name) e);
+  defined = λ name. these_two (same_name global_name name) (same_name helper_name name) (same_name main_name name);
   there = refl;
   entry_is = record { signature = _; known = refl; ret = refl; params = refl; holds = refl };
 }

@@ -1,4 +1,4 @@
-ghost use Rattle.std.specs.Prelude.{IfOk, List, ℕ, ◌≡◌, ◌≤◌};
+ghost use Rattle.std.specs.Prelude.{IfOk, List, ℕ, true, ◌≡◌, ◌≤◌};
 ghost use Rattle.cas_base.specs.declared.decl.Decl.{Decl};
 ghost use Rattle.cas_base.specs.declared.kind.Kind.TheVariants.{U32};
 ghost use Rattle.cas_base.specs.declared.decl.Unit.{Unit as UnitOf};
@@ -10,7 +10,7 @@ ghost use Rattle.cas_runs.specs.Label.{NameBytes};
 ghost use Rattle.cas_runs.specs.Passing.{AllMade};
 ghost use Rattle.cas_runs.specs.Placing.{AlikeMoved, KeepsUnplaced, SameMoved};
 ghost use Rattle.cas_runs.specs.Stepwise.{match_at};
-ghost use Rattle.cas_runs.specs.Unit.{FitsProgram, FunctionRefines, ThreadRefines, UnitRefines, all_decls, all_functions, all_globals};
+ghost use Rattle.cas_runs.specs.Unit.{AreDefined, FitsProgram, FunctionRefines, ThreadRefines, UnitRefines, all_decls, all_functions, all_globals, defines};
 ghost use Rattle.cas_trial.specs.Places.{IsJoined, SameStage, joins, one_word, places};
 ghost use Rattle.cas_trial.specs.Stages.{Stage, apart, joined, main_name};
 
@@ -83,7 +83,7 @@ impl FunctionPass for Joining {
 /// Errors: none but want of memory.
 pub fn join(alloc: Global, program: &Apart) -> Result<Joined, NoMemory>
     ensures values { IfOk result (λ made. IsJoined made program.now) }
-    ensures refines { IfOk result (λ made. (decl : Decl) → decl.name ≡ main_name → FunctionRefines (language joined) (language apart) decl made program.now) }
+    ensures refines { IfOk result (λ made. (decls : List Decl) → defines decls main_name ≡ true → FunctionRefines (language joined) (language apart) decls main_name made program.now) }
 {
     functions_refine::<Joining>();
     Joining.translate(alloc, program)
@@ -91,7 +91,7 @@ pub fn join(alloc: Global, program: &Apart) -> Result<Joined, NoMemory>
 
 /// Units of such programs refine, where their declarations and data are equal.
 pub fn units_join()
-    ensures { (s : UnitOf Apart) (t : UnitOf Joined) → t.decls ≡ s.decls → t.globals ≡ s.globals → AllMade IsJoined t.funs s.funs → UnitRefines (language joined) (language apart) t s }
+    ensures { (s : UnitOf Apart) (t : UnitOf Joined) → t.decls ≡ s.decls → t.globals ≡ s.globals → AreDefined (language apart) s.decls s.funs → AllMade IsJoined t.funs s.funs → UnitRefines (language joined) (language apart) t s }
 {
     units_refine::<Joining>();
 }

@@ -4,7 +4,7 @@ ghost use Rattle.cas_runs.specs.Calls.{language};
 ghost use Rattle.cas_runs.specs.Passing.{AllMade};
 ghost use Rattle.cas_runs.specs.Refines.{HasRun};
 ghost use Rattle.cas_runs.specs.Rules.{KeepsRules};
-ghost use Rattle.cas_runs.specs.Unit.{FitsUnit, IsLayout, Setting, UnitRefines};
+ghost use Rattle.cas_runs.specs.Unit.{AreDefined, FitsUnit, IsLayout, Setting, UnitRefines};
 ghost use Rattle.cas_trial.specs.Fitting.{decls, edge, globals, labels, program, setting, words};
 ghost use Rattle.cas_trial.specs.Paces.{IsSame, fast, slow};
 ghost use Rattle.cas_trial.specs.Stages.{apart};
@@ -12,11 +12,12 @@ ghost use Rattle.cas_trial.specs.Sums.{adding, plain};
 ghost use Rattle.cas_trial.specs.declared.joining.Apart.{Apart as Program};
 ghost use Rattle.cas_trial.specs.declared.tailing.Relaying.{Relaying};
 
-/// A unit with a lock, a shared word and a function of another unit fits an edge, and its variables are laid
-/// out as objects.
-#[tactic(auto, using(crate::proofs::Fits::unit_fits, crate::proofs::Fits::unit_laid_out))]
+/// A unit with a lock, a shared word and a function of another unit fits an edge, its function is the one that it
+/// declares as defined, and its variables are laid out as objects.
+#[tactic(auto, using(crate::proofs::Fits::unit_fits, crate::proofs::Fits::unit_defined, crate::proofs::Fits::unit_laid_out))]
 pub fn a_unit_fits()
     ensures fits { FitsUnit edge words setting.stack setting.code decls globals }
+    ensures defined { AreDefined (language apart) decls (program ∷ []) }
     ensures objects { IsLayout (language apart) (program ∷ []) setting.layout }
 {}
 
@@ -36,12 +37,12 @@ pub fn apart_keeps_rules()
 /// stands for.
 #[tactic(auto, using(crate::proofs::Slowing::units_slow))]
 pub fn units_slow()
-    ensures { (s : UnitOf Relaying) (t : UnitOf Relaying) → t.decls ≡ s.decls → t.globals ≡ s.globals → AllMade IsSame t.funs s.funs → UnitRefines (language slow) (language fast) t s }
+    ensures { (s : UnitOf Relaying) (t : UnitOf Relaying) → t.decls ≡ s.decls → t.globals ≡ s.globals → AreDefined (language fast) s.decls s.funs → AllMade IsSame t.funs s.funs → UnitRefines (language slow) (language fast) t s }
 {}
 
 /// A unit whose functions put out a word refines one whose functions add 0 to it first: what they read is known
 /// to be a word.
 #[tactic(auto, using(crate::proofs::Sums::units_sum))]
 pub fn units_sum()
-    ensures { (s : UnitOf Relaying) (t : UnitOf Relaying) → t.decls ≡ s.decls → t.globals ≡ s.globals → AllMade IsSame t.funs s.funs → UnitRefines (language plain) (language adding) t s }
+    ensures { (s : UnitOf Relaying) (t : UnitOf Relaying) → t.decls ≡ s.decls → t.globals ≡ s.globals → AreDefined (language adding) s.decls s.funs → AllMade IsSame t.funs s.funs → UnitRefines (language plain) (language adding) t s }
 {}

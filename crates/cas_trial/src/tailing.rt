@@ -1,9 +1,9 @@
-ghost use Rattle.std.specs.Prelude.{IfOk, List, ◌≡◌};
+ghost use Rattle.std.specs.Prelude.{IfOk, List, true, ◌≡◌};
 ghost use Rattle.cas_base.specs.declared.decl.Decl.{Decl};
 ghost use Rattle.cas_base.specs.declared.decl.Unit.{Unit as UnitOf};
 ghost use Rattle.cas_runs.specs.Calls.{language};
 ghost use Rattle.cas_runs.specs.Passing.{AllMade};
-ghost use Rattle.cas_runs.specs.Unit.{FunctionRefines, UnitRefines};
+ghost use Rattle.cas_runs.specs.Unit.{AreDefined, FunctionRefines, UnitRefines, defines};
 ghost use Rattle.cas_runs.specs.Unmoved.{Equal};
 ghost use Rattle.cas_trial.specs.Relays.{AtCall, IsTailing, Relay, calling, dropping, tailing};
 ghost use Rattle.cas_trial.specs.Stages.{main_name};
@@ -63,7 +63,6 @@ impl FunctionPass for TailCalls {
 
     fn laid_out_too() {}
 
-    #[tactic(auto, using(crate::proofs::Tailcalls::result_pass))]
     fn passes() {}
 }
 
@@ -73,7 +72,7 @@ impl FunctionPass for TailCalls {
 /// Errors: none but want of memory.
 pub fn relay(alloc: Global, program: &Relaying) -> Result<Relayed, NoMemory>
     ensures word { IfOk result (λ made. IsTailing made program.now) }
-    ensures refines { IfOk result (λ made. (decl : Decl) → decl.name ≡ main_name → FunctionRefines (language tailing) (language calling) decl made program.now) }
+    ensures refines { IfOk result (λ made. (decls : List Decl) → defines decls main_name ≡ true → FunctionRefines (language tailing) (language calling) decls main_name made program.now) }
 {
     functions_refine::<TailCalls>();
     TailCalls.translate(alloc, program)
@@ -81,7 +80,7 @@ pub fn relay(alloc: Global, program: &Relaying) -> Result<Relayed, NoMemory>
 
 /// Units of such programs refine, where their declarations and data are equal.
 pub fn units_relay()
-    ensures { (s : UnitOf Relaying) (t : UnitOf Relayed) → t.decls ≡ s.decls → t.globals ≡ s.globals → AllMade IsTailing t.funs s.funs → UnitRefines (language tailing) (language calling) t s }
+    ensures { (s : UnitOf Relaying) (t : UnitOf Relayed) → t.decls ≡ s.decls → t.globals ≡ s.globals → AreDefined (language calling) s.decls s.funs → AllMade IsTailing t.funs s.funs → UnitRefines (language tailing) (language calling) t s }
 {
     units_refine::<TailCalls>();
 }
@@ -89,5 +88,5 @@ pub fn units_relay()
 /// So do units of programs that return nothing of the result: who called them takes none.
 #[tactic(auto, using(crate::proofs::Tailcalls::units_drop))]
 pub fn units_drop()
-    ensures { (s : UnitOf Relaying) (t : UnitOf Relayed) → t.decls ≡ s.decls → t.globals ≡ s.globals → AllMade IsTailing t.funs s.funs → UnitRefines (language tailing) (language dropping) t s }
+    ensures { (s : UnitOf Relaying) (t : UnitOf Relayed) → t.decls ≡ s.decls → t.globals ≡ s.globals → AreDefined (language dropping) s.decls s.funs → AllMade IsTailing t.funs s.funs → UnitRefines (language tailing) (language dropping) t s }
 {}
