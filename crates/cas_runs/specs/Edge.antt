@@ -80,11 +80,19 @@ abbrev pub IsShare : Edge → Share → Type 0
 IsShare edge [] = Unit {0}
 IsShare edge (h ∷ hs) = AreGuarded edge h.lock h.words × AreAbove h.lock hs × IsShare edge hs
 
--- a place that a pointer to cells of this kind can have: up to the object's end
+abbrev pub HasContents : Option (List (Option ℕ)) → Type 0
+HasContents None = ⊥
+HasContents (Some contents) = Unit {0}
+
+-- the object is live
+abbrev pub IsLive : Object → Type 0
+IsLive o = HasContents o.contents
+
+-- a place that a pointer to cells of this kind can have: up to the object's end. Of a dead object the kind isn't known
 pub record IsPlace (objects : List Object) (kind : Kind) (object place : ℕ) : Type 0 where
   pub it : Object
   pub there : slice_get objects object ≡ Some it
-  pub same_kind : it.kind ≡ kind
+  pub same_kind : IsLive it → it.kind ≡ kind
   pub in_reach : place ≤ it.size
 
 -- the value is of the type, where these objects have crossed

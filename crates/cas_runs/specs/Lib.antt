@@ -5,6 +5,7 @@ pub mod Determined
 pub mod Edge
 pub mod Forms
 pub mod Forward
+pub mod Hearing
 pub mod Label
 pub mod Legal
 pub mod Machine

@@ -11,9 +11,9 @@ mod refused;
 mod rules;
 
 pub use compose::{
-    functions_compose, functions_refine_themselves, refinements_compose, refines_itself, runs_kept,
-    threads_compose, threads_kept, threads_refine_themselves, units_compose,
-    units_refine_themselves,
+    functions_compose, functions_refine_themselves, quiet_steps_paid, refinements_compose,
+    refines_itself, runs_determined, runs_kept, threads_compose, threads_kept,
+    threads_refine_themselves, units_compose, units_refine_themselves,
 };
 pub use layer::{FunctionPass, functions_refine, threads_refine, units_refine};
 pub use pass::{Pass, run_pass, steps_refine};
@@ -22,6 +22,7 @@ pub use refused::{
     wrong_place_refused,
 };
 pub use rules::{
-    functions_keep_rules, programs_know_results, sections_keep_kinds, sections_keep_locks,
-    sections_keep_rules, threads_keep_rules, threads_never_cross, units_call_out, units_keep_rules,
+    crossings_are_heard, functions_keep_rules, programs_know_results, sections_keep_kinds,
+    sections_keep_locks, sections_keep_rules, threads_keep_rules, threads_never_cross,
+    units_call_out, units_keep_rules,
 };

@@ -8,6 +8,7 @@ ghost use Rattle.cas_runs.specs.Calls.{Activations, Thread, language};
 ghost use Rattle.cas_runs.specs.Edge.{Edge, results_of};
 ghost use Rattle.cas_runs.specs.Label.{ArePlain, NameBytes, RunLabel};
 ghost use Rattle.cas_runs.specs.Machine.{Block, Run};
+ghost use Rattle.cas_runs.specs.Hearing.{CallsAreHeard, ReturnsAreHeard};
 ghost use Rattle.cas_runs.specs.Rules.{CallsOut, KeepsKinds, KeepsLocks, KeepsRules};
 ghost use Rattle.cas_runs.specs.Sections.{Instruction, StoresWords, one_lock, sections};
 ghost use Rattle.cas_runs.specs.Unit.{FitsProgram, FitsUnit, IsLayout, Language, Setting, all_functions, has_function};
@@ -61,4 +62,12 @@ pub fn units_call_out<F, A>()
 /// return to a function of the program is no step without a meaning for want of that.
 pub fn programs_know_results<F, S>()
     ensures { (l : Language F S) (edge : Edge) (words : Words) (units : List (UnitOf F)) (entry : NameBytes) → FitsProgram l edge words units entry → (name : NameBytes) → has_function l (all_functions units) name ≡ true → (n : ℕ) × (results_of edge name ≡ Some n) }
+{}
+
+/// What a unit says another may hear: where it keeps the rules, says what is in kind, and has the locks that are due, its
+/// Call is an Enter of the unit that has the function, and its Leave a Back of the one that called, by the numbers that
+/// the objects have there and with room for them.
+pub fn crossings_are_heard()
+    ensures calls { CallsAreHeard }
+    ensures returns { ReturnsAreHeard }
 {}

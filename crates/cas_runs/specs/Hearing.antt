@@ -1,0 +1,83 @@
+-- What a unit says with a Call or a Leave, as another unit hears it: the same values, share and objects under the numbers that they have there.
+use Rattle.std.specs.Prelude.{◌≡◌, ◌⊎◌, ℕ, ◌≤◌, true, List, [], ◌∷◌, length, Option, Some, None, slice_get}
+use Rattle.cas_runs.specs.Label.{NameBytes, Shown, Word, Place, Outside, Object, Crossing, RunLabel, Enter, Back, Call, Leave}
+use Rattle.cas_runs.specs.Edge.{Signature, Edge, signature_of, most_live}
+use Rattle.cas_runs.specs.Outside.{Pending, Called, Entered, pending, crossed, Changes, numbered, live_cells, Holds, MayBring}
+use Rattle.cas_runs.specs.Rules.{MayCross, SaysInKind, SaysLocks}
+
+-- the value with the number of its object there, if it has one
+abbrev pub at_number : Option ℕ → (place : ℕ) → Option Shown
+at_number None place = None
+at_number (Some n) place = Some (Place n place)
+
+abbrev pub renumbered : (number : ℕ → Option ℕ) → Shown → Option Shown
+renumbered number (Word w) = Some (Word w)
+renumbered number (Place object place) = at_number (number object) place
+
+abbrev pub AreRenumbered : (number : ℕ → Option ℕ) → List Shown → List Shown → Type 0
+AreRenumbered number [] [] = Unit {0}
+AreRenumbered number (v ∷ vs) (w ∷ ws) = (renumbered number v ≡ Some w) × AreRenumbered number vs ws
+AreRenumbered number _ _ = ⊥
+
+-- one object, whoever it belongs to
+pub record IsSame (o p : Object) : Type 0 where
+  pub kind : p.kind ≡ o.kind
+  pub size : p.size ≡ o.size
+  pub contents : p.contents ≡ o.contents
+
+-- an object that was seen with these contents has those now: none of the hearing unit's own has died since, and no dead one lives
+abbrev pub Lasts : Object → Option (List (Option ℕ)) → Option (List (Option ℕ)) → Type 0
+Lasts o (Some old) None = o.owner ≡ Outside
+Lasts o None (Some new) = ⊥
+Lasts o _ _ = Unit {0}
+
+-- an object that was seen before is seen again
+pub record IsAgain (old new : Object) : Type 0 where
+  pub owner : new.owner ≡ old.owner
+  pub kind : new.kind ≡ old.kind
+  pub size : new.size ≡ old.size
+  pub lasts : Lasts old old.contents new.contents
+
+-- the object with this number there is this one of those that are said
+pub record IsSaid (said : Crossing) (number : ℕ → Option ℕ) (there : ℕ) (new : Object) : Type 0 where
+  pub here : ℕ
+  pub object : Object
+  pub shown : slice_get said.objects here ≡ Some object
+  pub numbers : number here ≡ Some there
+  pub same : IsSame object new
+
+-- what is said is heard so by a unit that has seen these objects: with the same share, and with values and objects by its own numbers, of which new objects take the
+-- next ones. Objects that it has seen before are still there; those that the saying unit doesn't know, others have left as they may
+pub record IsHeardAs (said heard : Crossing) (seen : List Object) : Type 0 where
+  pub number : ℕ → Option ℕ
+  pub share : heard.share ≡ said.share
+  pub values : AreRenumbered number said.values heard.values
+  pub there : (i j : ℕ) (o : Object) → slice_get said.objects i ≡ Some o → number i ≡ Some j → (new : Object) × (slice_get heard.objects j ≡ Some new) × IsSame o new
+  pub stays : (j : ℕ) (old new : Object) → slice_get seen j ≡ Some old → slice_get heard.objects j ≡ Some new → Changes old new ⊎ (IsAgain old new × IsSaid said number j new)
+  pub comes : (j : ℕ) (new : Object) → length seen ≤ j → slice_get heard.objects j ≡ Some new → (new.owner ≡ Outside) × IsSaid said number j new
+  pub numbers : numbered (length seen) heard.values ≡ Some (length heard.objects)
+
+-- the function is known at both edges, over the same words: with the same types, and holding there no more than here
+pub record IsKnownAtBoth (edge other : Edge) (function : NameBytes) : Type 0 where
+  pub cells : edge.cells ≡ other.cells
+  pub here : Signature
+  pub there : Signature
+  pub known_here : signature_of edge.functions function ≡ Some here
+  pub known_there : signature_of other.functions function ≡ Some there
+  pub params : there.params ≡ here.params
+  pub ret : there.ret ≡ here.ret
+  pub holds : Holds here.holds there.holds
+
+-- Where a unit keeps the rules and says what is in kind, with the locks that are due, another unit that has the called function may hear its Call as an Enter, with room for
+-- the objects.
+abbrev pub CallsAreHeard : Type 0
+CallsAreHeard = (edge other : Edge) (before earlier : List RunLabel) (function : NameBytes) (said heard : Crossing) (known : IsKnownAtBoth edge other function) → known.there.inside ≡ true →
+    MayCross edge before (Call function said) → SaysInKind edge before (Call function said) → SaysLocks edge before (Call function said) →
+    IsHeardAs said heard (crossed earlier) → live_cells heard.objects ≤ most_live → MayBring other earlier (Enter function heard)
+
+-- And the unit that called may hear its Leave as a Back, where what it entered with was what the caller called with.
+abbrev pub ReturnsAreHeard : Type 0
+ReturnsAreHeard = (edge other : Edge) (before earlier : List RunLabel) (function : NameBytes) (locks : List ℕ) (older callers : List Pending) (said heard : Crossing) → IsKnownAtBoth edge other function →
+    pending before ≡ Entered function locks ∷ older → pending earlier ≡ Called function locks ∷ callers →
+    MayCross edge before (Leave said) → SaysInKind edge before (Leave said) → SaysLocks edge before (Leave said) →
+    IsHeardAs said heard (crossed earlier) → live_cells heard.objects ≤ most_live → MayBring other earlier (Back heard)
