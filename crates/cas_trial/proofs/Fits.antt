@@ -116,7 +116,7 @@ came = by_label (front 3 labels) (Back (record { values = Place 0 0 ∷ []; shar
     newest = refl;
     signature = _;
     known = refl;
-    values = (record { it = first_object 9; there = refl; same_kind = refl; in_reach = omega arith }, tt);
+    values = (record { it = first_object 9; there = refl; same_kind = λ live. refl; in_reach = omega arith }, tt);
     same_locks = refl;
     brings = record { share = tt; objects = (record { owner = refl; kind = refl; size = refl; contents = record { size = refl; kinds = (refl, tt) } }, tt); room = omega arith; numbers = refl };
   },

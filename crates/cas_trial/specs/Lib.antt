@@ -1,4 +1,5 @@
 pub mod Fitting
+pub mod Hearing
 pub mod Paces
 pub mod Places
 pub mod Relays

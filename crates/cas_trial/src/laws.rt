@@ -1,13 +1,17 @@
 ghost use Rattle.std.specs.Prelude.{List, [], ◌∷◌, ◌≡◌};
 ghost use Rattle.cas_base.specs.declared.decl.Unit.{Unit as UnitOf};
 ghost use Rattle.cas_runs.specs.Calls.{language};
+ghost use Rattle.cas_runs.specs.Hearing.{IsHeardAs};
+ghost use Rattle.cas_runs.specs.Label.{Call, Enter};
+ghost use Rattle.cas_runs.specs.Outside.{MayBring};
 ghost use Rattle.cas_runs.specs.Passing.{AllMade};
 ghost use Rattle.cas_runs.specs.Refines.{HasRun};
-ghost use Rattle.cas_runs.specs.Rules.{KeepsRules};
+ghost use Rattle.cas_runs.specs.Rules.{KeepsRules, MayCross, SaysInKind, SaysLocks};
 ghost use Rattle.cas_runs.specs.Unit.{AreDefined, FitsUnit, IsLayout, Setting, UnitRefines};
 ghost use Rattle.cas_trial.specs.Fitting.{decls, edge, globals, labels, program, setting, words};
+ghost use Rattle.cas_trial.specs.Hearing.{before, heard, other, said};
 ghost use Rattle.cas_trial.specs.Paces.{IsSame, fast, slow};
-ghost use Rattle.cas_trial.specs.Stages.{apart};
+ghost use Rattle.cas_trial.specs.Stages.{apart, show_name};
 ghost use Rattle.cas_trial.specs.Sums.{adding, plain};
 ghost use Rattle.cas_trial.specs.declared.joining.Apart.{Apart as Program};
 ghost use Rattle.cas_trial.specs.declared.tailing.Relaying.{Relaying};
@@ -26,6 +30,16 @@ pub fn a_unit_fits()
 #[tactic(auto, using(crate::proofs::Fits::comes_back))]
 pub fn pointer_comes_back()
     ensures { HasRun edge ((language apart).unit setting (program ∷ [])) labels }
+{}
+
+/// Its call keeps what a source's does, and the unit that has the function may hear it.
+#[tactic(auto, using(crate::proofs::Heard::call_crosses, crate::proofs::Heard::call_in_kind, crate::proofs::Heard::call_holds, crate::proofs::Heard::call_heard, crate::proofs::Heard::call_enters))]
+pub fn a_call_is_heard()
+    ensures crosses { MayCross edge before (Call show_name said) }
+    ensures in_kind { SaysInKind edge before (Call show_name said) }
+    ensures holds { SaysLocks edge before (Call show_name said) }
+    ensures heard { IsHeardAs said heard [] }
+    ensures enters { MayBring other [] (Enter show_name heard) }
 {}
 
 /// The machine keeps the rules, those of crossings among them.

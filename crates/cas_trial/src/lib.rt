@@ -10,6 +10,8 @@ mod tests;
 mod threads;
 
 pub use joining::{Apart, Joined, Joining, join, joined_weighs_less, threads_join, units_join};
-pub use laws::{a_unit_fits, apart_keeps_rules, pointer_comes_back, units_slow, units_sum};
+pub use laws::{
+    a_call_is_heard, a_unit_fits, apart_keeps_rules, pointer_comes_back, units_slow, units_sum,
+};
 pub use tailing::{Relayed, Relaying, TailCalls, relay, units_drop, units_relay};
 pub use threads::{a_thread_fits, a_thread_goes_on, another_word_refused};
