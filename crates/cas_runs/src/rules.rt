@@ -1,4 +1,5 @@
 ghost use Rattle.std.specs.Prelude.{◌≡◌, ℕ, ◌≤◌, List, [], ◌∷◌, Some, true};
+ghost use Rattle.std.specs.List.{AllByRecursion};
 ghost use Rattle.cas_base.specs.declared.decl.Decl.{Decl};
 ghost use Rattle.cas_base.specs.declared.decl.Unit.{Unit as UnitOf};
 ghost use Rattle.cas_base.specs.Unit.{IsInOrder};
@@ -11,7 +12,7 @@ ghost use Rattle.cas_runs.specs.Machine.{Block, Run};
 ghost use Rattle.cas_runs.specs.Hearing.{CallsAreHeard, ReturnsAreHeard};
 ghost use Rattle.cas_runs.specs.Rules.{CallsOut, KeepsKinds, KeepsLocks, KeepsRules};
 ghost use Rattle.cas_runs.specs.Sections.{Instruction, StoresWords, one_lock, sections};
-ghost use Rattle.cas_runs.specs.Unit.{FitsProgram, FitsUnit, IsLayout, Language, Setting, all_functions, has_function};
+ghost use Rattle.cas_runs.specs.Unit.{AreDefined, FitsProgram, FitsUnit, IsLayout, Language, Setting, all_decls, all_functions, has_function};
 
 /// The rules can be kept: a small language of critical sections keeps them, whatever its program does.
 pub fn sections_keep_rules()
@@ -50,6 +51,13 @@ pub fn threads_keep_rules<F, A>()
 #[tactic(auto, using(crate::proofs::Closed::threads_plain))]
 pub fn threads_never_cross<F, A>()
     ensures { (l : Activations F A) (setting : Setting) (fs : List F) (entry : NameBytes) (thread : ℕ) (ls : List RunLabel) (bs : List Block) (b : Block) (x : Thread F A) → Run setting.edge ((language l).thread setting fs entry thread) ls bs b x → ArePlain ls }
+{}
+
+/// Where a unit's functions are its defined declarations in their order, they are those that it declares as defined. So
+/// it is in a program of such units.
+pub fn units_in_order_are_defined<F, S>()
+    ensures unit { (l : Language F S) (decl_of : F → Decl) (unit : UnitOf F) → ((f : F) → (decl_of f).name ≡ l.name f) → IsInOrder decl_of unit → AreDefined l unit.decls unit.funs }
+    ensures program { (l : Language F S) (decl_of : F → Decl) (units : List (UnitOf F)) → ((f : F) → (decl_of f).name ≡ l.name f) → AllByRecursion (IsInOrder decl_of) units → AreDefined l (all_decls units) (all_functions units) }
 {}
 
 /// The machine of a unit whose functions are its defined declarations calls over its edge no function that the
