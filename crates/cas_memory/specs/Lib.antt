@@ -1,0 +1,4 @@
+pub mod Blocks
+pub mod Entities
+pub mod Spans
+pub mod Values
