@@ -1,16 +1,17 @@
 -- How the work of a command ends, from how its parts ended.
-use Rattle.std.proofs.Common.{◌≡◌, ◌<◌, ◌⊎◌, ℕ, List, [], ◌∷◌, ◌++◌, Some, None, Result, Ok, Err, refl, ◌∙◌, inl, inr, subst, codes, arith}
+use Rattle.std.proofs.Common.{◌≡◌, ◌<◌, ◌⊎◌, ℕ, List, [], ◌∷◌, ◌++◌, map, Option, Some, None, Result, Ok, Err, refl, sym, ap, ◌∙◌, inl, inr, subst, codes, arith}
 use Rattle.std.specs.declared.vec.Vec.{Vec}
 use Rattle.std.specs.declared.alloc.Global.{Global}
+use Rattle.cas_command.specs.Words.{Run, Command, Wanted, run, check, source_text}
 use Rattle.cas_top.specs.declared.refusal.Refusal.{Refusal}
 use Rattle.cas_top.specs.declared.refusal.Refusal.TheVariants as refusal
+use Rattle.cas_top.specs.declared.source.Source.{Source}
 use Rattle.std.specs.List.{concat}
-use Rattle.cas_top.specs.Answer.{Told, Taken, IsRead, IsText, IsRefusal, IsCut, IsPartly, IsUntold, usage, cannot_read, too_long, refused}
-use Rattle.cas_top.specs.Plan.{PrintsLines, RefusesText}
-use Rattle.cas_top.specs.Printed.{line_of}
+use Rattle.cas_top.specs.Answer.{Told, Taken, IsRead, AreRead, GrowsBy, IsText, IsRefusal, IsCut, IsPartly, IsUntold, usage, cannot_read, too_long, refused}
+use Rattle.cas_top.specs.Plan.{PrintsLines, RefusesRun, AreChecked}
+use Rattle.cas_top.specs.Printed.{line_of, ok_line}
 use Rattle.cas_outside.specs.Sink.{TakesPrefix}
-use Rattle.cas_top.specs.View.{module_line, IsEnd, IsPutLines, IsTold, IsSaid, IsCause, IsShown, Counts}
-use Rattle.cas_top.specs.Words.{Run, Command, Wanted, run, source_text}
+use Rattle.cas_top.specs.View.{module_line, names_of, texts_of, IsEnd, IsPutLines, IsTold, IsSaid, IsCause, IsShown, AreSources, AreOkLines, Counts}
 
 -- the lines of a module that was read are the text of the command
 pub text_of_lines : (told : Told) (r : Run) (source lock : List ℕ) (lines : List (List ℕ)) →
@@ -23,24 +24,20 @@ text_of_lines told r source lock lines first second prints = record {
   whole = refl;
 }
 
--- putting those lines ends the work
-pub end_of_put : (told : Told) (r : Run) (source lock : List ℕ) (lines : List (List ℕ)) (before after : List (List ℕ)) (old new : Taken) (answer : Result (Unit {0}) Refusal) →
-    IsRead told (source_text r.source) source → IsRead told (source_text r.lock) lock → PrintsLines source r.thread lines →
-    IsPutLines old (concat lines) new answer → after ≡ before → IsEnd told (run r) before after old new answer
-end_of_put told r source lock lines before after old new (Ok done) first second prints put same =
-    ((concat lines, text_of_lines told r source lock lines first second prints, put), same)
-end_of_put told r source lock lines before after old new (Err refusal.Unwritten) first second prints put same =
-    ((0, concat lines, text_of_lines told r source lock lines first second prints, put), same)
-end_of_put told r source lock lines before after old new (Err refusal.Memory) first second prints put same =
-    (inr (0, concat lines, text_of_lines told r source lock lines first second prints, put), same)
-end_of_put told r source lock lines before after old new (Err refusal.Usage) first second prints put same = absurd put
-end_of_put told r source lock lines before after old new (Err (refusal.Unread n)) first second prints put same = absurd put
-end_of_put told r source lock lines before after old new (Err (refusal.TooLong n)) first second prints put same = absurd put
-end_of_put told r source lock lines before after old new (Err (refusal.Faulty n f)) first second prints put same = absurd put
+-- putting the text of a command ends its work
+pub end_of_put : (told : Told) (c : Command) (text : List ℕ) (before after : List (List ℕ)) (old new : Taken) (answer : Result (Unit {0}) Refusal) →
+    IsText told c 0 text → IsPutLines old text new answer → after ≡ before → IsEnd told c before after old new answer
+end_of_put told c text before after old new (Ok done) is_text put same = ((text, is_text, put), same)
+end_of_put told c text before after old new (Err refusal.Unwritten) is_text put same = ((0, text, is_text, put), same)
+end_of_put told c text before after old new (Err refusal.Memory) is_text put same = (inr (0, text, is_text, put), same)
+end_of_put told c text before after old new (Err refusal.Usage) is_text put same = absurd put
+end_of_put told c text before after old new (Err (refusal.Unread n)) is_text put same = absurd put
+end_of_put told c text before after old new (Err (refusal.TooLong n)) is_text put same = absurd put
+end_of_put told c text before after old new (Err (refusal.Faulty n f)) is_text put same = absurd put
 
 -- a module text that is refused
 pub refusal_of_text : (told : Told) (r : Run) (source lock line : List ℕ) →
-    IsRead told (source_text r.source) source → IsRead told (source_text r.lock) lock → RefusesText r source line → IsRefusal told (run r) 1 line
+    IsRead told (source_text r.source) source → IsRead told (source_text r.lock) lock → RefusesRun r source line → IsRefusal told (run r) 1 line
 refusal_of_text told r source lock line first second refuses = record {
   texts = source ∷ lock ∷ [];
   read = (first, (second, tt));
@@ -58,8 +55,8 @@ run_end told told' r w v source text lock lines shown before mid after old new a
     let L : Wanted → Type 0 = λ u. IsRead told u lock in
     let Q : List ℕ → Type 0 = λ t. PrintsLines t r.thread lines in
     let R : List (List ℕ) → Type 0 = λ l. IsPutLines old (concat l) new answer in
-    end_of_put told r source lock lines before after old new answer (subst S at_first first.0) (subst L at_second (subst P same second.0))
-    (subst Q texts prints) (subst R whole put) (second.1 ∙ first.1)
+    let is_text = text_of_lines told r source lock lines (subst S at_first first.0) (subst L at_second (subst P same second.0)) (subst Q texts prints) in
+    end_of_put told (run r) (concat lines) before after old new answer is_text (subst R whole put) (second.1 ∙ first.1)
 
 -- why a module text prints no lines ends the work
 cause_of_shown : (told : Told) (r : Run) (source lock : List ℕ) (before after : List (List ℕ)) (now : Taken) (why : Refusal) →
@@ -83,6 +80,60 @@ run_refused told told' r w v source text lock before mid after now why at_first 
     let L : Wanted → Type 0 = λ u. IsRead told u lock in
     let Q : List ℕ → Type 0 = λ t. IsShown r t (Err why) in
     cause_of_shown told r source lock before after now why (subst S at_first first.0) (subst L at_second (subst P same second.0)) (second.1 ∙ first.1) (subst Q texts shown)
+
+-- why the texts of modules weren't all read ends the work
+pub cause_of_sources : (told : Told) (names before after : List (List ℕ)) (now : Taken) (why : Refusal) →
+    AreSources told names before after (Err why) → IsCause told (check names) before after now now why
+cause_of_sources told names before after now (refusal.Unread n) h = (record { first = h.0; noted = h.1 }, refl)
+cause_of_sources told names before after now (refusal.TooLong n) h = (h.0, h.1, refl)
+cause_of_sources told names before after now refusal.Memory h = (inl refl, h)
+cause_of_sources told names before after now refusal.Usage h = absurd h
+cause_of_sources told names before after now (refusal.Faulty n f) h = absurd h
+cause_of_sources told names before after now refusal.Unwritten h = absurd h
+
+-- what is said of sources, of the same sources
+pub of_sources : (P : (names texts : List (List ℕ)) → Type 0) (names : List (List ℕ)) (sources slice : List Source) →
+    slice ≡ sources → names_of sources ≡ names → P (names_of slice) (texts_of slice) → P names (texts_of sources)
+of_sources P names sources slice same named h =
+    let Q : List Source → Type 0 = λ s. P (names_of s) (texts_of s) in
+    let R : List (List ℕ) → Type 0 = λ ns. P ns (texts_of sources) in
+    subst R named (subst Q same h)
+
+-- the texts of modules were read and all are checked, and the lines were put
+pub check_end : (told : Told) (names : List (List ℕ)) (sources slice : List Source) (lines shown before after : List (List ℕ)) (old new : Taken) (answer : Result (Unit {0}) Refusal) →
+    (names_of sources ≡ names) × AreRead told (map source_text names) (texts_of sources) × (after ≡ before) → slice ≡ sources →
+    AreChecked (texts_of slice) × (lines ≡ map ok_line (names_of slice)) → shown ≡ lines → IsPutLines old (concat shown) new answer →
+    IsEnd told (check names) before after old new answer
+check_end told names sources slice lines shown before after old new answer (named, read, kept) same checked whole put =
+    let P : List (List ℕ) → List (List ℕ) → Type 0 = λ ns ts. AreChecked ts × (lines ≡ map ok_line ns) in
+    let R : List (List ℕ) → Type 0 = λ l. IsPutLines old (concat l) new answer in
+    let good = of_sources P names sources slice same named checked in
+    let is_text : IsText told (check names) 0 (concat lines) = record { texts = texts_of sources; read = read; lines = lines; plan = (refl, good.0, good.1); whole = refl } in
+    end_of_put told (check names) (concat lines) before after old new answer is_text (subst R whole put) kept
+
+-- why the check of modules has no lines ends the work
+cause_of_checked : (told : Told) (names texts before after : List (List ℕ)) (now : Taken) (why : Refusal) →
+    AreRead told (map source_text names) texts → after ≡ before → AreOkLines names texts (Err why) → IsCause told (check names) before after now now why
+cause_of_checked told names texts before after now (refusal.Faulty n f) read same h =
+    (record { texts = texts; read = read; plan = (refl, h) }, same, refl)
+cause_of_checked told names texts before after now refusal.Memory read same h = (inl refl, same)
+cause_of_checked told names texts before after now refusal.Usage read same h = absurd h
+cause_of_checked told names texts before after now (refusal.Unread n) read same h = absurd h
+cause_of_checked told names texts before after now (refusal.TooLong n) read same h = absurd h
+cause_of_checked told names texts before after now refusal.Unwritten read same h = absurd h
+
+-- the texts of modules were read, and one of them is refused
+pub check_refused : (told : Told) (names : List (List ℕ)) (sources slice : List Source) (before after : List (List ℕ)) (now : Taken) (why : Refusal) →
+    (names_of sources ≡ names) × AreRead told (map source_text names) (texts_of sources) × (after ≡ before) → slice ≡ sources →
+    AreOkLines (names_of slice) (texts_of slice) (Err why) → IsCause told (check names) before after now now why
+check_refused told names sources slice before after now why (named, read, kept) same h =
+    let P : List (List ℕ) → List (List ℕ) → Type 0 = λ ns ts. AreOkLines ns ts (Err why) in
+    cause_of_checked told names (texts_of sources) before after now why read kept (of_sources P names sources slice same named h)
+
+-- no name was read
+pub grows_by_none : (told : Told) (c : Option Command) (failed : List (List ℕ)) (status : ℕ) → GrowsBy told c failed failed status
+grows_by_none told None failed status = refl
+grows_by_none told (Some c) failed status = inl refl
 
 pub other_status : (status answer : ℕ) → status < 4 ⊎ 9 < status → answer ≡ status → answer ≡ 4 → ⊥
 other_status status answer (inl h) e f = omega arith

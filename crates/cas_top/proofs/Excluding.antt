@@ -5,15 +5,16 @@ use Rattle.cas_top.specs.Answer.{IsRead, AreRead, IsFirstLong}
 use Rattle.cas_top.specs.Exclusion.{CausesExclude}
 use Rattle.cas_clight.specs.Tree.{ModuleTree}
 use Rattle.cas_parse.proofs.Texts.{one_module, no_module_and_fault}
+use Rattle.cas_command.specs.Words.{Command, Run, Wanted, run, check, world, wanted_texts}
+use Rattle.cas_own.specs.Checked.{OwnFaultTree, own_fault, IsChecked, HasOwnFault}
 use Rattle.cas_syntax.specs.Tree as syntax
-use Rattle.cas_top.specs.First_form.{first_form}
-use Rattle.cas_typed.proofs.Modules.{typed_without_fault}
+use Rattle.cas_top.specs.First_form.{first_form, IsFirstForm}
+use Rattle.cas_typed.proofs.Modules.{typed_in_one_way, typed_without_fault}
 use Rattle.cas_typed.specs.Faults.{Fault}
 use Rattle.cas_typed.specs.Modules.{IsTyped}
 use Rattle.cas_typed.specs.Resolved.{TypedModuleTree}
 use Rattle.cas_typed.specs.Walk.{HasTypeFault}
-use Rattle.cas_top.specs.Plan.{prints, refuses, Plans, PrintsLines, RefusesText, misread, untyped, formless}
-use Rattle.cas_top.specs.Words.{Command, Run, Wanted, run, wanted_texts}
+use Rattle.cas_top.specs.Plan.{prints, refuses, Plans, PrintsLines, IsCheckedText, AreChecked, RefusesText, RefusesFirst, misread, untyped, unowned, RefusesRun, faulty, formless}
 
 some_injective : (x y : List ℕ) → Some x ≡ Some y → x ≡ y
 some_injective x y h = cc
@@ -57,14 +58,51 @@ typed_and_faulty m n r f same typed fault =
     let P : syntax.ModuleTree → Type 0 = λ x. IsTyped x r in
     typed_without_fault n r f (subst P same typed) fault
 
+-- a module is resolved in one way
+one_resolved : (m n : syntax.ModuleTree) (r s : TypedModuleTree) → m ≡ n → IsTyped m r → IsTyped n s → r ≡ s
+one_resolved m n r s same h k =
+    let P : syntax.ModuleTree → Type 0 = λ x. IsTyped x r in
+    typed_in_one_way n r s (subst P same h) k
+
+-- a checked module has no fault of ownership
+checked_and_unowned : (r s : TypedModuleTree) (f : OwnFaultTree) → r ≡ s → IsChecked r → HasOwnFault s f → ⊥
+checked_and_unowned r s f same checked fault =
+    let P : TypedModuleTree → Type 0 = λ x. own_fault x ≡ None in
+    let none : own_fault s ≡ None = subst P same checked in
+    cc
+
+-- a text of a checked module isn't refused
+checked_and_refused : (name text line : List ℕ) → IsCheckedText text → RefusesText name text line → ⊥
+checked_and_refused name text line h (misread code p fault) = no_module_and_fault text h.read_module code p h.read fault
+checked_and_refused name text line h (untyped m f read fault) =
+    typed_and_faulty h.read_module m h.resolved f (one_module text h.read_module m h.read read) h.typed fault
+checked_and_refused name text line h (unowned m r f read typed fault) =
+    let same = one_module text h.read_module m h.read read in
+    checked_and_unowned h.resolved r f (one_resolved h.read_module m h.resolved r same h.typed typed) h.checked fault
+
+-- a text of the first form is of a checked module
+form_is_checked : (text name : List ℕ) (tree : ModuleTree) → IsFirstForm text name tree → IsCheckedText text
+form_is_checked text name tree form = record {
+  read_module = form.read_module;
+  read = form.read;
+  resolved = form.resolved;
+  typed = form.typed;
+  checked = form.checked;
+}
+
 -- a text that prints lines isn't refused
-shown_and_refused : (r : Run) (text : List ℕ) (lines : List (List ℕ)) (line : List ℕ) → PrintsLines text r.thread lines → RefusesText r text line → ⊥
-shown_and_refused r text lines line (tree, form, report, finished, whole) (misread code p fault) =
-    no_module_and_fault text form.read_module code p form.read fault
-shown_and_refused r text lines line (tree, form, report, finished, whole) (untyped m f read fault) =
-    typed_and_faulty form.read_module m form.resolved f (one_module text form.read_module m form.read read) form.typed fault
-shown_and_refused r text lines line (tree, form, report, finished, whole) (formless m resolved read typed none) =
+shown_and_refused : (r : Run) (text : List ℕ) (lines : List (List ℕ)) (line : List ℕ) → PrintsLines text r.thread lines → RefusesRun r text line → ⊥
+shown_and_refused r text lines line (tree, form, report, finished, whole) (faulty why refused) =
+    checked_and_refused r.source text why (form_is_checked text r.thread tree form) refused
+shown_and_refused r text lines line (tree, form, report, finished, whole) (formless m resolved read typed checked none) =
     one_form r.thread form.read_module m tree (one_module text form.read_module m form.read read) form.form none
+
+-- where all texts are of checked modules, none is refused
+checked_and_first : (names texts : List (List ℕ)) (line : List ℕ) → AreChecked texts → RefusesFirst names texts line → ⊥
+checked_and_first [] texts line h k = absurd k
+checked_and_first (n ∷ ns) [] line h k = absurd k
+checked_and_first (n ∷ ns) (t ∷ ts) line h (inl refused) = checked_and_refused n t line h.0 refused
+checked_and_first (n ∷ ns) (t ∷ ts) line h (inr later) = checked_and_first ns ts line h.1 later.1
 
 -- on the same texts a command doesn't come to both
 pub one_plan : (c : Command) (texts lines : List (List ℕ)) (s t : ℕ) (line : List ℕ) → Plans c texts (prints s lines) → Plans c texts (refuses t line) → ⊥
@@ -72,6 +110,8 @@ one_plan (run r) [] lines s t line h k = absurd h
 one_plan (run r) (a ∷ []) lines s t line h k = absurd h
 one_plan (run r) (a ∷ b ∷ []) lines s t line h k = shown_and_refused r a lines line h.1 k.1
 one_plan (run r) (a ∷ b ∷ d ∷ rest) lines s t line h k = absurd h
+one_plan (check names) texts lines s t line h k = checked_and_first names texts line h.1 k.1
+one_plan (world w) texts lines s t line h k = absurd h
 
 pub causes_exclude : CausesExclude
 causes_exclude held c = record {

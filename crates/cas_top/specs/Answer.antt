@@ -5,7 +5,7 @@ use Rattle.cas_outside.specs.Shelf.{Texts, Tells, TellsLonger}
 use Rattle.cas_outside.specs.Sink.{TakesAll, TakesPrefix}
 use Rattle.cas_top.specs.Plan.{prints, refuses, Plans}
 use Rattle.cas_top.specs.Printed.{line_of}
-use Rattle.cas_top.specs.Words.{Command, Wanted, wanted_texts}
+use Rattle.cas_command.specs.Words.{Command, Wanted, wanted_texts}
 
 -- the texts that a shelf has, where it tells them
 abbrev pub Told : Type 0

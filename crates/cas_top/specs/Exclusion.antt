@@ -2,7 +2,7 @@
 use Rattle.std.specs.Prelude.{ℕ, List, Some}
 use Rattle.cas_outside.specs.Shelf.{Texts}
 use Rattle.cas_top.specs.Answer.{IsText, IsRefusal, IsFirstLong}
-use Rattle.cas_top.specs.Words.{Command, wanted_texts}
+use Rattle.cas_command.specs.Words.{Command, wanted_texts}
 
 -- where a shelf tells its texts, no command comes both to printing and to a refusal, and where a text is too long
 -- it comes to neither

@@ -7,6 +7,7 @@ use Rattle.cas_base.specs.declared.place.Place.{Place}
 use Rattle.cas_clight.specs.Tree as clight
 use Rattle.cas_clight.specs.declared.tree.BinaryOperator.TheVariants as operator
 use Rattle.cas_clight.specs.declared.tree.Expr.{Expr}
+use Rattle.cas_own.specs.Checked.{IsChecked}
 use Rattle.cas_syntax.specs.Reading.{IsReadAs}
 use Rattle.cas_syntax.specs.Tree.{ExprTree, literal, binary, StmtList, no_more, one_more, print, FunTree, ItemTree, define, ModuleTree}
 use Rattle.cas_syntax.specs.declared.tree.BinaryOperator.TheVariants.{Add}
@@ -56,12 +57,13 @@ first_form_of name _ = None
 abbrev pub first_form : (name : List ℕ) → ModuleTree → Option clight.ModuleTree
 first_form name m = first_form_of name m.items
 
--- the text is read as a typed module of the first form, whose function has this name
+-- the text is read as a checked module of the first form, whose function has this name
 pub record IsFirstForm (text name : List ℕ) (tree : clight.ModuleTree) : Type 0 where
   pub read_module : ModuleTree
   pub read : IsReadAs text read_module
   pub resolved : TypedModuleTree
   pub typed : IsTyped read_module resolved
+  pub checked : IsChecked resolved
   pub form : first_form name read_module ≡ Some tree
 
 -- the tree of an expression, where there is one

@@ -1,11 +1,13 @@
 -- What a command comes to on the texts of its names: a refusal, or lines to print.
-use Rattle.std.specs.Prelude.{◌≡◌, ◌↔◌, ℕ, None, List, [], ◌∷◌, Some, slice_get}
+use Rattle.std.specs.Prelude.{◌≡◌, ◌⊎◌, ◌↔◌, ℕ, None, List, [], ◌∷◌, map, Some, slice_get}
 use Rattle.cas_clight.specs.Tree.{ModuleTree}
 use Rattle.cas_clight.specs.Program.{env_of}
 use Rattle.cas_clight.specs.Step.{FunctionAt}
 use Rattle.cas_clight.specs.World.{World, IsFirstWorld, Interleaves, HasEnded}
 use Rattle.cas_base.specs.declared.place.Place.{Place}
 use Rattle.cas_lex.specs.declared.code.ReadCode.{ReadCode}
+use Rattle.cas_command.specs.Words.{Command, Run, run, check}
+use Rattle.cas_own.specs.Checked.{OwnFaultTree, IsChecked, HasOwnFault}
 use Rattle.cas_syntax.specs.Reading.{IsReadAs, HasReadFault}
 use Rattle.cas_syntax.specs.Tree as syntax
 use Rattle.cas_typed.specs.Faults.{Fault}
@@ -14,8 +16,7 @@ use Rattle.cas_typed.specs.Resolved.{TypedModuleTree}
 use Rattle.cas_typed.specs.Walk.{HasTypeFault}
 use Rattle.cas_top.specs.First_form.{first_form, IsFirstForm}
 use Rattle.cas_top.specs.Machine.{Report, IsItemsCode, RunsTo}
-use Rattle.cas_top.specs.Printed.{report_lines, fault_line, type_fault_line, form_line}
-use Rattle.cas_top.specs.Words.{Command, Run, run}
+use Rattle.cas_top.specs.Printed.{report_lines, fault_line, type_fault_line, own_fault_line, form_line, ok_line}
 use Rattle.cas_top.specs.declared.machine.End.{End}
 use Rattle.cas_top.specs.declared.machine.End.TheVariants.{Done}
 use Rattle.cas_top.specs.declared.machine.Instr.{Instr}
@@ -60,16 +61,43 @@ PrintsLines text thread lines =
     (tree : ModuleTree) × IsFirstForm text thread tree
     × (report : Report) × IsFinished tree report × (lines ≡ report_lines report)
 
--- The line that refuses a module text: of its first fault; of the first fault of typing of the module that it is read as; or
--- `R0`, of a typed module that isn't of the first form.
-pub data RefusesText (r : Run) (text : List ℕ) : (line : List ℕ) → Type 0 where
-  misread : (code : ReadCode) (p : Place) → HasReadFault text code p → RefusesText r text (fault_line r.source code p)
-  untyped : (m : syntax.ModuleTree) (f : Fault) → IsReadAs text m → HasTypeFault m f → RefusesText r text (type_fault_line r.source f)
-  formless : (m : syntax.ModuleTree) (resolved : TypedModuleTree) → IsReadAs text m → IsTyped m resolved → first_form r.thread m ≡ None →
-      RefusesText r text (form_line r.source)
+-- the text is read as a typed module that is checked
+pub record IsCheckedText (text : List ℕ) : Type 0 where
+  pub read_module : syntax.ModuleTree
+  pub read : IsReadAs text read_module
+  pub resolved : TypedModuleTree
+  pub typed : IsTyped read_module resolved
+  pub checked : IsChecked resolved
+
+-- The line that refuses the module text of this name: of its first fault; of the first fault of typing of the module that it is
+-- read as; or of the first fault of ownership of that module, typed.
+pub data RefusesText (name text : List ℕ) : (line : List ℕ) → Type 0 where
+  misread : (code : ReadCode) (p : Place) → HasReadFault text code p → RefusesText name text (fault_line name code p)
+  untyped : (m : syntax.ModuleTree) (f : Fault) → IsReadAs text m → HasTypeFault m f → RefusesText name text (type_fault_line name f)
+  unowned : (m : syntax.ModuleTree) (resolved : TypedModuleTree) (f : OwnFaultTree) → IsReadAs text m → IsTyped m resolved → HasOwnFault resolved f →
+      RefusesText name text (own_fault_line name f)
+
+-- The line that refuses to run a module text: that of its first fault, or `R0` of a checked module that isn't of the first form.
+pub data RefusesRun (r : Run) (text : List ℕ) : (line : List ℕ) → Type 0 where
+  faulty : (line : List ℕ) → RefusesText r.source text line → RefusesRun r text line
+  formless : (m : syntax.ModuleTree) (resolved : TypedModuleTree) → IsReadAs text m → IsTyped m resolved → IsChecked resolved →
+      first_form r.thread m ≡ None → RefusesRun r text (form_line r.source)
+
+-- each of these texts is that of a checked module
+abbrev pub AreChecked : (texts : List (List ℕ)) → Type 0
+AreChecked [] = Unit {0}
+AreChecked (text ∷ texts) = IsCheckedText text × AreChecked texts
+
+-- the line that refuses the first of these texts, with their names, that isn't that of a checked module
+abbrev pub RefusesFirst : (names texts : List (List ℕ)) → (line : List ℕ) → Type 0
+RefusesFirst (name ∷ names) (text ∷ texts) line =
+    RefusesText name text line ⊎ (IsCheckedText text × RefusesFirst names texts line)
+RefusesFirst names texts line = ⊥
 
 -- what a command comes to, where these are the texts of its names in their order
 abbrev pub Plans : Command → (texts : List (List ℕ)) → Plan → Type 0
 Plans (run r) (source ∷ lock ∷ []) (prints status lines) = (status ≡ 0) × PrintsLines source r.thread lines
-Plans (run r) (source ∷ lock ∷ []) (refuses status line) = (status ≡ 1) × RefusesText r source line
+Plans (run r) (source ∷ lock ∷ []) (refuses status line) = (status ≡ 1) × RefusesRun r source line
+Plans (check names) texts (prints status lines) = (status ≡ 0) × AreChecked texts × (lines ≡ map ok_line names)
+Plans (check names) texts (refuses status line) = (status ≡ 1) × RefusesFirst names texts line
 Plans c texts plan = ⊥

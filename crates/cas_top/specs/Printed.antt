@@ -1,10 +1,13 @@
--- The lines that `run` prints, and that of a fault of a module.
+-- The lines that commands print, and that of a fault of a module.
 use Rattle.std.specs.Prelude.{ℕ, ◌+◌, List, [], ◌∷◌, ◌++◌, map, Option, Some, None, codes}
 use Rattle.std.specs.Fmt.{decimal, signed_decimal}
 use Rattle.cas_base.specs.Word.{signed}
 use Rattle.cas_base.specs.declared.place.Place.{Place}
 use Rattle.cas_lex.specs.declared.code.ReadCode.{ReadCode}
 use Rattle.cas_lex.specs.declared.code.ReadCode.TheVariants.{R1, R2, R3, R4, R5, R6, R7, R8}
+use Rattle.cas_own.specs.Checked.{OwnFaultTree}
+use Rattle.cas_own.specs.declared.fault.OwnCode.{OwnCode}
+use Rattle.cas_own.specs.declared.fault.OwnCode.TheVariants.{O1, O2, O3, O4, O5, O6, O7, O8}
 use Rattle.cas_typed.specs.Faults.{Fault, fault, limit}
 use Rattle.cas_typed.specs.declared.fault.TypeCode.{TypeCode}
 use Rattle.cas_typed.specs.declared.fault.TypeCode.TheVariants.{T1, T2, T3, T4, T5, T6, T7}
@@ -95,6 +98,25 @@ type_fault_place (limit p what n) = p
 -- `NAME:LINE:COL: ` and the fault
 abbrev pub type_fault_line : (name : List ℕ) → Fault → List ℕ
 type_fault_line name f = place_line name (type_fault_place f) (type_fault_words f)
+
+-- the code of a fault of ownership, in letters
+abbrev pub own_letters : OwnCode → List ℕ
+own_letters O1 = codes "O1"
+own_letters O2 = codes "O2"
+own_letters O3 = codes "O3"
+own_letters O4 = codes "O4"
+own_letters O5 = codes "O5"
+own_letters O6 = codes "O6"
+own_letters O7 = codes "O7"
+own_letters O8 = codes "O8"
+
+-- `NAME:LINE:COL: CODE LOCK`
+abbrev pub own_fault_line : (name : List ℕ) → OwnFaultTree → List ℕ
+own_fault_line name f = place_line name f.place (own_letters f.code ++ codes " " ++ f.lock)
+
+-- `NAME ok`, of a checked module
+abbrev pub ok_line : (name : List ℕ) → List ℕ
+ok_line name = line_of (name ++ codes " ok")
 
 -- `NAME:1:1: R0`, of a module that isn't of the first form
 abbrev pub form_line : (name : List ℕ) → List ℕ

@@ -1,19 +1,19 @@
--- What the code's commands and refusals hold, as the definitions speak of them.
-use Rattle.std.specs.Prelude.{◌≡◌, ◌<◌, ◌⊎◌, ℕ, List, [], ◌∷◌, ◌++◌, Some, Result, Ok, Err, codes}
+-- What the code's refusals and texts hold, as the definitions speak of them, and what its functions answer.
+use Rattle.std.specs.Prelude.{◌≡◌, ◌<◌, ◌⊎◌, ℕ, List, [], ◌∷◌, ◌++◌, map, Some, Result, Ok, Err, codes}
 use Rattle.std.specs.declared.vec.Vec.{Vec}
 use Rattle.std.specs.declared.alloc.Global.{Global}
 use Rattle.cas_outside.specs.Shelf.{TellsLonger}
 use Rattle.cas_outside.specs.Sink.{TakesAll, TakesPrefix}
+use Rattle.cas_command.specs.Words as words
+use Rattle.cas_own.specs.Checked.{IsChecked}
+use Rattle.cas_own.specs.declared.checked.Checked.{Checked}
 use Rattle.cas_top.specs.declared.refusal.ModuleFault.{ModuleFault}
 use Rattle.cas_top.specs.declared.refusal.ModuleFault.TheVariants as fault
 use Rattle.cas_top.specs.declared.refusal.Refusal.{Refusal}
 use Rattle.cas_top.specs.declared.refusal.Refusal.TheVariants as refusal
-use Rattle.cas_top.specs.declared.words.Command.{Command}
-use Rattle.cas_top.specs.declared.words.Command.TheVariants as code
-use Rattle.cas_top.specs.declared.words.Run.{Run}
-use Rattle.cas_top.specs.declared.words.Wanted.{Wanted}
-use Rattle.cas_top.specs.Answer.{Told, Taken, IsRefusal, IsFirstLong, IsCut, IsPartly, IsPrinted, IsRead, IsFailed, IsTried}
-use Rattle.cas_top.specs.Plan.{PrintsLines, RefusesText}
+use Rattle.cas_top.specs.declared.source.Source.{Source}
+use Rattle.cas_top.specs.Answer.{Told, Taken, IsRefusal, IsFirstLong, IsFirstUnread, AreRead, IsCut, IsPartly, IsPrinted, IsRead, IsFailed, IsTried}
+use Rattle.cas_top.specs.Plan.{PrintsLines, RefusesText, RefusesRun, RefusesFirst, IsCheckedText, AreChecked}
 use Rattle.cas_syntax.specs.Reading.{IsReadAs}
 use Rattle.cas_syntax.specs.Tree.{ModuleTree}
 use Rattle.cas_typed.specs.Faults as type
@@ -21,17 +21,14 @@ use Rattle.cas_typed.specs.Modules.{IsTyped}
 use Rattle.cas_typed.specs.Resolved.{TypedModuleTree}
 use Rattle.cas_typed.specs.Typed_as.{IsTypedAs}
 use Rattle.cas_typed.specs.declared.typed.Typed.{Typed}
-use Rattle.cas_top.specs.Printed.{line_of, fault_line, type_fault_line, form_line}
-use Rattle.cas_top.specs.Words as words
+use Rattle.cas_top.specs.Printed.{line_of, fault_line, type_fault_line, own_fault_line, form_line, ok_line}
 
-abbrev pub run_view : Run → words.Run
-run_view r = record { source = r.source.now; lock = r.lock.now; thread = r.thread.now }
+-- the names of texts that were read, and the texts
+abbrev pub names_of : List Source → List (List ℕ)
+names_of sources = map (λ s. s.name.now) sources
 
-abbrev pub command_view : Command → words.Command
-command_view (code.Run r) = words.run (run_view r)
-
-abbrev pub wanted_view : Wanted → words.Wanted
-wanted_view w = record { name = w.name.now; limit = w.limit }
+abbrev pub texts_of : List Source → List (List ℕ)
+texts_of sources = map (λ s. s.text.items) sources
 
 -- the wanted text was read, or this is why not; the shelf's failed names before and after
 abbrev pub IsFetched : Told → words.Wanted → (before after : List (List ℕ)) → Result (Vec ℕ Global) Refusal → Type 0
@@ -40,6 +37,27 @@ IsFetched told w before after (Err (refusal.Unread n)) = (n.now ≡ w.name) × (
 IsFetched told w before after (Err (refusal.TooLong n)) = (n.now ≡ w.name) × TellsLonger told w.name w.limit × (after ≡ before)
 IsFetched told w before after (Err refusal.Memory) = after ≡ before
 IsFetched told w before after (Err r) = ⊥
+
+-- the text of this name was read, or this is why not
+abbrev pub IsSource : Told → (name : List ℕ) → (before after : List (List ℕ)) → Result Source Refusal → Type 0
+IsSource told name before after (Ok source) =
+    (source.name.now ≡ name) × IsRead told (words.source_text name) source.text.items × (after ≡ before)
+IsSource told name before after (Err (refusal.Unread n)) = (n.now ≡ name) × (after ≡ before ++ name ∷ [])
+IsSource told name before after (Err (refusal.TooLong n)) =
+    (n.now ≡ name) × TellsLonger told name words.source_limit × (after ≡ before)
+IsSource told name before after (Err refusal.Memory) = after ≡ before
+IsSource told name before after (Err r) = ⊥
+
+-- the texts of these names were read, or this is why not
+abbrev pub AreSources : Told → (names : List (List ℕ)) → (before after : List (List ℕ)) → Result (Vec Source Global) Refusal → Type 0
+AreSources told names before after (Ok sources) =
+    (names_of sources.items ≡ names) × AreRead told (map words.source_text names) (texts_of sources.items) × (after ≡ before)
+AreSources told names before after (Err (refusal.Unread n)) =
+    IsFirstUnread told (map words.source_text names) n.now × (after ≡ before ++ n.now ∷ [])
+AreSources told names before after (Err (refusal.TooLong n)) =
+    IsFirstLong told (map words.source_text names) n.now × (after ≡ before)
+AreSources told names before after (Err refusal.Memory) = after ≡ before
+AreSources told names before after (Err r) = ⊥
 
 -- all of the text was put, or a first part of it
 abbrev pub IsPutLines : (old : Taken) → (text : List ℕ) → (new : Taken) → Result (Unit {0}) Refusal → Type 0
@@ -53,21 +71,51 @@ abbrev pub module_line : (name : List ℕ) → ModuleFault → List ℕ
 module_line name (fault.Misread code p) = fault_line name code p
 module_line name (fault.Untyped code p kept) = type_fault_line name (type.fault code p kept)
 module_line name (fault.Excessive p what counted) = type_fault_line name (type.limit p what counted)
+module_line name (fault.Unowned code p lock) = own_fault_line name (record { code = code; place = p; lock = lock })
 module_line name fault.Formless = form_line name
 
--- the typed module that a text is read as, or why there is none
-abbrev pub IsTypedText : words.Run → (text : List ℕ) → Result Typed Refusal → Type 0
-IsTypedText r text (Ok typed) = (m : ModuleTree) × (t : TypedModuleTree) × IsReadAs text m × IsTypedAs typed t × IsTyped m t
-IsTypedText r text (Err (refusal.Faulty n f)) = RefusesText r text (module_line n.now f)
-IsTypedText r text (Err refusal.Memory) = Unit {0}
-IsTypedText r text (Err other) = ⊥
+-- the typed module that the text of this name is read as, or why there is none
+abbrev pub IsTypedText : (name text : List ℕ) → Result Typed Refusal → Type 0
+IsTypedText name text (Ok typed) = (m : ModuleTree) × (t : TypedModuleTree) × IsReadAs text m × IsTypedAs typed t × IsTyped m t
+IsTypedText name text (Err (refusal.Faulty n f)) = RefusesText name text (module_line n.now f)
+IsTypedText name text (Err refusal.Memory) = Unit {0}
+IsTypedText name text (Err other) = ⊥
 
--- the lines that a module text prints, or why it prints none
+-- the checked module that the text of this name is read as, or why there is none
+abbrev pub IsCheckedAs : (name text : List ℕ) → Result Checked Refusal → Type 0
+IsCheckedAs name text (Ok checked) =
+    (m : ModuleTree) × (t : TypedModuleTree) × IsReadAs text m × IsTypedAs checked.typed t × IsTyped m t × IsChecked t
+IsCheckedAs name text (Err (refusal.Faulty n f)) = RefusesText name text (module_line n.now f)
+IsCheckedAs name text (Err refusal.Memory) = Unit {0}
+IsCheckedAs name text (Err other) = ⊥
+
+-- the lines that a run of a module text prints, or why it prints none
 abbrev pub IsShown : words.Run → (text : List ℕ) → Result (Vec (List ℕ) Global) Refusal → Type 0
 IsShown r text (Ok lines) = PrintsLines text r.thread lines.items
-IsShown r text (Err (refusal.Faulty n f)) = RefusesText r text (module_line n.now f)
+IsShown r text (Err (refusal.Faulty n f)) = RefusesRun r text (module_line n.now f)
 IsShown r text (Err refusal.Memory) = Unit {0}
 IsShown r text (Err other) = ⊥
+
+-- the text of this name is of a checked module, or this is why not
+abbrev pub IsCheckedSource : (name text : List ℕ) → Result (Unit {0}) Refusal → Type 0
+IsCheckedSource name text (Ok done) = IsCheckedText text
+IsCheckedSource name text (Err (refusal.Faulty n f)) = RefusesText name text (module_line n.now f)
+IsCheckedSource name text (Err refusal.Memory) = Unit {0}
+IsCheckedSource name text (Err other) = ⊥
+
+-- all texts of these names are of checked modules, or this is why not
+abbrev pub AreAllChecked : (names texts : List (List ℕ)) → Result (Unit {0}) Refusal → Type 0
+AreAllChecked names texts (Ok done) = AreChecked texts
+AreAllChecked names texts (Err (refusal.Faulty n f)) = RefusesFirst names texts (module_line n.now f)
+AreAllChecked names texts (Err refusal.Memory) = Unit {0}
+AreAllChecked names texts (Err other) = ⊥
+
+-- the lines that the check of these texts prints, or why it prints none
+abbrev pub AreOkLines : (names texts : List (List ℕ)) → Result (Vec (List ℕ) Global) Refusal → Type 0
+AreOkLines names texts (Ok lines) = AreChecked texts × (lines.items ≡ map ok_line names)
+AreOkLines names texts (Err (refusal.Faulty n f)) = RefusesFirst names texts (module_line n.now f)
+AreOkLines names texts (Err refusal.Memory) = Unit {0}
+AreOkLines names texts (Err other) = ⊥
 
 -- why the work of a command ended so: the shelf's failed names and what `out` took, before and after
 abbrev pub IsCause : Told → words.Command → (before after : List (List ℕ)) → (old new : Taken) → Refusal → Type 0

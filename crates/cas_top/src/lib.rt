@@ -2,18 +2,17 @@
 #![tactic(auto)]
 
 mod answer;
+mod checking;
 mod first_form;
 mod generate;
 pub mod laws;
 mod machine;
+mod modules;
 mod outcome;
 mod printed;
+mod reading;
 mod refusal;
-#[cfg(test)]
-mod tests;
+mod source;
 mod top;
-#[cfg(test)]
-mod typing_tests;
-mod words;
 
 pub use top::cascc;

@@ -116,31 +116,3 @@ pub(crate) fn run(alloc: Global, code: &[Instr]) -> Result<Report, NoMemory>
         }
     }
 }
-
-#[cfg(test)]
-mod tests {
-    use super::*;
-    use std::test::Fail;
-
-    #[test]
-    fn sums_wrap_and_are_put_out(rt: HostRuntime) -> Result<(), Fail> {
-        let code = [
-            Instr::MovEax(2147483647),
-            Instr::AddEax(1),
-            Instr::OutEax,
-            Instr::Ret,
-        ];
-        let report = run(rt.alloc(), &code)?;
-        assert_eq!(rt; report.ends.as_slice(), [End::Done].as_slice());
-        assert_eq!(rt; report.out.as_slice(), [(0, 2147483648)].as_slice());
-        Ok(())
-    }
-
-    #[test]
-    fn code_without_a_return_ends_bad(rt: HostRuntime) -> Result<(), Fail> {
-        let report = run(rt.alloc(), &[Instr::MovEax(7), Instr::OutEax])?;
-        assert_eq!(rt; report.ends.as_slice(), [End::Bad].as_slice());
-        assert_eq!(rt; report.out.as_slice(), [(0, 7)].as_slice());
-        Ok(())
-    }
-}

@@ -1,12 +1,13 @@
-//! The lines that a run prints, and that of a module's fault.
+//! The lines that commands print, and that of a module's fault.
 ghost use Rattle.std.specs.Prelude.{◌≡◌, ◌<◌, ◌^◌, ◌++◌, IfOk, OnOk, Some, codes, length, map};
 ghost use Rattle.std.specs.Fmt.{decimal};
 ghost use Rattle.cas_top.specs.View.{module_line};
-ghost use Rattle.cas_top.specs.Printed.{code_letters, count_word, form_line, kept_name, out_line, end_words, end_line, end_lines, place_line, report_lines, type_letters};
+ghost use Rattle.cas_top.specs.Printed.{code_letters, count_word, form_line, kept_name, out_line, end_words, end_line, end_lines, ok_line, own_letters, place_line, report_lines, type_letters};
 
 use crate::machine::{End, Report};
 use crate::refusal::ModuleFault;
 use cas_base::{Name, NoMemory, Place, Text};
+use cas_own::OwnCode;
 use cas_read::ReadCode;
 use cas_typed::{TypeCode, TypeCount};
 use std::alloc::Global;
@@ -73,6 +74,14 @@ fn end_words(end: End) -> &'static str
     }
 }
 
+/// `NAME ok`, of a checked module.
+pub(crate) fn ok_line(alloc: Global, name: &str) -> Result<Text, NoMemory>
+    ensures { IfOk result (λ line. line ≡ ok_line name.now) }
+{
+    let text = format!(in alloc; "{name} ok\n")?;
+    Ok(Text::of(text))
+}
+
 /// The line of a module's fault: `NAME:LINE:COL: ` with its code, and what is kept.
 pub(crate) fn module_line(alloc: Global, name: &str, fault: ModuleFault) -> Result<Text, NoMemory>
     ensures { IfOk result (λ line. line ≡ module_line name.now fault) }
@@ -88,6 +97,10 @@ pub(crate) fn module_line(alloc: Global, name: &str, fault: ModuleFault) -> Resu
         }
         ModuleFault::Excessive(place, what, counted) => {
             let words = limit_words(alloc, what, counted)?;
+            place_line(alloc, name, place, words.as_str())
+        }
+        ModuleFault::Unowned(code, place, lock) => {
+            let words = own_fault(alloc, code, &lock)?;
             place_line(alloc, name, place, words.as_str())
         }
         ModuleFault::Formless => form_line(alloc, name),
@@ -122,6 +135,16 @@ fn limit_words(alloc: Global, what: TypeCount, counted: u64) -> Result<Text, NoM
     Ok(Text::of(text))
 }
 
+// `CODE LOCK`.
+fn own_fault(alloc: Global, code: OwnCode, lock: &Name) -> Result<Text, NoMemory>
+    ensures { IfOk result (λ words. words ≡ own_letters code ++ codes " " ++ lock.now) }
+{
+    let letters = own_letters(code);
+    let lock = lock.as_str();
+    let text = format!(in alloc; "{letters} {lock}")?;
+    Ok(Text::of(text))
+}
+
 // `NAME:1:1: R0`.
 fn form_line(alloc: Global, name: &str) -> Result<Text, NoMemory>
     ensures { IfOk result (λ line. line ≡ form_line name.now) }
@@ -142,6 +165,22 @@ fn type_letters(code: TypeCode) -> &'static str
         TypeCode::T5 => "T5",
         TypeCode::T6 => "T6",
         TypeCode::T7 => "T7",
+    }
+}
+
+// The code of a fault of ownership, in letters.
+fn own_letters(code: OwnCode) -> &'static str
+    ensures { result.now ≡ own_letters code }
+{
+    match code {
+        OwnCode::O1 => "O1",
+        OwnCode::O2 => "O2",
+        OwnCode::O3 => "O3",
+        OwnCode::O4 => "O4",
+        OwnCode::O5 => "O5",
+        OwnCode::O6 => "O6",
+        OwnCode::O7 => "O7",
+        OwnCode::O8 => "O8",
     }
 }
 
@@ -171,32 +210,5 @@ fn read_letters(code: ReadCode) -> &'static str
         ReadCode::R6 => "R6",
         ReadCode::R7 => "R7",
         ReadCode::R8 => "R8",
-    }
-}
-
-#[cfg(test)]
-mod tests {
-    use super::*;
-    use std::test::Fail;
-
-    #[test]
-    fn outputs_and_ends_are_printed(rt: HostRuntime) -> Result<(), Fail> {
-        let alloc = rt.alloc();
-        let report = Report {
-            out: vec![in alloc; (0, 2147483648), (1, 2147483647)]?,
-            ends: vec![in alloc; End::Done, End::Bad]?,
-        };
-        let lines = report_lines(alloc, &report)?;
-        let expected = [
-            "0 -2147483648\n",
-            "1 2147483647\n",
-            "thread 0 done\n",
-            "thread 1 bad place\n",
-        ];
-        assert_eq!(rt; lines.len(), expected.len());
-        for (line, text) in lines.iter().zip(expected) {
-            assert_eq!(rt; line.as_str(), text);
-        }
-        Ok(())
     }
 }

@@ -8,6 +8,7 @@ ghost use Rattle.cas_top.specs.View.{module_line, IsSaid, IsTold};
 use crate::printed::module_line;
 use cas_base::{Name, NoMemory, Place};
 use cas_outside::{Sink, SinkFault};
+use cas_own::OwnCode;
 use cas_read::ReadCode;
 use cas_typed::{TypeCode, TypeCount};
 use std::alloc::Global;
@@ -27,6 +28,8 @@ pub(crate) enum ModuleFault {
     Untyped(TypeCode, Place, Option<Name>),
     /// The first fault of typing is that a count passes its limit, at this place.
     Excessive(Place, TypeCount, u64),
+    /// This fault of ownership is the first, at this place, with the lock that is kept.
+    Unowned(OwnCode, Place, Name),
     /// The module isn't of the first form, or its function isn't the thread's.
     Formless,
 }

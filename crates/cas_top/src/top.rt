@@ -1,15 +1,16 @@
 //! The top call.
 
-ghost use Rattle.std.specs.Prelude.{◌≡◌, ◌<◌, ◌⊎◌};
+ghost use Rattle.std.specs.Prelude.{◌≡◌, ◌<◌, ◌⊎◌, IfOk, IfSome, Some, codes};
+ghost use Rattle.std.specs.Option.{option_and_then, option_map};
 ghost use Rattle.cas_top.specs.Answer.{IsPrinted, IsRefused, IsMisused, IsUnread, IsTooLong, IsCut, IsPartly, IsTried, IsUntold, GrowsBy, IsPrinting, IsRefusing, IsRefusalStatus, IsStatus};
 ghost use Rattle.cas_top.specs.Printed.{line_of};
-ghost use Rattle.cas_top.specs.Words.{command_of};
-ghost use Rattle.std.specs.Prelude.{codes};
+ghost use Rattle.cas_top.specs.Built.{built, command_of};
+ghost use Rattle.cas_command.specs.View.{command_view};
 
 use crate::answer::perform;
 use crate::refusal::{Refusal, refuse};
-use crate::words::command_of;
-use cas_base::Text;
+use cas_base::{NoMemory, Text};
+use cas_command::{Command, command_of};
 use cas_outside::{Gate, Shelf, Sink};
 use std::alloc::Global;
 use std::thread::Threads;
@@ -21,8 +22,8 @@ use std::thread::Threads;
 /// | Status | Where |
 /// |---|---|
 /// | 0 | the command's text was put whole |
-/// | 1 | the module text has a fault, R1 to R8, or its module one of typing, T1 to T8, told with its place; or the module is typed but isn't of the first form, or its function isn't the thread's (`R0`) |
-/// | 2 | the words give no command |
+/// | 1 | the first module text that isn't checked has a fault, R1 to R8, or its module one of typing, T1 to T8, or of ownership, O1 to O8, told with its place; or `run`'s module is checked but isn't of the first form, or its function isn't the thread's (`R0`) |
+/// | 2 | the words give no command that is built |
 /// | 3 | a name's text couldn't be read |
 /// | 4 | a put failed |
 /// | 9 | want of memory |
@@ -40,12 +41,12 @@ pub fn cascc<R: Threads + Sync, S: Shelf, O: Sink, E: Sink, G: Gate>(
     err: &mut E,
     _gate: &G,
 ) -> u8
-    // The text that `out` took is that of an ended run of the machine on the code that is generated for the
-    // module, and of an interleaving of the module in which the thread has ended.
+    // The text that `out` took: of `check`, a line for each module; of `run`, that of an ended run of the machine on
+    // the code that is generated for the module, and of an interleaving of the module in which the thread has ended.
     ensures printed { IsPrinting result →
         IsPrinted (S.texts shelf.old) (command_of words.now) result (O.taken out.old) (O.taken out.new) }
 
-    // A refusal by the module's text, by the words, by a read that failed, and by a text's length. `err` took the
+    // A refusal by a module's text, by the words, by a read that failed, and by a text's length. `err` took the
     // line that says so.
     ensures refused { IsRefusing result →
         IsRefused (S.texts shelf.old) (command_of words.now) result (E.taken err.old) (E.taken err.new) }
@@ -84,11 +85,33 @@ pub fn cascc<R: Threads + Sync, S: Shelf, O: Sink, E: Sink, G: Gate>(
 
     ensures known { IsStatus result }
 {
-    match command_of(words) {
-        Some(command) => match perform(alloc, command, shelf, out) {
+    match built_command(alloc, words) {
+        Ok(Some(command)) => match perform(alloc, command, shelf, out) {
             Ok(()) => 0,
             Err(refusal) => refuse(alloc, err, refusal),
         },
-        None => refuse(alloc, err, Refusal::Usage),
+        Ok(None) => refuse(alloc, err, Refusal::Usage),
+        Err(NoMemory) => refuse(alloc, err, Refusal::Memory),
+    }
+}
+
+// The command of these words, where they are one's that is built.
+fn built_command(alloc: Global, words: &[Text]) -> Result<Option<Command<'_>>, NoMemory>
+    ensures given { IfOk result (λ command. option_map command_view command ≡ command_of words.entry.now) }
+    ensures is_built { IfOk result (λ command. IfSome command (λ c. built (command_view c) ≡ Some (command_view c))) }
+{
+    Ok(built(command_of(alloc, words)?))
+}
+
+// The command, where it is built.
+fn built(command: Option<Command<'_>>) -> Option<Command<'_>>
+    ensures given { option_map command_view result ≡ option_and_then built (option_map command_view command.entry) }
+    ensures is_built { IfSome result (λ c. built (command_view c) ≡ Some (command_view c)) }
+{
+    match command {
+        Some(Command::Run(run)) => Some(Command::Run(run)),
+        Some(Command::Check(names)) => Some(Command::Check(names)),
+        Some(Command::World(_)) => None,
+        None => None,
     }
 }

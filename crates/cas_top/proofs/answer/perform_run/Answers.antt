@@ -1,4 +1,4 @@
-use Rattle.cas_top.specs.View.{run_view}
+use Rattle.cas_command.specs.View.{run_view}
 use Rattle.cas_top.proofs.Ends.{run_end, run_refused}
 use Rattle.cas_top.proofs.answer.perform_run.Goals as goal
 

@@ -1,7 +1,7 @@
 //! What `run` answers of modules that aren't typed, and of modules that are. The wanted places are those that the rules of
 //! types give (`docs/LANGUAGE.md`).
 
-use crate::tests::{REFUSED, assert_module, repeated, wanted};
+use crate::calls::{REFUSED, assert_module, repeated, wanted};
 use std::alloc::{AllocError, Global};
 use std::process::Abort;
 use std::test::Fail;
@@ -257,7 +257,7 @@ const ORDER: &[(&str, &str)] = &[
     ),
 ];
 
-// Modules that are typed: what is told of them is that they aren't of the first form.
+// Modules that are typed and checked: what is told of them is that they aren't of the first form.
 const TYPED: &[&str] = &[
     // Each row of the table of types, at its edge.
     "void w(int me) { unsigned u; char c; u = 1u + c; c = u * me - u / 3 % 5; u = c & 1 ^ 2 | u; }",
@@ -268,7 +268,7 @@ const TYPED: &[&str] = &[
     "void w(int me) { int *p; char c; p = me ? p : 0; p = p ? 0 : p; me = p ? c : 1u; }",
     "void w(int me) { int *p; int a[3]; me = *p + p[me] + a[0] + *a; p = &me; p = &a[3]; p = &p[1]; *(p + 1) = 2; }",
     // Globals by name and by index, as values and as targets.
-    "lock L; shared(L) char g; shared(L) short a[3]; const int t[2] = { 1 }; void w(int me) { g = a[t[0]] + t[1]; a[g] += 1; }",
+    "lock L; shared(L) char g; shared(L) short a[3]; const int t[2] = { 1 }; void w(int me) { lock(L); g = a[t[0]] + t[1]; a[g] += 1; unlock(L); }",
     // Values are converted to what takes them.
     "char f(short a, int *p) { return a; } void w(int me) { char c; c = f(4u, 0); c = f(me, &me); f(1, 0); }",
     "int *f(void) { return 0; } int g(void) { return; } void w(int me) { int *p = f(); int i = g(); return; }",

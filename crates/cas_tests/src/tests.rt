@@ -1,120 +1,21 @@
-//! Calls of the top call, with texts and streams in memory. The wanted bytes are those that `docs/COMMANDS.md`
-//! gives.
+//! What `run` answers of modules of the first form and of others, of words that are no command, and of reads and puts that
+//! fail. The wanted bytes are those that `docs/COMMANDS.md` gives.
 
 ghost use Rattle.std.specs.Prelude.{None, []};
 
-use crate::cascc;
-use cas_base::Text;
-use cas_outside::{MemoryShelf, MemorySink, OpenGate, Shelf, ShelfFault, Sink, SinkFault};
+use crate::calls::{
+    Answer, CANNOT_WRITE, Given, LOCK, PRINTED, REFUSED, RUN, SUM, assert_answer, assert_module,
+    repeated, run_of, shelf_of, sink_of, wanted, words_of,
+};
+use cas_outside::{OpenGate, Shelf, ShelfFault, Sink, SinkFault};
+use cas_top::cascc;
 use std::alloc::{AllocError, Global};
 use std::process::Abort;
 use std::test::Fail;
 use std::thread::Threads;
 
-const RUN: [&str; 6] = ["run", "m.c", "--lock", "lock.s", "--threads", "w"];
-
-const SUM: &str = "void w(int me) { print(40 + 1); }";
-
-const PRINTED: &str = "0 41\nthread 0 done\n";
-
-pub(crate) const REFUSED: &str = "m.c:1:1: R0\n";
-
-const CANNOT_WRITE: &str = "cascc: cannot write\n";
-
-// What a call is given: its words, the texts, and the numbers of the reads and the puts that fail.
-#[derive(Clone, Copy)]
-struct Given<'a> {
-    words: &'a [&'a str],
-    module_text: &'a str,
-    lock_text: &'a str,
-    reads: &'a [u64],
-    outs: &'a [u64],
-    errs: &'a [u64],
-}
-
-// The status and the bytes that a call is to answer.
-#[derive(Clone, Copy)]
-pub(crate) struct Answer<'a> {
-    status: u8,
-    out: &'a str,
-    err: &'a str,
-}
-
-// The words of the sum's run. No call reads a third time, or puts a third time on `out` or a second time on `err`: that
-// would fail.
-fn sum_run<'a>() -> Given<'a> {
-    Given {
-        words: &RUN,
-        module_text: SUM,
-        lock_text: "lock:\n",
-        reads: &[3],
-        outs: &[3],
-        errs: &[2],
-    }
-}
-
-pub(crate) fn wanted<'a>(status: u8, out: &'a str, err: &'a str) -> Answer<'a> {
-    Answer { status, out, err }
-}
-
-fn words_of(alloc: Global, words: &[&str]) -> Result<Vec<Text>, AllocError> {
-    let mut owned = Vec::new(alloc);
-    for word in words {
-        owned.push(Text::of(String::from_str(alloc, word)?))?;
-    }
-    Ok(owned)
-}
-
-fn entry(alloc: Global, name: &str, text: &str) -> Result<(String, Vec<u8>), AllocError> {
-    let bytes = Vec::from_slice(alloc, text.as_bytes())?;
-    Ok((String::from_str(alloc, name)?, bytes))
-}
-
-fn shelf_of(alloc: Global, given: Given) -> Result<MemoryShelf, AllocError> {
-    let mut texts = Vec::new(alloc);
-    texts.push(entry(alloc, "m.c", given.module_text)?)?;
-    texts.push(entry(alloc, "lock.s", given.lock_text)?)?;
-    let failing = Vec::from_slice(alloc, given.reads)?;
-    Ok(MemoryShelf::new(alloc, texts, failing))
-}
-
-fn sink_of(alloc: Global, failing: &[u64]) -> Result<MemorySink, AllocError> {
-    Ok(MemorySink::new(alloc, Vec::from_slice(alloc, failing)?))
-}
-
-fn assert_answer<R: Abort + Threads + Sync>(
-    rt: &R,
-    alloc: Global,
-    given: Given,
-    wanted: Answer,
-) -> Result<(), AllocError> {
-    let words = words_of(alloc, given.words)?;
-    let mut shelf = shelf_of(alloc, given)?;
-    let mut out = sink_of(alloc, given.outs)?;
-    let mut err = sink_of(alloc, given.errs)?;
-    let status = cascc(
-        rt,
-        alloc,
-        words.as_slice(),
-        &mut shelf,
-        &mut out,
-        &mut err,
-        &OpenGate,
-    );
-    assert_eq!(rt; status, wanted.status);
-    assert_eq!(rt; out.bytes(), wanted.out.as_bytes());
-    assert_eq!(rt; err.bytes(), wanted.err.as_bytes());
-    Ok(())
-}
-
-// The text, so many times.
-pub(crate) fn repeated(alloc: Global, text: &str, count: usize) -> Result<String, AllocError> {
-    let mut whole = String::new(alloc);
-    for _ in 0..count {
-        whole.push_str(text)?;
-    }
-    Ok(whole)
-}
+// The texts of the sum's run.
+const SUM_TEXTS: &[(&str, &str)] = &[("m.c", SUM), LOCK];
 
 // The text of the first form with so many literals 1 behind the first, without spaces in the sum.
 fn ones(alloc: Global, others: usize) -> Result<String, AllocError> {
@@ -122,22 +23,9 @@ fn ones(alloc: Global, others: usize) -> Result<String, AllocError> {
     format!(in alloc; "void w(int me) {{ print(1{added}); }}")
 }
 
-pub(crate) fn assert_module<R: Abort + Threads + Sync>(
-    rt: &R,
-    alloc: Global,
-    text: &str,
-    wanted: Answer,
-) -> Result<(), AllocError> {
-    let given = Given {
-        module_text: text,
-        ..sum_run()
-    };
-    assert_answer(rt, alloc, given, wanted)
-}
-
 #[test]
 fn always_want_of_memory(rt: HostRuntime) -> Result<(), Fail> {
-    assert_answer(&rt, rt.alloc(), sum_run(), wanted(0, PRINTED, ""))?;
+    assert_answer(&rt, rt.alloc(), run_of(SUM_TEXTS), wanted(0, PRINTED, ""))?;
     Ok(())
 }
 
@@ -206,19 +94,13 @@ fn texts_have_a_limit(rt: HostRuntime) -> Result<(), Fail> {
         too_long.as_str(),
         wanted(12, "", "cascc: too long m.c\n"),
     )?;
-    let at_limit = Given {
-        lock_text: longest.as_str(),
-        ..sum_run()
-    };
-    assert_answer(&rt, alloc, at_limit, wanted(0, PRINTED, ""))?;
-    let above_limit = Given {
-        lock_text: too_long.as_str(),
-        ..sum_run()
-    };
+    let at_limit = [("m.c", SUM), ("lock.s", longest.as_str())];
+    assert_answer(&rt, alloc, run_of(&at_limit), wanted(0, PRINTED, ""))?;
+    let above_limit = [("m.c", SUM), ("lock.s", too_long.as_str())];
     assert_answer(
         &rt,
         alloc,
-        above_limit,
+        run_of(&above_limit),
         wanted(12, "", "cascc: too long lock.s\n"),
     )?;
     Ok(())
@@ -229,7 +111,10 @@ fn assert_usage<R: Abort + Threads + Sync>(
     alloc: Global,
     words: &[&str],
 ) -> Result<(), AllocError> {
-    let given = Given { words, ..sum_run() };
+    let given = Given {
+        words,
+        ..run_of(SUM_TEXTS)
+    };
     assert_answer(rt, alloc, given, wanted(2, "", "cascc: usage\n"))
 }
 
@@ -286,7 +171,7 @@ fn assert_faults<R: Abort + Threads + Sync>(
         reads,
         outs,
         errs,
-        ..sum_run()
+        ..run_of(SUM_TEXTS)
     };
     assert_answer(rt, alloc, given, wanted)
 }
@@ -312,7 +197,7 @@ fn reads_that_fail_are_told(rt: HostRuntime) -> Result<(), Fail> {
     assert_faults(&rt, alloc, [&[3], &[], &[]], wanted(0, PRINTED, ""))?;
     let missing = Given {
         words: &["run", "a.c", "--lock", "lock.s", "--threads", "w"],
-        ..sum_run()
+        ..run_of(SUM_TEXTS)
     };
     assert_answer(
         &rt,
@@ -409,7 +294,7 @@ fn want_of_memory_is_told(rt: HostRuntime) -> Result<(), Fail> {
 #[test]
 fn puts_without_memory_are_told(rt: HostRuntime) -> Result<(), Fail> {
     let alloc = rt.alloc();
-    let mut shelf = shelf_of(alloc, sum_run())?;
+    let mut shelf = shelf_of(alloc, run_of(SUM_TEXTS))?;
     let mut out = NarrowSink::new(alloc);
     let mut err = sink_of(alloc, &[2])?;
     let status = cascc(

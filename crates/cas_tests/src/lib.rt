@@ -1,0 +1,11 @@
+//! Tests of the top call. They stand above it in a library of their own, so that it isn't proved once more for them.
+#![tactic(auto)]
+
+#[cfg(test)]
+mod calls;
+#[cfg(test)]
+mod owning_tests;
+#[cfg(test)]
+mod tests;
+#[cfg(test)]
+mod typing_tests;
