@@ -58,32 +58,46 @@ def texts():
     yield "spaces", " " * LIMIT
 
 
-def measure(path, lock):
-    """Seconds and peak memory in bytes of one run."""
-    begin = time.perf_counter()
-    child = subprocess.Popen(
-        [PROGRAM, "run", path, "--lock", lock, "--threads", "w"], stdout=subprocess.DEVNULL, stderr=subprocess.PIPE
-    )
-    said = child.stderr.read()
-    _, status, usage = os.wait4(child.pid, 0)
-    child.returncode = os.waitstatus_to_exitcode(status)
-    seconds = time.perf_counter() - begin
-    if child.returncode not in (0, 1):
-        sys.exit(f"{path}: status {child.returncode}: {said.decode()}")
-    return seconds, usage.ru_maxrss * 1024, said.decode().strip().rsplit(": ", 1)[-1]
+def measure(words, statuses):
+    """Seconds, peak memory in bytes, what was printed and what was said, of one run of the program with these words."""
+    with tempfile.TemporaryFile("w+") as printed, tempfile.TemporaryFile("w+") as told:
+        begin = time.perf_counter()
+        child = subprocess.Popen([PROGRAM, *words], stdout=printed, stderr=told)
+        _, status, usage = os.wait4(child.pid, 0)
+        seconds = time.perf_counter() - begin
+        child.returncode = os.waitstatus_to_exitcode(status)
+        for stream in (printed, told):
+            stream.seek(0)
+        out, said = printed.read(), told.read()
+    if child.returncode not in statuses:
+        sys.exit(f"{' '.join(words)}: status {child.returncode}: {said}")
+    return seconds, usage.ru_maxrss * 1024, out, said.strip()
+
+
+def five_runs(command, modules, options, statuses):
+    """Five runs of a command on module texts, with these options behind their names."""
+    if not os.path.exists(PROGRAM):
+        sys.exit("build the program first: bin/cascc run examples/hello.c --lock examples/lock.s --threads w")
+    with tempfile.TemporaryDirectory() as folder:
+        names = []
+        for number, text in enumerate(modules):
+            names.append(os.path.join(folder, f"m{number}.c"))
+            with open(names[-1], "w") as file:
+                file.write(text)
+        return [measure([command, *names, *options], statuses) for _ in range(5)]
+
+
+def timed(command, modules, options):
+    """The least seconds of five runs of a command, and the last line that it printed, without the modules' folder."""
+    runs = five_runs(command, modules, options, (0,))
+    return min(run[0] for run in runs), runs[0][2].rstrip().rsplit("\n", 1)[-1].rsplit("/", 1)[-1]
 
 
 def best_of_five(text):
     """The least seconds of five runs on a module text, their greatest peak of memory in bytes, and the answer."""
-    if not os.path.exists(PROGRAM):
-        sys.exit("build the program first: bin/cascc run examples/hello.c --lock examples/lock.s --threads w")
-    with tempfile.TemporaryDirectory() as folder:
-        path, lock = os.path.join(folder, "m.c"), os.path.join(folder, "lock.s")
-        for name, content in ((path, text), (lock, "")):
-            with open(name, "w") as file:
-                file.write(content)
-        runs = [measure(path, lock) for _ in range(5)]
-    return min(run[0] for run in runs), max(run[1] for run in runs), runs[0][2]
+    with tempfile.NamedTemporaryFile("w", suffix=".s") as lock:
+        runs = five_runs("run", [text], ["--lock", lock.name, "--threads", "w"], (0, 1))
+    return min(run[0] for run in runs), max(run[1] for run in runs), runs[0][3].rsplit(": ", 1)[-1]
 
 
 def main():
