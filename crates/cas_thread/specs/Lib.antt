@@ -1,0 +1,9 @@
+pub mod Around
+pub mod Calls
+pub mod Control
+pub mod Deeds
+pub mod Frames
+pub mod Room
+pub mod Stepping
+pub mod Thread
+pub mod Todos

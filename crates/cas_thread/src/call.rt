@@ -1,0 +1,189 @@
+//! Calls: the arguments are evaluated, and an activation of the function begins, with room for all items that it can have to
+//! do at once.
+
+ghost use Rattle.std.specs.Prelude.{◌≡◌, [], ◌∷◌, ℕ, List, Some, None, true, IfNone, IfSome, IfOk, OnErr, reverse, slice_get, map, vec_capacity};
+ghost use Rattle.cas_base.specs.declared.kind.Ty.{Ty};
+ghost use Rattle.cas_base.specs.declared.place.Place.{Place};
+ghost use Rattle.cas_step.specs.Env.{Env};
+ghost use Rattle.cas_step.specs.Items as items;
+ghost use Rattle.cas_step.specs.Items.{begin_all, deed_of, next};
+ghost use Rattle.cas_step.specs.Step as step;
+ghost use Rattle.cas_step.specs.Step.{doing, sight_of, with_call};
+ghost use Rattle.cas_memory.specs.Entities.{entity_if};
+ghost use Rattle.cas_memory.specs.Values.{value_of};
+ghost use Rattle.cas_eval.specs.Answer.{answer, around, sight};
+ghost use Rattle.cas_typed.specs.Numbered as numbered;
+ghost use Rattle.cas_typed.specs.Numbered.{At, IsRow};
+ghost use Rattle.cas_typed.specs.Resolved.{TypedFunTree, TypedStmtOption, TypedStmtTree};
+ghost use Rattle.cas_typed.specs.declared.rows.StmtRow.{StmtRow};
+ghost use Rattle.cas_whole.specs.Bodies.{typed_at};
+ghost use Rattle.cas_thread.specs.Calls.{IsCallOf, IsReady, function_place};
+ghost use Rattle.cas_thread.specs.Control.{after};
+ghost use Rattle.cas_thread.specs.Deeds.{Begins, IsCall};
+ghost use Rattle.cas_thread.specs.Room.{Fits};
+ghost use Rattle.cas_thread.specs.Todos.{IsAt, IsNext, Shows};
+
+use crate::config::Frame;
+use crate::control::{begin_each, next_part, row_at};
+use crate::deed::first_item;
+use crate::take::entity_at;
+use crate::todo::Todo;
+use cas_base::NoMemory;
+use cas_eval::{Here, NoArguments, arguments};
+use cas_memory::{Entity, Value};
+use cas_typed::{Destination, StmtRow, StmtRowForm, Typed, TypedExpr, TypedFun};
+use std::alloc::Global;
+
+/// A call, as a statement has it.
+#[derive(Clone, Copy)]
+pub struct Called<'a> {
+    /// The local that keeps the result.
+    pub kept: Option<Destination>,
+    /// The item of the function.
+    pub item: u32,
+    pub args: &'a [TypedExpr],
+}
+
+/// A call whose arguments are evaluated.
+#[derive(Drop)]
+pub struct Ready {
+    /// The local that keeps the result.
+    pub kept: Option<Destination>,
+    /// The item of the function.
+    pub item: u32,
+    /// The arguments.
+    pub values: Vec<Value>,
+}
+
+// The call that a row is, if it is one.
+fn called_in(row: &StmtRow) -> Option<Called<'_>>
+    ensures some { IfSome result (λ called. (rows : List StmtRow) (n : ℕ) (a : TypedStmtTree) → IsRow rows n a row.now.place row.now.form → IsCallOf called a) }
+    ensures none { IfNone result ((rows : List StmtRow) (n : ℕ) (a : TypedStmtTree) → IsRow rows n a row.now.place row.now.form → ¬ (IsCall a)) }
+{
+    match &row.form {
+        StmtRowForm::Call(kept, item, _, args) => Some(Called {
+            kept: *kept,
+            item: *item,
+            args: args.as_slice(),
+        }),
+        StmtRowForm::Skip
+        | StmtRowForm::Assign(_, _)
+        | StmtRowForm::Block(_)
+        | StmtRowForm::If(_, _, _)
+        | StmtRowForm::While(_, _)
+        | StmtRowForm::Do(_, _)
+        | StmtRowForm::For(_, _, _, _)
+        | StmtRowForm::Break
+        | StmtRowForm::Continue
+        | StmtRowForm::Return(_)
+        | StmtRowForm::Lock(_)
+        | StmtRowForm::Unlock(_)
+        | StmtRowForm::Print(_) => None,
+    }
+}
+
+// The call that the row with this number is, if it is one.
+fn called_at(rows: &[StmtRow], number: u32) -> Option<Called<'_>>
+    ensures some { IfSome result (λ called. (a : TypedStmtTree) → IsAt rows.now number a → IsCallOf called a) }
+    ensures none { IfNone result ((a : TypedStmtTree) → IsAt rows.now number a → ¬ (IsCall a)) }
+{
+    match row_at(rows, number) {
+        Some(row) => called_in(row),
+        None => None,
+    }
+}
+
+// The call that a `for` does after a turn, if it does one.
+fn called_next(rows: &[StmtRow], number: u32) -> Option<Called<'_>>
+    ensures some { IfSome result (λ called. (p : Place) (u : TypedStmtOption) (it : List items.Todo) → At rows.now number (IsNext rows.now p u) → Begins (IsCallOf called) (next p u ∷ it)) }
+    ensures none { IfNone result ((p : Place) (u : TypedStmtOption) (it : List items.Todo) → At rows.now number (IsNext rows.now p u) → ¬ (Begins IsCall (next p u ∷ it))) }
+{
+    match next_part(rows, number) {
+        Some(Some(next)) => called_at(rows, next),
+        Some(None) => None,
+        None => None,
+    }
+}
+
+/// The call that comes first, if one does.
+pub fn first_call<'a>(rows: &'a [StmtRow], todo: &[Todo]) -> Option<Called<'a>>
+    ensures some { IfSome result (λ called. (it : List items.Todo) → Shows rows.now (reverse todo.now) it → Begins (IsCallOf called) it) }
+    ensures none { IfNone result ((it : List items.Todo) → Shows rows.now (reverse todo.now) it → ¬ (Begins IsCall it)) }
+{
+    match first_item(todo) {
+        Some(item) => match item {
+            Todo::Begin(number) => called_at(rows, number),
+            Todo::Next(number) => called_next(rows, number),
+            Todo::Begun(_) => None,
+            Todo::Loop(_) => None,
+        },
+        None => None,
+    }
+}
+
+/// A call with its arguments, from left to right.
+pub fn evaluated(alloc: Global, here: &Here<'_>, called: &Called<'_>) -> Result<Ready, NoArguments>
+    ensures { (ret : Ty) (it : List items.Todo) → Begins (IsCallOf called.now) it
+        → IsReady (answer (around here.now) (deed_of (sight (around here.now)) ret it)) (after true it) result }
+{
+    match arguments(alloc, here, called.args) {
+        Ok(values) => Ok(Ready {
+            kept: called.kept,
+            item: called.item,
+            values,
+        }),
+        Err(why) => Err(why),
+    }
+}
+
+/// Where the function stands that an item is, if it is one: its module, and its place among those of the module.
+pub fn function_of(items: &[Option<Entity>], item: u32) -> Option<(u32, u32)>
+    ensures { result ≡ function_place (entity_if (slice_get items.now item)) }
+{
+    match entity_at(items, item) {
+        Some(Entity::Function { unit, place }) => Some((unit, place)),
+        Some(Entity::Shared { .. }) => None,
+        Some(Entity::Lock(_)) => None,
+        Some(Entity::Table { .. }) => None,
+        None => None,
+    }
+}
+
+/// The function at a place of a module.
+pub fn function_at(modules: &[Typed], unit: u32, place: u32) -> Option<&TypedFun>
+    ensures some { IfSome result (λ f. typed_at modules.now unit place ≡ Some f.now) }
+    ensures none { IfNone result (typed_at modules.now unit place ≡ None) }
+{
+    match modules.get(unit as usize) {
+        Some(typed) => typed.functions().get(place as usize),
+        None => None,
+    }
+}
+
+/// A call of a function at its start, with room for all items that it can have to do at once.
+pub fn new_frame(
+    alloc: Global,
+    serial: u64,
+    at: (u32, u32),
+    target: Option<Destination>,
+    function: &TypedFun,
+) -> Result<Frame, NoMemory>
+    ensures serial { IfOk result (λ f. f.serial ≡ serial) }
+    ensures unit { IfOk result (λ f. f.unit ≡ at.0) }
+    ensures place { IfOk result (λ f. f.place ≡ at.1) }
+    ensures target { IfOk result (λ f. f.target ≡ target) }
+    ensures todo { IfOk result (λ f. (it : TypedFunTree) → numbered.IsFunctionOf it function.now → Shows function.now.rows (reverse f.todo.items) (begin_all it.body [])) }
+    ensures room { IfOk result (λ f. (it : TypedFunTree) → numbered.IsFunctionOf it function.now → Fits (vec_capacity f.todo) (begin_all it.body [])) }
+{
+    let rows = function.rows.as_slice();
+    let parts = function.body.as_slice();
+    let mut todo = Vec::with_capacity(alloc, 2 * rows.len() + parts.len())?;
+    begin_each(rows, &mut todo, parts);
+    Ok(Frame {
+        serial,
+        unit: at.0,
+        place: at.1,
+        target,
+        todo,
+    })
+}

@@ -1,0 +1,87 @@
+//! Where the next step of a thread stands.
+
+ghost use Rattle.std.specs.Prelude.{◌≡◌, ◌∷◌, ℕ, List, Some, option_map, reverse, slice_get};
+ghost use Rattle.cas_base.specs.declared.place.Place.{Place};
+ghost use Rattle.cas_step.specs.Items as items;
+ghost use Rattle.cas_step.specs.Items.{place_of as place_among};
+ghost use Rattle.cas_thread.specs.Thread.{Goes, Steps};
+ghost use Rattle.cas_thread.specs.Todos.{Shows};
+ghost use Rattle.cas_thread.specs.declared.todo.Todo as code;
+ghost use Rattle.cas_thread.specs.declared.todo.Todo.TheVariants.{Next};
+
+use crate::config::{Config, rows_of};
+use crate::control::{next_part, row_at};
+use crate::deed::first_item;
+use crate::step::newest;
+use crate::todo::Todo;
+use cas_base::Place;
+use cas_typed::StmtRow;
+use cas_whole::Program;
+
+// The place of the row with this number, if it is there.
+fn place_at(rows: &[StmtRow], number: u32) -> Option<Place>
+    ensures { result ≡ option_map (λ row. row.place) (slice_get rows.now number) }
+{
+    match row_at(rows, number) {
+        Some(row) => Some(row.place),
+        None => None,
+    }
+}
+
+// The place of the step of what a `for` does after a turn, if it is one.
+#[tactic(auto, using(crate::proofs::Placing::never_next))]
+fn next_place(rows: &[StmtRow], number: u32) -> Option<Place>
+    ensures { (closing : Place) (rest : List code.Todo) (it : List items.Todo) → Shows rows.now (Next number ∷ rest) it → result ≡ Some (place_among closing it) }
+{
+    match next_part(rows, number) {
+        Some(part) => match part {
+            Some(next) => place_at(rows, next),
+            None => place_at(rows, number),
+        },
+        None => None,
+    }
+}
+
+// The place of an item's step, if it is there.
+#[tactic(auto, using(crate::proofs::Placing::begin_is, crate::proofs::Placing::begun_is, crate::proofs::Placing::loop_is))]
+fn item_place(rows: &[StmtRow], item: Todo) -> Option<Place>
+    ensures { (closing : Place) (rest : List code.Todo) (it : List items.Todo) → Shows rows.now (item ∷ rest) it → result ≡ Some (place_among closing it) }
+{
+    match item {
+        Todo::Begin(number) => place_at(rows, number),
+        Todo::Begun(number) => place_at(rows, number),
+        Todo::Loop(number) => place_at(rows, number),
+        Todo::Next(number) => next_place(rows, number),
+    }
+}
+
+// The place of the first item's step, or the closing brace.
+fn first_place(rows: &[StmtRow], closing: Place, todo: &[Todo]) -> Place
+    ensures { (it : List items.Todo) → Shows rows.now (reverse todo.now) it → result ≡ place_among closing it }
+{
+    match first_item(todo) {
+        Some(item) => match item_place(rows, item) {
+            Some(place) => place,
+            None => closing,
+        },
+        None => closing,
+    }
+}
+
+/// Where the next step of a thread that hasn't ended stands: the number of its module, and its place in the module's text.
+pub fn place_of(program: &Program, config: &Config) -> (u32, Place)
+    requires { ∥ Goes program.now config.now ∥₁ }
+    ensures { (words : List ℕ) → Steps program.now config.now words (λ s. (result.0 ≡ s.unit) × (result.1 ≡ s.place)) }
+{
+    match newest(config) {
+        Some(frame) => match program.function(frame.unit, frame.place) {
+            Some(body) => {
+                let rows = rows_of(program.modules(), frame.unit, frame.place);
+                let place = first_place(rows, body.closing, frame.todo.as_slice());
+                (frame.unit, place)
+            }
+            None => unreachable!(),
+        },
+        None => unreachable!(),
+    }
+}

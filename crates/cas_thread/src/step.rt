@@ -1,0 +1,181 @@
+//! Steps of threads of a program.
+
+ghost use Rattle.std.specs.Prelude.{◌≡◌, [], ◌∷◌, ℕ, List, Some, None, true, IfNone, IfSome, IfOk, OnErr, reverse, slice_get};
+ghost use Rattle.cas_memory.specs.Entities.{entity_if};
+ghost use Rattle.cas_thread.specs.declared.config.Frame as code;
+ghost use Rattle.cas_step.specs.Items.{deed_of};
+ghost use Rattle.cas_step.specs.Step as step;
+ghost use Rattle.cas_step.specs.Step.{sight_of, step_here};
+ghost use Rattle.cas_eval.specs.Answer.{answer};
+ghost use Rattle.cas_program.specs.Program.{env_of};
+ghost use Rattle.cas_typed.specs.Resolved.{TypedModuleTree};
+ghost use Rattle.cas_whole.specs.Program_of.{IsProgramOf};
+ghost use Rattle.cas_thread.specs.Around.{around_in};
+ghost use Rattle.cas_thread.specs.Calls.{IsReady};
+ghost use Rattle.cas_thread.specs.Control.{after};
+ghost use Rattle.cas_thread.specs.Deeds.{Begins, IsCall, IsFirst, IsJump};
+ghost use Rattle.cas_thread.specs.Frames.{AreThread};
+ghost use Rattle.cas_thread.specs.Stepping.{AreEntities, IsStep};
+
+use crate::call::{Ready, evaluated, first_call, function_of};
+use crate::config::{Config, Frame, rows_of};
+use crate::deed::{First, first_step};
+use cas_base::{Act, NoMemory};
+use cas_eval::{Here, NoArguments, NoResult};
+use cas_memory::Entity;
+use cas_program::laws::declarations_agree;
+use cas_whole::Program;
+
+/// Where the newest call evaluates.
+pub fn here_in<'a>(
+    program: &'a Program,
+    config: &'a Config,
+    words: &'a [u32],
+    frame: &Frame,
+) -> Here<'a>
+    ensures items { (ms : List TypedModuleTree) (names : List (List ℕ)) (item : ℕ) → IsProgramOf program.now ms names → entity_if (slice_get result.items.now item) ≡ (env_of ms).entity frame.now.unit item }
+    ensures words { result.words.now ≡ words.now }
+    ensures memory { result.memory.now ≡ config.now.memory }
+    ensures serial { result.serial ≡ frame.now.serial }
+{
+    Here {
+        items: program.items(frame.unit),
+        words,
+        memory: &config.memory,
+        serial: frame.serial,
+    }
+}
+
+/// The newest call.
+pub fn newest(config: &Config) -> Option<&Frame>
+    ensures some { IfSome result (λ f. (rest : List code.Frame) × (reverse config.now.frames.items ≡ f.now ∷ rest)) }
+    ensures none { IfNone result (reverse config.now.frames.items ≡ []) }
+{
+    match config.frames.split_last() {
+        Some((frame, _)) => Some(frame),
+        None => None,
+    }
+}
+
+/// What comes first in a thread: the deed of its newest call's first item, a call or a jump, or why there is nothing.
+pub fn first(program: &Program, config: &Config, words: &[u32]) -> Result<First, NoResult>
+    ensures { (ms : List TypedModuleTree) (names : List (List ℕ)) (h : step.Here) → IsProgramOf program.now ms names → AreThread program.now.modules config.now h.config
+        → h.config.activations ≡ h.newest ∷ h.older → words.now ≡ h.words
+        → IsFirst (answer (around_in (env_of ms) h) (deed_of (sight_of (env_of ms) h) ((env_of ms).function h.newest.function).ret h.newest.todo))
+        (λ is. after is h.newest.todo) (Begins IsCall h.newest.todo) (Begins IsJump h.newest.todo) result }
+{
+    match newest(config) {
+        Some(frame) => match program.function(frame.unit, frame.place) {
+            Some(body) => {
+                let rows = rows_of(program.modules(), frame.unit, frame.place);
+                let here = here_in(program, config, words, frame);
+                first_step(&here, rows, body.ret, frame.todo.as_slice())
+            }
+            None => Err(NoResult::Stuck),
+        },
+        None => Err(NoResult::Stuck),
+    }
+}
+
+/// What the items of the newest call's module stand for.
+pub fn items_of<'a>(program: &'a Program, config: &Config) -> &'a [Option<Entity>]
+    ensures { (ms : List TypedModuleTree) (names : List (List ℕ)) (h : step.Here) → IsProgramOf program.now ms names → AreThread program.now.modules config.now h.config
+        → h.config.activations ≡ h.newest ∷ h.older → AreEntities result.now (env_of ms) h }
+{
+    match newest(config) {
+        Some(frame) => program.items(frame.unit),
+        None => &[],
+    }
+}
+
+// The call that comes first, with its arguments.
+fn ready(program: &Program, config: &Config, words: &[u32]) -> Result<Ready, NoArguments>
+    ensures { (ms : List TypedModuleTree) (names : List (List ℕ)) (h : step.Here) → IsProgramOf program.now ms names → AreThread program.now.modules config.now h.config
+        → h.config.activations ≡ h.newest ∷ h.older → words.now ≡ h.words → Begins IsCall h.newest.todo
+        → IsReady (answer (around_in (env_of ms) h) (deed_of (sight_of (env_of ms) h) ((env_of ms).function h.newest.function).ret h.newest.todo)) (after true h.newest.todo) result }
+{
+    match newest(config) {
+        Some(frame) => {
+            let rows = rows_of(program.modules(), frame.unit, frame.place);
+            match first_call(rows, frame.todo.as_slice()) {
+                Some(called) => {
+                    let here = here_in(program, config, words, frame);
+                    evaluated(config.alloc, &here, &called)
+                }
+                None => Err(NoArguments::OfValue(NoResult::Stuck)),
+            }
+        }
+        None => Err(NoArguments::OfValue(NoResult::Stuck)),
+    }
+}
+
+// The step of a call.
+fn call(program: &Program, config: &mut Config, words: &[u32]) -> Result<Option<Act>, NoMemory>
+    requires { ∥ ((ms : List TypedModuleTree) × (names : List (List ℕ)) × (c : step.Config) × IsProgramOf program.now ms names × AreThread program.now.modules config.old c) ∥₁ }
+    ensures taken { IfOk result (λ done. (ms : List TypedModuleTree) (names : List (List ℕ)) (h : step.Here) (s : step.Step) → IsProgramOf program.now ms names
+        → AreThread program.now.modules config.old h.config → h.config.activations ≡ h.newest ∷ h.older → words.now ≡ h.words → Begins IsCall h.newest.todo
+        → step_here (env_of ms) h ≡ Some s → IsStep program.now.modules done config.new words.now s) }
+    ensures kept { OnErr result ((c : step.Config) → AreThread program.now.modules config.old c → AreThread program.now.modules config.new c) }
+{
+    declarations_agree();
+    let modules = program.modules();
+    match ready(program, config, words) {
+        Ok(ready) => {
+            let items = items_of(program, config);
+            match function_of(items, ready.item) {
+                Some(at) => {
+                    match config.enter(modules, at, ready.kept, ready.values.as_slice()) {
+                        Ok(done) => Ok(done),
+                        Err(_) => Err(NoMemory),
+                    }
+                }
+                None => Ok(None),
+            }
+        }
+        Err(why) => match why {
+            NoArguments::Memory => Err(NoMemory),
+            NoArguments::OfValue(why) => match why {
+                NoResult::Bad(why) => Ok(Some(Act::Bad(why))),
+                NoResult::Stuck => Ok(None),
+            },
+        },
+    }
+}
+
+/// The step of a thread: its act. None where there is no such step, as in no typed module.
+pub fn step_in(
+    program: &Program,
+    config: &mut Config,
+    words: &mut [u32],
+) -> Result<Option<Act>, NoMemory>
+    requires { ∥ ((ms : List TypedModuleTree) × (names : List (List ℕ)) × (c : step.Config) × IsProgramOf program.now ms names × AreThread program.now.modules config.old c) ∥₁ }
+    ensures taken { IfOk result (λ act. (ms : List TypedModuleTree) (names : List (List ℕ)) (h : step.Here) (s : step.Step) → IsProgramOf program.now ms names
+        → AreThread program.now.modules config.old h.config → h.config.activations ≡ h.newest ∷ h.older → words.old ≡ h.words
+        → step_here (env_of ms) h ≡ Some s → IsStep program.now.modules act config.new words.new s) }
+    ensures kept { OnErr result ((c : step.Config) → AreThread program.now.modules config.old c → AreThread program.now.modules config.new c) }
+    ensures words { OnErr result (words.new ≡ words.old) }
+    ensures calls { OnErr result ((ms : List TypedModuleTree) (names : List (List ℕ)) (h : step.Here) → IsProgramOf program.now ms names → AreThread program.now.modules config.old h.config
+        → h.config.activations ≡ h.newest ∷ h.older → words.old ≡ h.words → Begins IsCall h.newest.todo) }
+{
+    let modules = program.modules();
+    match first(program, config, words) {
+        Ok(first) => match first {
+            First::Does(deed) => {
+                let items = items_of(program, config);
+                Ok(config.take(modules, items, words, deed))
+            }
+            First::Jump => {
+                config.go_on(modules, true);
+                Ok(Some(Act::Quiet))
+            }
+            First::Call => match call(program, config, words) {
+                Ok(done) => Ok(done),
+                Err(_) => Err(NoMemory),
+            },
+        },
+        Err(why) => match why {
+            NoResult::Bad(why) => Ok(Some(Act::Bad(why))),
+            NoResult::Stuck => Ok(None),
+        },
+    }
+}

@@ -1,0 +1,156 @@
+//! Deeds done: what a step leaves of a thread and of the words.
+
+ghost use Rattle.std.specs.Prelude.{◌≡◌, ◌∷◌, ℕ, List, Some, None, option_map, slice_get, slice_set, true, false};
+ghost use Rattle.cas_base.specs.declared.act.Act.TheVariants as act;
+ghost use Rattle.cas_step.specs.Answered.{got};
+ghost use Rattle.cas_step.specs.Env.{Env};
+ghost use Rattle.cas_step.specs.Step as step;
+ghost use Rattle.cas_step.specs.Step.{step_doing};
+ghost use Rattle.cas_memory.specs.Entities.{entity_if, entity_of};
+ghost use Rattle.cas_thread.specs.Control.{after};
+ghost use Rattle.cas_thread.specs.Deeds.{deed_with};
+ghost use Rattle.cas_thread.specs.Frames.{IsAThread};
+ghost use Rattle.cas_thread.specs.Stepping.{IsStep, Stands, lock_word, shared_word};
+
+use crate::config::Config;
+use crate::deed::Deed;
+use cas_base::Act;
+use cas_memory::Entity;
+use cas_typed::Typed;
+
+/// What an item stands for.
+#[tactic(auto, using(crate::proofs::Getting::get_there, crate::proofs::Getting::get_past))]
+pub fn entity_at(items: &[Option<Entity>], item: u32) -> Option<Entity>
+    ensures { option_map entity_of result ≡ entity_if (slice_get items.now item) }
+{
+    match items.get(item as usize) {
+        Some(entity) => *entity,
+        None => None,
+    }
+}
+
+/// The word of the lock that an item is, if it is one.
+pub fn lock_of(items: &[Option<Entity>], item: u32) -> Option<u32>
+    ensures { result ≡ lock_word (entity_if (slice_get items.now item)) }
+{
+    match entity_at(items, item) {
+        Some(Entity::Lock(word)) => Some(word),
+        Some(Entity::Function { .. }) => None,
+        Some(Entity::Shared { .. }) => None,
+        Some(Entity::Table { .. }) => None,
+        None => None,
+    }
+}
+
+// The number of a word of the shared global that an item is, if it is one.
+fn number_of(items: &[Option<Entity>], item: u32, place: u32) -> Option<usize>
+    ensures { result ≡ shared_word (entity_if (slice_get items.now item)) place }
+{
+    match entity_at(items, item) {
+        Some(Entity::Shared { first, .. }) => Some(first as usize + place as usize),
+        Some(Entity::Function { .. }) => None,
+        Some(Entity::Lock(_)) => None,
+        Some(Entity::Table { .. }) => None,
+        None => None,
+    }
+}
+
+// Writes the word with this number, if there is one.
+fn put(words: &mut [u32], number: usize, word: u32)
+    ensures { words.new ≡ slice_set words.old number word }
+{
+    if number < words.len() {
+        words[number] = word;
+    }
+}
+
+impl Config {
+    // Writes a word at a place of the global that an item is, and goes on.
+    fn write(
+        &mut self,
+        modules: &[Typed],
+        items: &[Option<Entity>],
+        words: &mut [u32],
+        target: (u32, u32),
+        word: u32,
+    ) -> Option<Act>
+        requires { ∥ IsAThread modules.now self.old ∥₁ }
+        ensures { (e : Env) (h : step.Here) (rs : List ℕ) (s : step.Step) → Stands modules.now items.now self.old words.old e h
+            → step.global_step e h rs (step.entity_in e h target.0) target.1 word (after true h.newest.todo) ≡ Some s
+            → IsStep modules.now result self.new words.new s }
+    {
+        match number_of(items, target.0, target.1) {
+            Some(number) => {
+                put(words, number, word);
+                self.go_on(modules, true);
+                Some(Act::Quiet)
+            }
+            None => None,
+        }
+    }
+
+    // Goes on with an act on the lock that an item is.
+    fn locks(
+        &mut self,
+        modules: &[Typed],
+        items: &[Option<Entity>],
+        item: u32,
+        takes: bool,
+    ) -> Option<Act>
+        requires { ∥ IsAThread modules.now self.old ∥₁ }
+        ensures takes { (e : Env) (h : step.Here) (rs : List ℕ) (s : step.Step) (words : List ℕ) → takes ≡ true → Stands modules.now items.now self.old words e h
+            → step.lock_step e h rs (step.entity_in e h item) act.Lock (after true h.newest.todo) ≡ Some s
+            → IsStep modules.now result self.new words s }
+        ensures gives { (e : Env) (h : step.Here) (rs : List ℕ) (s : step.Step) (words : List ℕ) → takes ≡ false → Stands modules.now items.now self.old words e h
+            → step.lock_step e h rs (step.entity_in e h item) act.Unlock (after true h.newest.todo) ≡ Some s
+            → IsStep modules.now result self.new words s }
+    {
+        match lock_of(items, item) {
+            Some(word) => {
+                self.go_on(modules, true);
+                if takes {
+                    Some(Act::Lock(word))
+                } else {
+                    Some(Act::Unlock(word))
+                }
+            }
+            None => None,
+        }
+    }
+
+    /// Does a deed: the act of its step. None where it has no sense, as in no typed module.
+    pub fn take(
+        &mut self,
+        modules: &[Typed],
+        items: &[Option<Entity>],
+        words: &mut [u32],
+        deed: Deed,
+    ) -> Option<Act>
+        requires { ∥ IsAThread modules.now self.old ∥₁ }
+        ensures { (e : Env) (h : step.Here) (rs : List ℕ) (s : step.Step) → Stands modules.now items.now self.old words.old e h
+            → step_doing e h (got rs (deed_with (λ is. after is h.newest.todo) deed)) ≡ Some s
+            → IsStep modules.now result self.new words.new s }
+    {
+        match deed {
+            Deed::Goes(is) => {
+                self.go_on(modules, is);
+                Some(Act::Quiet)
+            }
+            Deed::Stores(object, place, value) => {
+                self.go_on(modules, true);
+                self.store(object, place, value);
+                Some(Act::Quiet)
+            }
+            Deed::Writes(item, place, word) => {
+                self.write(modules, items, words, (item, place), word)
+            }
+            Deed::Returns(value) => self.give_back(value),
+            Deed::Locks(item) => self.locks(modules, items, item, true),
+            Deed::Unlocks(item) => self.locks(modules, items, item, false),
+            Deed::Prints(word) => {
+                self.go_on(modules, true);
+                Some(Act::Out(word))
+            }
+        }
+    }
+}
