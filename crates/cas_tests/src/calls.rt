@@ -10,6 +10,9 @@ use std::thread::Threads;
 /// The words of a run of `m.c`.
 pub(crate) const RUN: [&str; 6] = ["run", "m.c", "--lock", "lock.s", "--threads", "w"];
 
+/// The words of a world of one thread of `m.c`.
+pub(crate) const WORLD: &[&str] = &["world", "m.c", "--threads", "w"];
+
 /// A name with its text, on the shelf of most calls.
 pub(crate) const LOCK: (&str, &str) = ("lock.s", "lock:\n");
 

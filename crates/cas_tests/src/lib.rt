@@ -8,4 +8,8 @@ mod owning_tests;
 #[cfg(test)]
 mod tests;
 #[cfg(test)]
+mod turns_tests;
+#[cfg(test)]
 mod typing_tests;
+#[cfg(test)]
+mod worlds_tests;

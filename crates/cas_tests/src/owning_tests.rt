@@ -708,11 +708,3 @@ fn lines_are_put_one_by_one(rt: HostRuntime) -> Result<(), Fail> {
     )?;
     Ok(())
 }
-
-#[test]
-fn commands_that_are_not_built_are_none(rt: HostRuntime) -> Result<(), Fail> {
-    let words = ["world", "m.c", "--threads", "w"];
-    let usage = wanted(2, "", "cascc: usage\n");
-    assert_words(&rt, rt.alloc(), &words, &[("m.c", SUM)], usage)?;
-    Ok(())
-}

@@ -31,6 +31,7 @@ end_of_put told c text before after old new (Ok done) is_text put same = ((text,
 end_of_put told c text before after old new (Err refusal.Unwritten) is_text put same = ((0, text, is_text, put), same)
 end_of_put told c text before after old new (Err refusal.Memory) is_text put same = (inr (0, text, is_text, put), same)
 end_of_put told c text before after old new (Err refusal.Usage) is_text put same = absurd put
+end_of_put told c text before after old new (Err (refusal.Unlinked line)) is_text put same = absurd put
 end_of_put told c text before after old new (Err (refusal.Unread n)) is_text put same = absurd put
 end_of_put told c text before after old new (Err (refusal.TooLong n)) is_text put same = absurd put
 end_of_put told c text before after old new (Err (refusal.Faulty n f)) is_text put same = absurd put
@@ -66,6 +67,7 @@ cause_of_shown told r source lock before after now (refusal.Faulty n f) first se
     (refusal_of_text told r source lock (module_line n.now f) first second shown, same, refl)
 cause_of_shown told r source lock before after now refusal.Memory first second same shown = (inl refl, same)
 cause_of_shown told r source lock before after now refusal.Usage first second same shown = absurd shown
+cause_of_shown told r source lock before after now (refusal.Unlinked line) first second same shown = absurd shown
 cause_of_shown told r source lock before after now (refusal.Unread n) first second same shown = absurd shown
 cause_of_shown told r source lock before after now (refusal.TooLong n) first second same shown = absurd shown
 cause_of_shown told r source lock before after now refusal.Unwritten first second same shown = absurd shown
@@ -88,6 +90,7 @@ cause_of_sources told names before after now (refusal.Unread n) h = (record { fi
 cause_of_sources told names before after now (refusal.TooLong n) h = (h.0, h.1, refl)
 cause_of_sources told names before after now refusal.Memory h = (inl refl, h)
 cause_of_sources told names before after now refusal.Usage h = absurd h
+cause_of_sources told names before after now (refusal.Unlinked line) h = absurd h
 cause_of_sources told names before after now (refusal.Faulty n f) h = absurd h
 cause_of_sources told names before after now refusal.Unwritten h = absurd h
 
@@ -118,6 +121,7 @@ cause_of_checked told names texts before after now (refusal.Faulty n f) read sam
     (record { texts = texts; read = read; plan = (refl, h) }, same, refl)
 cause_of_checked told names texts before after now refusal.Memory read same h = (inl refl, same)
 cause_of_checked told names texts before after now refusal.Usage read same h = absurd h
+cause_of_checked told names texts before after now (refusal.Unlinked line) read same h = absurd h
 cause_of_checked told names texts before after now (refusal.Unread n) read same h = absurd h
 cause_of_checked told names texts before after now (refusal.TooLong n) read same h = absurd h
 cause_of_checked told names texts before after now refusal.Unwritten read same h = absurd h
@@ -135,7 +139,7 @@ pub grows_by_none : (told : Told) (c : Option Command) (failed : List (List ℕ)
 grows_by_none told None failed status = refl
 grows_by_none told (Some c) failed status = inl refl
 
-pub other_status : (status answer : ℕ) → status < 4 ⊎ 9 < status → answer ≡ status → answer ≡ 4 → ⊥
+pub other_status : (status answer : ℕ) → status < 4 ⊎ 4 < status → answer ≡ status → answer ≡ 4 → ⊥
 other_status status answer (inl h) e f = omega arith
 other_status status answer (inr h) e f = omega arith
 
@@ -144,7 +148,7 @@ four_nine answer e f = omega arith
 
 -- the put of a refusal's line failed, and a first part of the line was taken
 pub untold : (status : ℕ) (line : List ℕ) (count now : ℕ) (old new : Taken) (answer : ℕ) →
-    status < 4 ⊎ 9 < status → IsTold status line count now old new answer → answer ≡ 4 → (count < now) × TakesPrefix old line new
+    status < 4 ⊎ 4 < status → IsTold status line count now old new answer → answer ≡ 4 → (count < now) × TakesPrefix old line new
 untold status line count now old new answer other (inl h) four = absurd (other_status status answer other h.0 four)
 untold status line count now old new answer other (inr (inl h)) four = (h.1, h.2)
 untold status line count now old new answer other (inr (inr h)) four = absurd (four_nine answer h.0 four)
@@ -170,6 +174,9 @@ unwritten_command told c before after out_old out_new puts puts_now (refusal.Too
 unwritten_command told c before after out_old out_new puts puts_now (refusal.Faulty name f) count now old new answer cause counts said four =
     let h = untold 1 _ count now old new answer (inl (omega arith)) said four in
     inr (cause.2, counts, (h.0, module_line name.now f, refused c 1 (module_line name.now f) cause.0, h.1))
+unwritten_command told c before after out_old out_new puts puts_now (refusal.Unlinked line) count now old new answer cause counts said four =
+    let h = untold 5 _ count now old new answer (inr (omega arith)) said four in
+    inr (cause.2, counts, (h.0, line, refused c 5 line cause.0, h.1))
 unwritten_command told c before after out_old out_new puts puts_now refusal.Unwritten count now old new answer cause counts said four = inl counts
 unwritten_command told c before after out_old out_new puts puts_now refusal.Memory count now old new answer cause counts said four = absurd (four_nine answer said.0 four)
 
@@ -180,6 +187,7 @@ unread_or_kept told c before after old new puts puts_now refusal.Usage cause cou
 unread_or_kept told c before after old new puts puts_now (refusal.Unread name) cause counts = inr (cause.1, counts)
 unread_or_kept told c before after old new puts puts_now (refusal.TooLong name) cause counts = inl cause.1
 unread_or_kept told c before after old new puts puts_now (refusal.Faulty name f) cause counts = inl cause.1
+unread_or_kept told c before after old new puts puts_now (refusal.Unlinked line) cause counts = inl cause.1
 unread_or_kept told c before after old new puts puts_now refusal.Unwritten cause counts = inl cause.1
 unread_or_kept told c before after old new puts puts_now refusal.Memory cause counts = inl cause.1
 
@@ -193,6 +201,7 @@ cut_of_cause told c before after old new refusal.Usage cause = absurd cause
 cut_of_cause told c before after old new (refusal.Unread name) cause = inl cause.1
 cut_of_cause told c before after old new (refusal.TooLong name) cause = inl cause.2
 cut_of_cause told c before after old new (refusal.Faulty name f) cause = inl cause.2
+cut_of_cause told c before after old new (refusal.Unlinked line) cause = inl cause.2
 cut_of_cause told c before after old new refusal.Unwritten cause = inr cause.0
 cut_of_cause told c before after old new refusal.Memory cause = cause.0
 
@@ -203,5 +212,6 @@ partly_of_cause told c before after old new puts puts_now refusal.Usage cause co
 partly_of_cause told c before after old new puts puts_now (refusal.Unread name) cause counts risen = absurd (not_risen puts puts_now counts risen)
 partly_of_cause told c before after old new puts puts_now (refusal.TooLong name) cause counts risen = absurd (not_risen puts puts_now counts risen)
 partly_of_cause told c before after old new puts puts_now (refusal.Faulty name f) cause counts risen = absurd (not_risen puts puts_now counts risen)
+partly_of_cause told c before after old new puts puts_now (refusal.Unlinked line) cause counts risen = absurd (not_risen puts puts_now counts risen)
 partly_of_cause told c before after old new puts puts_now refusal.Unwritten cause counts risen = cause.0
 partly_of_cause told c before after old new puts puts_now refusal.Memory cause counts risen = absurd (not_risen puts puts_now counts risen)

@@ -5,7 +5,11 @@ use Rattle.cas_top.specs.Answer.{IsRead, AreRead, IsFirstLong}
 use Rattle.cas_top.specs.Exclusion.{CausesExclude}
 use Rattle.cas_clight.specs.Tree.{ModuleTree}
 use Rattle.cas_parse.proofs.Texts.{one_module, no_module_and_fault}
-use Rattle.cas_command.specs.Words.{Command, Run, Wanted, run, check, world, wanted_texts}
+use Rattle.cas_command.specs.Words.{Command, Run, World, Wanted, run, check, world, wanted_texts}
+use Rattle.cas_program.specs.Program.{units_of}
+use Rattle.cas_settle.proofs.SettledLemmas.{none-settled}
+use Rattle.cas_settle.specs.Settle.{first_refusal}
+use Rattle.cas_settle.specs.declared.link.LinkFault.{LinkFault}
 use Rattle.cas_own.specs.Checked.{OwnFaultTree, own_fault, IsChecked, HasOwnFault}
 use Rattle.cas_syntax.specs.Tree as syntax
 use Rattle.cas_top.specs.First_form.{first_form, IsFirstForm}
@@ -14,6 +18,7 @@ use Rattle.cas_typed.specs.Faults.{Fault}
 use Rattle.cas_typed.specs.Modules.{IsTyped}
 use Rattle.cas_typed.specs.Resolved.{TypedModuleTree}
 use Rattle.cas_typed.specs.Walk.{HasTypeFault}
+use Rattle.cas_top.specs.Worlds.{AreCheckedModules, PrintsWorld, RefusesProgram}
 use Rattle.cas_top.specs.Plan.{prints, refuses, Plans, PrintsLines, IsCheckedText, AreChecked, RefusesText, RefusesFirst, misread, untyped, unowned, RefusesRun, faulty, formless}
 
 some_injective : (x y : List ℕ) → Some x ≡ Some y → x ≡ y
@@ -104,6 +109,45 @@ checked_and_first (n ∷ ns) [] line h k = absurd k
 checked_and_first (n ∷ ns) (t ∷ ts) line h (inl refused) = checked_and_refused n t line h.0 refused
 checked_and_first (n ∷ ns) (t ∷ ts) line h (inr later) = checked_and_first ns ts line h.1 later.1
 
+-- checked texts are of checked modules
+modules_checked : (texts : List (List ℕ)) (ms : List TypedModuleTree) → AreCheckedModules texts ms → AreChecked texts
+modules_checked [] ms h = tt
+modules_checked (t ∷ ts) [] h = absurd h
+modules_checked (t ∷ ts) (m ∷ ms) h = (
+  record {
+    read_module = h.0.read_module;
+    read = h.0.read;
+    resolved = m;
+    typed = h.0.typed;
+    checked = h.0.checked;
+  },
+  modules_checked ts ms h.1,
+)
+
+-- and their modules are one
+one_modules : (texts : List (List ℕ)) (ms ns : List TypedModuleTree) → AreCheckedModules texts ms → AreCheckedModules texts ns → ms ≡ ns
+one_modules [] [] [] h k = refl
+one_modules [] [] (n ∷ ns) h k = absurd k
+one_modules [] (m ∷ ms) ns h k = absurd h
+one_modules (t ∷ ts) [] ns h k = absurd h
+one_modules (t ∷ ts) (m ∷ ms) [] h k = absurd k
+one_modules (t ∷ ts) (m ∷ ms) (n ∷ ns) h k =
+    let same = one_module t h.0.read_module k.0.read_module h.0.read k.0.read in
+    let first = one_resolved h.0.read_module k.0.read_module m n same h.0.typed k.0.typed in
+    let others = one_modules ts ms ns h.1 k.1 in
+    ap (λ x. x ∷ ms) first ∙ ap (λ xs. n ∷ xs) others
+
+no_refusal : (o : Option LinkFault) (f : LinkFault) → o ≡ None → o ≡ Some f → ⊥
+no_refusal None f h k = cc
+no_refusal (Some g) f h k = cc
+
+-- a program isn't refused
+program_and_refused : (w : World) (texts lines : List (List ℕ)) (line : List ℕ) → PrintsWorld w texts lines → RefusesProgram w texts line → ⊥
+program_and_refused w texts lines line p r =
+    let P : List TypedModuleTree → Type 0 = λ ms. first_refusal (units_of ms) w.threads ≡ Some r.fault in
+    let there = subst P (one_modules texts r.modules p.modules r.read p.read) r.refused in
+    no_refusal (first_refusal (units_of p.modules) w.threads) r.fault (none-settled (units_of p.modules) w.threads p.program.settled) there
+
 -- on the same texts a command doesn't come to both
 pub one_plan : (c : Command) (texts lines : List (List ℕ)) (s t : ℕ) (line : List ℕ) → Plans c texts (prints s lines) → Plans c texts (refuses t line) → ⊥
 one_plan (run r) [] lines s t line h k = absurd h
@@ -111,13 +155,29 @@ one_plan (run r) (a ∷ []) lines s t line h k = absurd h
 one_plan (run r) (a ∷ b ∷ []) lines s t line h k = shown_and_refused r a lines line h.1 k.1
 one_plan (run r) (a ∷ b ∷ d ∷ rest) lines s t line h k = absurd h
 one_plan (check names) texts lines s t line h k = checked_and_first names texts line h.1 k.1
-one_plan (world w) texts lines s t line h k = absurd h
+one_plan (world w) texts lines s t line h (inl k) = checked_and_first w.names texts line (modules_checked texts h.1.modules h.1.read) k.1
+one_plan (world w) texts lines s t line h (inr k) = program_and_refused w texts lines line h.1 k.1
+
+-- nor to refusals of two statuses
+pub one_refusal : (c : Command) (texts : List (List ℕ)) (s t : ℕ) (line other : List ℕ) → Plans c texts (refuses s line) → Plans c texts (refuses t other) → s ≡ t
+one_refusal (run r) [] s t line other h k = absurd h
+one_refusal (run r) (a ∷ []) s t line other h k = absurd h
+one_refusal (run r) (a ∷ b ∷ []) s t line other h k = h.0 ∙ sym k.0
+one_refusal (run r) (a ∷ b ∷ d ∷ rest) s t line other h k = absurd h
+one_refusal (check names) texts s t line other h k = h.0 ∙ sym k.0
+one_refusal (world w) texts s t line other (inl h) (inl k) = h.0 ∙ sym k.0
+one_refusal (world w) texts s t line other (inl h) (inr k) = absurd (checked_and_first w.names texts line (modules_checked texts k.1.modules k.1.read) h.1)
+one_refusal (world w) texts s t line other (inr h) (inl k) = absurd (checked_and_first w.names texts other (modules_checked texts h.1.modules h.1.read) k.1)
+one_refusal (world w) texts s t line other (inr h) (inr k) = h.0 ∙ sym k.0
 
 pub causes_exclude : CausesExclude
 causes_exclude held c = record {
   refused = λ s t text line p r.
       let P : List (List ℕ) → Type 0 = λ ts. Plans c ts (refuses t line) in
       one_plan c p.texts p.lines s t line p.plan (subst P (one_list held (wanted_texts c) r.texts p.texts r.read p.read) r.plan);
+  refused_once = λ s t line other p r.
+      let P : List (List ℕ) → Type 0 = λ ts. Plans c ts (refuses t other) in
+      one_refusal c p.texts s t line other p.plan (subst P (one_list held (wanted_texts c) r.texts p.texts r.read p.read) r.plan);
   printed_long = λ s text name p l. read_and_long held (wanted_texts c) p.texts name p.read l;
   refused_long = λ s line name r l. read_and_long held (wanted_texts c) r.texts name r.read l;
 }

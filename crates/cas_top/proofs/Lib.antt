@@ -6,3 +6,7 @@ pub mod ReportLaws
 pub mod RunLaws
 pub mod SumLaws
 pub mod Taking
+pub mod World_ends
+pub mod Turning
+pub mod Turn_items
+pub mod Given_words

@@ -30,6 +30,7 @@ pub refused_source : (name text : List ℕ) (why : Refusal) → IsCheckedAs name
 refused_source name text (refusal.Faulty n f) h = h
 refused_source name text refusal.Memory h = tt
 refused_source name text refusal.Usage h = absurd h
+refused_source name text (refusal.Unlinked line) h = absurd h
 refused_source name text (refusal.Unread n) h = absurd h
 refused_source name text (refusal.TooLong n) h = absurd h
 refused_source name text refusal.Unwritten h = absurd h
@@ -39,6 +40,7 @@ pub refused_run : (r : Run) (text : List ℕ) (why : Refusal) → IsCheckedAs r.
 refused_run r text (refusal.Faulty n f) h = faulty (module_line n.now f) h
 refused_run r text refusal.Memory h = tt
 refused_run r text refusal.Usage h = absurd h
+refused_run r text (refusal.Unlinked line) h = absurd h
 refused_run r text (refusal.Unread n) h = absurd h
 refused_run r text (refusal.TooLong n) h = absurd h
 refused_run r text refusal.Unwritten h = absurd h
@@ -48,6 +50,7 @@ pub refused_lines : (names texts : List (List ℕ)) (why : Refusal) → AreAllCh
 refused_lines names texts (refusal.Faulty n f) h = h
 refused_lines names texts refusal.Memory h = tt
 refused_lines names texts refusal.Usage h = absurd h
+refused_lines names texts (refusal.Unlinked line) h = absurd h
 refused_lines names texts (refusal.Unread n) h = absurd h
 refused_lines names texts (refusal.TooLong n) h = absurd h
 refused_lines names texts refusal.Unwritten h = absurd h
@@ -76,6 +79,7 @@ checks_refused whole left after source (refusal.Faulty n f) h cons refused =
     (subst P cons h).first _ (inl refused)
 checks_refused whole left after source refusal.Memory h cons refused = tt
 checks_refused whole left after source refusal.Usage h cons refused = absurd refused
+checks_refused whole left after source (refusal.Unlinked line) h cons refused = absurd refused
 checks_refused whole left after source (refusal.Unread n) h cons refused = absurd refused
 checks_refused whole left after source (refusal.TooLong n) h cons refused = absurd refused
 checks_refused whole left after source refusal.Unwritten h cons refused = absurd refused
@@ -131,6 +135,7 @@ unread_one told names sources name left before after (refusal.Unread n) on h =
 unread_one told names sources name left before after (refusal.TooLong n) on h = (on.long n.now (inl (h.0, h.1)), h.2)
 unread_one told names sources name left before after refusal.Memory on h = h
 unread_one told names sources name left before after refusal.Usage on h = absurd h
+unread_one told names sources name left before after (refusal.Unlinked line) on h = absurd h
 unread_one told names sources name left before after (refusal.Faulty n f) on h = absurd h
 unread_one told names sources name left before after refusal.Unwritten on h = absurd h
 

@@ -127,9 +127,9 @@ IsUntold told c before after count now old new =
 abbrev pub IsPrinting : ℕ → Type 0
 IsPrinting status = status ≡ 0
 
--- the statuses of a command that its texts refused
+-- the statuses of a command that its texts refused: each by itself, or together as a program
 abbrev pub IsRefusing : ℕ → Type 0
-IsRefusing status = status ≡ 1
+IsRefusing status = (status ≡ 1) ⊎ (status ≡ 5)
 
 -- the statuses of a refusal of which `err` was told
 abbrev pub IsRefusalStatus : ℕ → Type 0

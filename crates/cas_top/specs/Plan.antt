@@ -6,7 +6,7 @@ use Rattle.cas_clight.specs.Step.{FunctionAt}
 use Rattle.cas_clight.specs.World.{World, IsFirstWorld, Interleaves, HasEnded}
 use Rattle.cas_base.specs.declared.place.Place.{Place}
 use Rattle.cas_lex.specs.declared.code.ReadCode.{ReadCode}
-use Rattle.cas_command.specs.Words.{Command, Run, run, check}
+use Rattle.cas_command.specs.Words.{Command, Run, run, check, world}
 use Rattle.cas_own.specs.Checked.{OwnFaultTree, IsChecked, HasOwnFault}
 use Rattle.cas_syntax.specs.Reading.{IsReadAs, HasReadFault}
 use Rattle.cas_syntax.specs.Tree as syntax
@@ -17,6 +17,7 @@ use Rattle.cas_typed.specs.Walk.{HasTypeFault}
 use Rattle.cas_top.specs.First_form.{first_form, IsFirstForm}
 use Rattle.cas_top.specs.Machine.{Report, IsItemsCode, RunsTo}
 use Rattle.cas_top.specs.Printed.{report_lines, fault_line, type_fault_line, own_fault_line, form_line, ok_line}
+use Rattle.cas_top.specs.Worlds.{PrintsWorld, RefusesProgram}
 use Rattle.cas_top.specs.declared.machine.End.{End}
 use Rattle.cas_top.specs.declared.machine.End.TheVariants.{Done}
 use Rattle.cas_top.specs.declared.machine.Instr.{Instr}
@@ -100,4 +101,7 @@ Plans (run r) (source ∷ lock ∷ []) (prints status lines) = (status ≡ 0) ×
 Plans (run r) (source ∷ lock ∷ []) (refuses status line) = (status ≡ 1) × RefusesRun r source line
 Plans (check names) texts (prints status lines) = (status ≡ 0) × AreChecked texts × (lines ≡ map ok_line names)
 Plans (check names) texts (refuses status line) = (status ≡ 1) × RefusesFirst names texts line
+Plans (world w) texts (prints status lines) = (status ≡ 0) × PrintsWorld w texts lines
+Plans (world w) texts (refuses status line) =
+    ((status ≡ 1) × RefusesFirst w.names texts line) ⊎ ((status ≡ 5) × RefusesProgram w texts line)
 Plans c texts plan = ⊥

@@ -1,12 +1,24 @@
 -- What the code's refusals and texts hold, as the definitions speak of them, and what its functions answer.
-use Rattle.std.specs.Prelude.{◌≡◌, ◌<◌, ◌⊎◌, ℕ, List, [], ◌∷◌, ◌++◌, map, Some, Result, Ok, Err, codes}
+use Rattle.std.specs.Prelude.{◌≡◌, ◌≢◌, ◌<◌, ◌≤◌, ◌⊎◌, ⊤, ℕ, true, List, [], ◌∷◌, ◌++◌, length, map, Some, Result, Ok, Err, codes}
+use Rattle.std.specs.List.{list_all}
 use Rattle.std.specs.declared.vec.Vec.{Vec}
 use Rattle.std.specs.declared.alloc.Global.{Global}
+use Rattle.cas_base.specs.Name.{is_name}
 use Rattle.cas_outside.specs.Shelf.{TellsLonger}
 use Rattle.cas_outside.specs.Sink.{TakesAll, TakesPrefix}
 use Rattle.cas_command.specs.Words as words
 use Rattle.cas_own.specs.Checked.{IsChecked}
 use Rattle.cas_own.specs.declared.checked.Checked.{Checked}
+use Rattle.cas_program.specs.Program.{env_of, units_of}
+use Rattle.cas_settle.specs.Settle.{first_refusal}
+use Rattle.cas_settle.specs.declared.link.LinkFault.{LinkFault}
+use Rattle.cas_settle.specs.declared.link.LinkFault.TheVariants as link
+use Rattle.cas_turn.specs.Joined.{typed_of}
+use Rattle.cas_whole.specs.Program_of.{IsProgramOf}
+use Rattle.cas_whole.specs.Whole.{AreTyped}
+use Rattle.cas_whole.specs.declared.program.Program.{Program}
+use Rattle.cas_world.specs.Races.{IsRaceFree, program_world}
+use Rattle.cas_top.specs.Worlds.{AreCheckedModules, link_fault_line, PrintsWorld, RefusesProgram}
 use Rattle.cas_top.specs.declared.refusal.ModuleFault.{ModuleFault}
 use Rattle.cas_top.specs.declared.refusal.ModuleFault.TheVariants as fault
 use Rattle.cas_top.specs.declared.refusal.Refusal.{Refusal}
@@ -117,6 +129,47 @@ AreOkLines names texts (Err (refusal.Faulty n f)) = RefusesFirst names texts (mo
 AreOkLines names texts (Err refusal.Memory) = Unit {0}
 AreOkLines names texts (Err other) = ⊥
 
+-- the functions of the threads are names, and there are few of them and of modules
+pub record IsWithin (w : words.World) : Type 0 where
+  pub named : list_all is_name w.threads ≡ true
+  pub few_threads : length w.threads ≤ 64
+  pub few_names : length w.names ≤ 64
+
+-- what the words of a command say of it
+abbrev pub IsGiven : words.Command → Type 0
+IsGiven (words.run r) = ⊤
+IsGiven (words.check names) = ⊤
+IsGiven (words.world w) = IsWithin w
+
+-- the checked modules that all texts of these names are read as, or why there are none
+abbrev pub AreModules : (names texts : List (List ℕ)) → Result (Vec Checked Global) Refusal → Type 0
+AreModules names texts (Ok modules) = (ms : List TypedModuleTree) × AreCheckedModules texts ms × AreTyped (typed_of modules.items) ms
+AreModules names texts (Err (refusal.Faulty n f)) = RefusesFirst names texts (module_line n.now f)
+AreModules names texts (Err refusal.Memory) = ⊤
+AreModules names texts (Err other) = ⊥
+
+-- the refusal of modules that are no program
+abbrev pub IsUnlinked : LinkFault → Refusal → Type 0
+IsUnlinked f (refusal.Unlinked line) = (f ≢ link.Memory) × (line ≡ link_fault_line f)
+IsUnlinked f refusal.Memory = ⊤
+IsUnlinked f other = ⊥
+
+-- the program of these modules, which is race-free, whose threads begin at the functions of these names, or why there is none
+abbrev pub IsJoined : List TypedModuleTree → (names : List (List ℕ)) → Result Program Refusal → Type 0
+IsJoined ms names (Ok made) = IsProgramOf made ms names × IsRaceFree (env_of ms) (program_world ms names)
+IsJoined ms names (Err (refusal.Unlinked line)) =
+    (f : LinkFault) × (first_refusal (units_of ms) names ≡ Some f) × (line ≡ link_fault_line f)
+IsJoined ms names (Err refusal.Memory) = ⊤
+IsJoined ms names (Err other) = ⊥
+
+-- the lines that `world` prints on these texts, or why it prints none
+abbrev pub IsWorldShown : words.World → (names texts : List (List ℕ)) → Result (Vec (List ℕ) Global) Refusal → Type 0
+IsWorldShown w names texts (Ok lines) = PrintsWorld w texts lines.items
+IsWorldShown w names texts (Err (refusal.Faulty n f)) = RefusesFirst names texts (module_line n.now f)
+IsWorldShown w names texts (Err (refusal.Unlinked line)) = RefusesProgram w texts line
+IsWorldShown w names texts (Err refusal.Memory) = ⊤
+IsWorldShown w names texts (Err other) = ⊥
+
 -- why the work of a command ended so: the shelf's failed names and what `out` took, before and after
 abbrev pub IsCause : Told → words.Command → (before after : List (List ℕ)) → (old new : Taken) → Refusal → Type 0
 IsCause told c before after old new refusal.Usage = ⊥
@@ -125,6 +178,7 @@ IsCause told c before after old new (refusal.TooLong name) =
     IsFirstLong told (words.wanted_texts c) name.now × (after ≡ before) × (new ≡ old)
 IsCause told c before after old new (refusal.Faulty name f) =
     IsRefusal told c 1 (module_line name.now f) × (after ≡ before) × (new ≡ old)
+IsCause told c before after old new (refusal.Unlinked line) = IsRefusal told c 5 line × (after ≡ before) × (new ≡ old)
 IsCause told c before after old new refusal.Unwritten = IsPartly told (Some c) old new × (after ≡ before)
 IsCause told c before after old new refusal.Memory = IsCut told (Some c) old new × (after ≡ before)
 
@@ -156,3 +210,4 @@ IsSaid refusal.Usage before now old new answer = IsTold 2 (line_of (codes "cascc
 IsSaid (refusal.Unread name) before now old new answer = IsTold 3 (line_of (codes "cascc: cannot read " ++ name.now)) before now old new answer
 IsSaid (refusal.TooLong name) before now old new answer = IsTold 12 (line_of (codes "cascc: too long " ++ name.now)) before now old new answer
 IsSaid (refusal.Faulty name f) before now old new answer = IsTold 1 (module_line name.now f) before now old new answer
+IsSaid (refusal.Unlinked line) before now old new answer = IsTold 5 line before now old new answer

@@ -3,10 +3,9 @@
 ghost use Rattle.std.specs.Prelude.{◌≡◌, ◌≤◌, Some, length};
 ghost use Rattle.std.specs.List.{concat};
 ghost use Rattle.cas_command.specs.Parts.{texts};
-ghost use Rattle.cas_command.specs.View.{command_view, run_view};
-ghost use Rattle.cas_command.specs.Words.{check, run, source_limit};
-ghost use Rattle.cas_top.specs.Built.{built};
-ghost use Rattle.cas_top.specs.View.{IsEnd, Counts, IsPutLines, IsShown};
+ghost use Rattle.cas_command.specs.View.{command_view, run_view, world_view};
+ghost use Rattle.cas_command.specs.Words.{check, run, world, source_limit};
+ghost use Rattle.cas_top.specs.View.{IsEnd, IsGiven, IsWithin, Counts, IsPutLines, IsShown};
 
 use crate::checking::checked_lines;
 use crate::first_form::first_form;
@@ -14,19 +13,20 @@ use crate::modules::checked_module;
 use crate::outcome::lines_of;
 use crate::reading::{fetch, fetch_all};
 use crate::refusal::{ModuleFault, Refusal};
+use crate::worlds::turned_lines;
 use cas_base::{NoMemory, Text};
-use cas_command::{Command, Run, source_text};
+use cas_command::{Command, Run, World, source_text};
 use cas_outside::{Shelf, Sink, SinkFault};
 use std::alloc::Global;
 
-/// Does the work of a command that is built.
+/// Does the work of a command.
 pub(crate) fn perform<'a, S: Shelf, O: Sink>(
     alloc: Global,
     command: Command<'a>,
     shelf: &mut S,
     out: &mut O,
 ) -> Result<(), Refusal<'a>>
-    requires { built (command_view command) ≡ Some (command_view command) }
+    requires { IsGiven (command_view command) }
     ensures end { IsEnd (S.texts shelf.old) (command_view command.entry) (S.failed shelf.old) (S.failed shelf.new) (O.taken out.old) (O.taken out.new) result }
     ensures counted { Counts (O.faults out.old) (O.faults out.new) result }
     ensures same_texts { S.texts shelf.new ≡ S.texts shelf.old }
@@ -34,7 +34,7 @@ pub(crate) fn perform<'a, S: Shelf, O: Sink>(
     match command {
         Command::Run(given) => perform_run(alloc, given, shelf, out),
         Command::Check(names) => perform_check(alloc, &names, shelf, out),
-        Command::World(_) => unreachable!(),
+        Command::World(given) => perform_world(alloc, given, shelf, out),
     }
 }
 
@@ -54,6 +54,29 @@ fn perform_check<'a, S: Shelf, O: Sink>(
         Err(refusal) => return Err(refusal),
     };
     let lines = match checked_lines(alloc, sources.as_slice()) {
+        Ok(lines) => lines,
+        Err(refusal) => return Err(refusal),
+    };
+    put_lines(out, lines.as_slice())
+}
+
+// Reads the modules, lets threads of their program take turns, and puts the lines of the world that these come to.
+fn perform_world<'a, S: Shelf, O: Sink>(
+    alloc: Global,
+    given: World<'a>,
+    shelf: &mut S,
+    out: &mut O,
+) -> Result<(), Refusal<'a>>
+    requires { IsWithin (world_view given) }
+    ensures end { IsEnd (S.texts shelf.old) (world (world_view given.entry)) (S.failed shelf.old) (S.failed shelf.new) (O.taken out.old) (O.taken out.new) result }
+    ensures counted { Counts (O.faults out.old) (O.faults out.new) result }
+    ensures same_texts { S.texts shelf.new ≡ S.texts shelf.old }
+{
+    let sources = match fetch_all(alloc, shelf, &given.names) {
+        Ok(sources) => sources,
+        Err(refusal) => return Err(refusal),
+    };
+    let lines = match turned_lines(alloc, sources.as_slice(), &given) {
         Ok(lines) => lines,
         Err(refusal) => return Err(refusal),
     };

@@ -14,5 +14,7 @@ mod reading;
 mod refusal;
 mod source;
 mod top;
+mod world_lines;
+mod worlds;
 
 pub use top::cascc;

@@ -22,8 +22,8 @@ pub(crate) fn report_lines(alloc: Global, report: &Report) -> Result<Vec<Text>, 
     Ok(lines)
 }
 
-// A line for each output.
-fn output_lines(alloc: Global, out: &[(u32, u32)]) -> Result<Vec<Text>, NoMemory>
+/// A line for each output.
+pub(crate) fn output_lines(alloc: Global, out: &[(u32, u32)]) -> Result<Vec<Text>, NoMemory>
     ensures { IfOk result (λ lines. lines.items ≡ map out_line out.now) }
 {
     let mut lines = Vec::new(alloc);

@@ -6,7 +6,7 @@ ghost use Rattle.cas_top.specs.Printed.{line_of};
 ghost use Rattle.cas_top.specs.View.{module_line, IsSaid, IsTold};
 
 use crate::printed::module_line;
-use cas_base::{Name, NoMemory, Place};
+use cas_base::{Name, NoMemory, Place, Text};
 use cas_outside::{Sink, SinkFault};
 use cas_own::OwnCode;
 use cas_read::ReadCode;
@@ -45,6 +45,8 @@ pub(crate) enum Refusal<'a> {
     TooLong(&'a str),
     /// The module of this name is refused.
     Faulty(&'a str, ModuleFault),
+    /// The modules and threads are no program: this is the line that says so.
+    Unlinked(Text),
     /// A put on `out` failed.
     Unwritten,
     /// Want of memory.
@@ -60,6 +62,7 @@ pub(crate) fn refuse<E: Sink>(alloc: Global, err: &mut E, refusal: Refusal) -> u
         Refusal::Unread(name) => say_name(alloc, err, "cascc: cannot read ", name, 3),
         Refusal::TooLong(name) => say_name(alloc, err, "cascc: too long ", name, 12),
         Refusal::Faulty(name, fault) => say_fault(alloc, err, name, fault),
+        Refusal::Unlinked(line) => say(err, line.as_str().as_bytes(), 5),
         Refusal::Unwritten => try_line(err, b"cascc: cannot write\n", UNWRITTEN),
         Refusal::Memory => try_line(err, b"cascc: memory\n", OUT_OF_MEMORY),
     }

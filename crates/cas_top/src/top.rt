@@ -1,11 +1,12 @@
 //! The top call.
 
-ghost use Rattle.std.specs.Prelude.{◌≡◌, ◌<◌, ◌⊎◌, IfOk, IfSome, Some, codes};
-ghost use Rattle.std.specs.Option.{option_and_then, option_map};
+ghost use Rattle.std.specs.Prelude.{◌≡◌, ◌<◌, ◌⊎◌, IfOk, IfSome, codes};
+ghost use Rattle.std.specs.Option.{option_map};
 ghost use Rattle.cas_top.specs.Answer.{IsPrinted, IsRefused, IsMisused, IsUnread, IsTooLong, IsCut, IsPartly, IsTried, IsUntold, GrowsBy, IsPrinting, IsRefusing, IsRefusalStatus, IsStatus};
 ghost use Rattle.cas_top.specs.Printed.{line_of};
-ghost use Rattle.cas_top.specs.Built.{built, command_of};
+ghost use Rattle.cas_top.specs.View.{IsGiven};
 ghost use Rattle.cas_command.specs.View.{command_view};
+ghost use Rattle.cas_command.specs.Words.{command_of};
 
 use crate::answer::perform;
 use crate::refusal::{Refusal, refuse};
@@ -23,13 +24,14 @@ use std::thread::Threads;
 /// |---|---|
 /// | 0 | the command's text was put whole |
 /// | 1 | the first module text that isn't checked has a fault, R1 to R8, or its module one of typing, T1 to T8, or of ownership, O1 to O8, told with its place; or `run`'s module is checked but isn't of the first form, or its function isn't the thread's (`R0`) |
-/// | 2 | the words give no command that is built |
+/// | 2 | the words give no command |
 /// | 3 | a name's text couldn't be read |
 /// | 4 | a put failed |
+/// | 5 | the modules of `world` are checked, but with its threads they are no program, L1 to L5 |
 /// | 9 | want of memory |
 /// | 12 | a text is longer than its limit |
 ///
-/// The causes of 0, 1, 2 and 12 exclude each other where the shelf tells its texts (`laws::causes_exclude`), and
+/// The causes of 0, 1, 2, 5 and 12 exclude each other where the shelf tells its texts (`laws::causes_exclude`), and
 /// no other status comes but 3, 4 and 9: so each of them comes exactly where its cause holds, but for a read or a
 /// put that failed and for want of memory.
 pub fn cascc<R: Threads + Sync, S: Shelf, O: Sink, E: Sink, G: Gate>(
@@ -42,11 +44,12 @@ pub fn cascc<R: Threads + Sync, S: Shelf, O: Sink, E: Sink, G: Gate>(
     _gate: &G,
 ) -> u8
     // The text that `out` took: of `check`, a line for each module; of `run`, that of an ended run of the machine on
-    // the code that is generated for the module, and of an interleaving of the module in which the thread has ended.
+    // the code that is generated for the module, and of an interleaving of the module in which the thread has ended; of
+    // `world`, that of the world that the turns come to, of a program that is race-free.
     ensures printed { IsPrinting result →
         IsPrinted (S.texts shelf.old) (command_of words.now) result (O.taken out.old) (O.taken out.new) }
 
-    // A refusal by a module's text, by the words, by a read that failed, and by a text's length. `err` took the
+    // A refusal by a module's text or the program, by the words, by a read that failed, and by a text's length. `err` took the
     // line that says so.
     ensures refused { IsRefusing result →
         IsRefused (S.texts shelf.old) (command_of words.now) result (E.taken err.old) (E.taken err.new) }
@@ -85,7 +88,7 @@ pub fn cascc<R: Threads + Sync, S: Shelf, O: Sink, E: Sink, G: Gate>(
 
     ensures known { IsStatus result }
 {
-    match built_command(alloc, words) {
+    match given_command(alloc, words) {
         Ok(Some(command)) => match perform(alloc, command, shelf, out) {
             Ok(()) => 0,
             Err(refusal) => refuse(alloc, err, refusal),
@@ -95,23 +98,10 @@ pub fn cascc<R: Threads + Sync, S: Shelf, O: Sink, E: Sink, G: Gate>(
     }
 }
 
-// The command of these words, where they are one's that is built.
-fn built_command(alloc: Global, words: &[Text]) -> Result<Option<Command<'_>>, NoMemory>
+// The command of these words, where they are one's.
+fn given_command(alloc: Global, words: &[Text]) -> Result<Option<Command<'_>>, NoMemory>
     ensures given { IfOk result (λ command. option_map command_view command ≡ command_of words.entry.now) }
-    ensures is_built { IfOk result (λ command. IfSome command (λ c. built (command_view c) ≡ Some (command_view c))) }
+    ensures within { IfOk result (λ command. IfSome command (λ c. IsGiven (command_view c))) }
 {
-    Ok(built(command_of(alloc, words)?))
-}
-
-// The command, where it is built.
-fn built(command: Option<Command<'_>>) -> Option<Command<'_>>
-    ensures given { option_map command_view result ≡ option_and_then built (option_map command_view command.entry) }
-    ensures is_built { IfSome result (λ c. built (command_view c) ≡ Some (command_view c)) }
-{
-    match command {
-        Some(Command::Run(run)) => Some(Command::Run(run)),
-        Some(Command::Check(names)) => Some(Command::Check(names)),
-        Some(Command::World(_)) => None,
-        None => None,
-    }
+    command_of(alloc, words)
 }

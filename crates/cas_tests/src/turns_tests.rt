@@ -1,0 +1,640 @@
+//! What `world` answers of the turns of several threads, and which modules and threads are no program. The wanted lines are those that
+//! the rules of the language and of the command give (`docs/LANGUAGE.md`, `docs/COMMANDS.md`).
+
+use crate::calls::{
+    Answer, CANNOT_WRITE, Given, WORLD, assert_answer, assert_words, repeated, wanted,
+};
+use std::alloc::{AllocError, Global};
+use std::process::Abort;
+use std::test::Fail;
+use std::thread::Threads;
+
+// Two locks that two threads take in two orders, and a global of one of them.
+const CROSSED: &str =
+    "lock K; lock L; shared(L) int g; void rising(int me) { lock(K); lock(L); g += 1; unlock(L); unlock(K); } void falling(int me) { lock(L); lock(K); g += 2; unlock(K); print(g); unlock(L); }";
+
+const TALK: &str = "void w(int me) { print(me + 41); }";
+
+const SPEAK: &str = "void w(int me) { print(1); print(2); print(3); }";
+
+const SELF_LOCKED: &str =
+    "lock L; void g(void) { lock(L); unlock(L); } void w(int me) { lock(L); g(); unlock(L); }";
+
+const BAD_HOLDER: &str =
+    "lock L; shared(L) int g; void w(int me) { lock(L); g = 1 / me; unlock(L); }";
+
+// 64 threads of one function.
+const MANY: &str =
+    "w,w,w,w,w,w,w,w,w,w,w,w,w,w,w,w,w,w,w,w,w,w,w,w,w,w,w,w,w,w,w,w,w,w,w,w,w,w,w,w,w,w,w,w,w,w,w,w,w,w,w,w,w,w,w,w,w,w,w,w,w,w,w,w";
+
+// What each of them puts out in the first round, and where it stands then.
+const MANY_LINES: &str = "0 0
+1 1
+2 2
+3 3
+4 4
+5 5
+6 6
+7 7
+8 8
+9 9
+10 10
+11 11
+12 12
+13 13
+14 14
+15 15
+16 16
+17 17
+18 18
+19 19
+20 20
+21 21
+22 22
+23 23
+24 24
+25 25
+26 26
+27 27
+28 28
+29 29
+30 30
+31 31
+32 32
+33 33
+34 34
+35 35
+36 36
+37 37
+38 38
+39 39
+40 40
+41 41
+42 42
+43 43
+44 44
+45 45
+46 46
+47 47
+48 48
+49 49
+50 50
+51 51
+52 52
+53 53
+54 54
+55 55
+56 56
+57 57
+58 58
+59 59
+60 60
+61 61
+62 62
+63 63
+thread 0 running
+thread 1 running
+thread 2 running
+thread 3 running
+thread 4 running
+thread 5 running
+thread 6 running
+thread 7 running
+thread 8 running
+thread 9 running
+thread 10 running
+thread 11 running
+thread 12 running
+thread 13 running
+thread 14 running
+thread 15 running
+thread 16 running
+thread 17 running
+thread 18 running
+thread 19 running
+thread 20 running
+thread 21 running
+thread 22 running
+thread 23 running
+thread 24 running
+thread 25 running
+thread 26 running
+thread 27 running
+thread 28 running
+thread 29 running
+thread 30 running
+thread 31 running
+thread 32 running
+thread 33 running
+thread 34 running
+thread 35 running
+thread 36 running
+thread 37 running
+thread 38 running
+thread 39 running
+thread 40 running
+thread 41 running
+thread 42 running
+thread 43 running
+thread 44 running
+thread 45 running
+thread 46 running
+thread 47 running
+thread 48 running
+thread 49 running
+thread 50 running
+thread 51 running
+thread 52 running
+thread 53 running
+thread 54 running
+thread 55 running
+thread 56 running
+thread 57 running
+thread 58 running
+thread 59 running
+thread 60 running
+thread 61 running
+thread 62 running
+thread 63 running
+";
+
+// Modules with the functions of their threads, the option of turns, and what is printed.
+const TURNS: &[(&str, &str, &[&str], &str)] = &[
+    (
+        TALK,
+        "w,w",
+        &["--schedule", "1,0,0,1"],
+        "1 42\n0 41\nthread 0 ended\nthread 1 ended\n",
+    ),
+    (
+        TALK,
+        "w,w",
+        &["--schedule", "1"],
+        "1 42\nthread 0 running\nthread 1 running\n",
+    ),
+    (
+        TALK,
+        "w,w",
+        &["--schedule=1*2"],
+        "1 42\nthread 0 running\nthread 1 ended\n",
+    ),
+    (
+        TALK,
+        "w,w",
+        &["--schedule", "1*9,0*9999991"],
+        "1 42\n0 41\nthread 0 ended\nthread 1 ended\n",
+    ),
+    (
+        TALK,
+        "w,w",
+        &[],
+        "0 41\n1 42\nthread 0 ended\nthread 1 ended\n",
+    ),
+    (
+        TALK,
+        "w,w",
+        &["--rounds", "0"],
+        "thread 0 running\nthread 1 running\n",
+    ),
+    (
+        TALK,
+        "w,w",
+        &["--rounds", "1"],
+        "0 41\n1 42\nthread 0 running\nthread 1 running\n",
+    ),
+    (
+        TALK,
+        "w,w",
+        &["--rounds=2"],
+        "0 41\n1 42\nthread 0 ended\nthread 1 ended\n",
+    ),
+    (
+        TALK,
+        "w,w,w",
+        &["--schedule", "2,1*2"],
+        "2 43\n1 42\nthread 0 running\nthread 1 ended\nthread 2 running\n",
+    ),
+    (
+        SPEAK,
+        "w",
+        &["--rounds", "2"],
+        "0 1\n0 2\nthread 0 running\n",
+    ),
+    (
+        SPEAK,
+        "w",
+        &["--rounds", "3"],
+        "0 1\n0 2\n0 3\nthread 0 running\n",
+    ),
+    (
+        SPEAK,
+        "w",
+        &["--rounds", "4"],
+        "0 1\n0 2\n0 3\nthread 0 ended\n",
+    ),
+    (
+        SPEAK,
+        "w",
+        &["--rounds", "1000000"],
+        "0 1\n0 2\n0 3\nthread 0 ended\n",
+    ),
+    (
+        "void w(int me) { while (1) { me++; } }",
+        "w",
+        &[],
+        "thread 0 running\n",
+    ),
+    (
+        "void w(int me) { while (1) { me++; } }",
+        "w,w",
+        &["--schedule", "0*1000,1*0001"],
+        "thread 0 running\nthread 1 running\n",
+    ),
+    (
+        "void w(int me) { print(me); }",
+        MANY,
+        &["--rounds", "1"],
+        MANY_LINES,
+    ),
+    (
+        CROSSED,
+        "rising,falling",
+        &["--schedule", "0,1"],
+        "thread 0 waits L holder 1\nthread 1 waits K holder 0\n",
+    ),
+    (
+        CROSSED,
+        "rising,falling",
+        &[],
+        "thread 0 waits L holder 1\nthread 1 waits K holder 0\n",
+    ),
+    (
+        CROSSED,
+        "rising,falling",
+        &["--schedule", "1*3,0*2,1*4,0*9"],
+        "1 2\nthread 0 ended\nthread 1 ended\n",
+    ),
+    (
+        CROSSED,
+        "rising,falling",
+        &["--schedule", "0*6,1*7"],
+        "1 3\nthread 0 ended\nthread 1 ended\n",
+    ),
+    (
+        CROSSED,
+        "falling,falling",
+        &["--schedule", "1*2,0*5,1*3"],
+        "1 2\nthread 0 waits L holder 1\nthread 1 running\n",
+    ),
+    (
+        CROSSED,
+        "rising,rising",
+        &["--schedule", "0,1*3"],
+        "thread 0 running\nthread 1 waits K holder 0\n",
+    ),
+    (SELF_LOCKED, "w", &[], "thread 0 waits L holder 0\n"),
+    (
+        SELF_LOCKED,
+        "w,w",
+        &["--schedule", "1*9,0*9"],
+        "thread 0 waits L holder 1\nthread 1 waits L holder 1\n",
+    ),
+    (
+        BAD_HOLDER,
+        "w,w",
+        &[],
+        "thread 0 bad division by zero m.c:1:52\nthread 1 waits L holder 0\n",
+    ),
+    (
+        BAD_HOLDER,
+        "w,w",
+        &["--schedule", "1*4,0*2"],
+        "thread 0 bad division by zero m.c:1:52\nthread 1 ended\n",
+    ),
+    (
+        "void v(int me) { print(1); } void w(int me) { print(me / 0); print(2); }",
+        "w,v,w",
+        &[],
+        "1 1\nthread 0 bad division by zero m.c:1:47\nthread 1 ended\nthread 2 bad division by zero m.c:1:47\n",
+    ),
+];
+
+// Words that aren't those of `world`.
+const MISUSED: &[&[&str]] = &[
+    &["world", "m.c"],
+    &["world", "--threads", "w"],
+    &["world", "m.c", "--threads", ""],
+    &["world", "m.c", "--threads", "w,"],
+    &["world", "m.c", "--threads", ",w"],
+    &["world", "m.c", "--threads", "w, w"],
+    &["world", "m.c", "--threads", "2w"],
+    &["world", "m.c", "--threads", "w", "--threads", "w"],
+    &["world", "m.c", "--threads", "w", "--rounds", "1000001"],
+    &["world", "m.c", "--threads", "w", "--rounds", "00000000001"],
+    &["world", "m.c", "--threads", "w", "--rounds", "+1"],
+    &["world", "m.c", "--threads", "w", "--rounds", ""],
+    &[
+        "world",
+        "m.c",
+        "--threads",
+        "w",
+        "--rounds",
+        "1",
+        "--rounds",
+        "1",
+    ],
+    &[
+        "world",
+        "m.c",
+        "--threads",
+        "w",
+        "--rounds",
+        "1",
+        "--schedule",
+        "0",
+    ],
+    &["world", "m.c", "--threads", "w", "--schedule", ""],
+    &["world", "m.c", "--threads", "w", "--schedule", "1"],
+    &["world", "m.c", "--threads", "w", "--schedule", "0,"],
+    &["world", "m.c", "--threads", "w", "--schedule", "0*0"],
+    &["world", "m.c", "--threads", "w", "--schedule", "0*"],
+    &["world", "m.c", "--threads", "w", "--schedule", "*1"],
+    &["world", "m.c", "--threads", "w", "--schedule", "0*1*1"],
+    &["world", "m.c", "--threads", "w", "--schedule", "r0"],
+    &["world", "m.c", "--threads", "w", "--schedule", "0*10000001"],
+    &[
+        "world",
+        "m.c",
+        "--threads",
+        "w",
+        "--schedule",
+        "0*10000000,0",
+    ],
+    &[
+        "world",
+        "m.c",
+        "--threads",
+        "w,w,w,w,w,w,w,w,w,w,w,w,w,w,w,w,w,w,w,w,w,w,w,w,w,w,w,w,w,w,w,w,w,w,w,w,w,w,w,w,w,w,w,w,w,w,w,w,w,w,w,w,w,w,w,w,w,w,w,w,w,w,w,w,w",
+    ],
+    &["world", "m.c", "--threads", "w", "--lock", "lock.s"],
+    &["world", "m.c", "--threads", "w", "--fuel", "1"],
+    &["world", "-m.c", "--threads", "w"],
+    &["world", "-", "--threads", "w"],
+];
+
+// Texts of `a.c` and `b.c`, the functions of their threads, and the line that refuses them.
+const UNLINKED: &[(&str, &str, &str, &str)] = &[
+    ("", "", "w", "L1 w"),
+    (TALK, "", "w,v,u", "L1 v"),
+    ("extern lock K; lock M;", TALK, "w", "L1 K"),
+    (TALK, "void f(int a);", "w", "L1 f"),
+    ("int f(int a);", "int g(int a); extern lock L;", "w", "L1 f"),
+    (TALK, TALK, "w", "L2 w"),
+    ("lock L; lock K;", "lock K; lock L;", "w", "L2 K"),
+    ("extern lock K; lock w;", "void w(int me) { }", "v", "L2 w"),
+    (
+        "lock L; lock M; shared(L) int g;",
+        "extern lock M; extern shared(M) int g; void w(int me) { lock(M); g = 1; unlock(M); }",
+        "w",
+        "L3 g: shared g int L | shared g int M",
+    ),
+    (
+        "lock L; lock g;",
+        "extern lock L; extern shared(L) int g;",
+        "w",
+        "L3 g: lock g | shared g int L",
+    ),
+    (
+        "extern const char t[4];",
+        "const char t[3] = {1};",
+        "w",
+        "L3 t: const t i8[3] | const t i8[4]",
+    ),
+    (
+        "lock L; shared(L) unsigned char c[2];",
+        "extern lock L; extern shared(L) unsigned short c[2];",
+        "w",
+        "L3 c: shared c u8[2] L | shared c u16[2] L",
+    ),
+    (
+        "lock L; int f(int a, unsigned *p) holds(L) { return 1; }",
+        "extern lock L; int f(int a) holds(L);",
+        "w",
+        "L3 f: function f int 2 int unsigned* 1 L | function f int 1 int 1 L",
+    ),
+    (
+        "lock L; lock M; void f(void) holds(L, M) { }",
+        "extern lock L; void f(void) holds(L); extern lock N;",
+        "w",
+        "L3 f: function f void 0 2 L M | function f void 0 1 L",
+    ),
+    (
+        "lock L; void f(void) holds(L) { }",
+        "short *f(void);",
+        "w",
+        "L3 f: function f void 0 1 L | function f i16* 0 0",
+    ),
+    (
+        "int f(int a) { return a; }",
+        TALK,
+        "w,f,v",
+        "L4 f: function f int 1 int 0",
+    ),
+    ("void f(void) { }", TALK, "f", "L4 f: function f void 0 0"),
+    (
+        "void f(unsigned a) { }",
+        TALK,
+        "f",
+        "L4 f: function f void 1 unsigned 0",
+    ),
+    (
+        "lock L; void f(int a) holds(L) { }",
+        TALK,
+        "f",
+        "L4 f: function f void 1 int 1 L",
+    ),
+    ("lock L;", TALK, "w,L", "L4 L: lock L"),
+    (
+        "lock L; shared(L) int g[65535];",
+        "extern lock L; shared(L) int h; void w(int me) { }",
+        "w",
+        "L5 words 65537",
+    ),
+    (
+        "lock L; shared(L) int g[65535];",
+        "extern lock L; shared(L) int h;",
+        "w",
+        "L1 w",
+    ),
+];
+
+// Texts of `a.c` and `b.c` that are a program, and what its world of one thread prints.
+const LINKED: &[(&str, &str, &str)] = &[
+    (
+        "lock L; shared(L) int count; void bump(void) { lock(L); count += 1; unlock(L); }",
+        "extern lock L; extern shared(L) int count; void bump(void); void w(int me) { int i; for (i = 0; i < 1000; i++) { bump(); } lock(L); print(count); unlock(L); }",
+        "0 1000\nthread 0 ended\n",
+    ),
+    (
+        "lock L; lock M; void f(void) holds(L, M) { print(7); }",
+        "extern lock L; extern lock M; void f(void) holds(M, L); void w(int me) { lock(L); lock(M); f(); unlock(L); unlock(M); }",
+        "0 7\nthread 0 ended\n",
+    ),
+    (
+        "lock L; shared(L) int g[65534];",
+        "extern lock L; shared(L) int h; void w(int me) { lock(L); h = 3; print(h); unlock(L); }",
+        "0 3\nthread 0 ended\n",
+    ),
+    (
+        "int f(int a) { return 1 / a; }",
+        "int f(int a); void w(int me) { me = f(me); }",
+        "thread 0 bad division by zero a.c:1:16\n",
+    ),
+    (
+        "void f(int a) { }",
+        "void f(int a); void w(int me) { f(1 / me); }",
+        "thread 0 bad division by zero b.c:1:33\n",
+    ),
+    (
+        "lock K; lock L; void f(void) { lock(L); unlock(L); }",
+        "extern lock L; void f(void); void w(int me) { lock(L); f(); unlock(L); }",
+        "thread 0 waits L holder 0\n",
+    ),
+    (
+        "const int t[2] = {8, 9};",
+        "extern const int t[2]; extern const int t[2]; void w(int me) { print(t[1]); }",
+        "0 9\nthread 0 ended\n",
+    ),
+];
+
+#[test]
+fn threads_take_turns(rt: HostRuntime) -> Result<(), Fail> {
+    let alloc = rt.alloc();
+    for (text, threads, options, out) in TURNS {
+        let mut words = Vec::from_slice(alloc, &["world", "m.c", "--threads", threads])?;
+        words.extend_from_slice(options)?;
+        let texts = [("m.c", *text)];
+        assert_words(&rt, alloc, words.as_slice(), &texts, wanted(0, out, ""))?;
+    }
+    for words in MISUSED {
+        let usage = wanted(2, "", "cascc: usage\n");
+        assert_words(&rt, alloc, words, &[("m.c", TALK)], usage)?;
+    }
+    Ok(())
+}
+
+#[test]
+fn modules_are_joined(rt: HostRuntime) -> Result<(), Fail> {
+    let alloc = rt.alloc();
+    for (first, second, threads, line) in UNLINKED {
+        let words = ["world", "a.c", "b.c", "--threads", *threads];
+        let err = format!(in alloc; "cascc: {line}\n")?;
+        let texts = [("a.c", *first), ("b.c", *second)];
+        assert_words(&rt, alloc, &words, &texts, wanted(5, "", err.as_str()))?;
+    }
+    for (first, second, out) in LINKED {
+        let words = ["world", "--threads", "w", "a.c", "b.c"];
+        let texts = [("a.c", *first), ("b.c", *second)];
+        assert_words(&rt, alloc, &words, &texts, wanted(0, out, ""))?;
+    }
+    Ok(())
+}
+
+// A module of so many locks, and a function of a thread.
+fn locks(alloc: Global, count: u32) -> Result<String, AllocError> {
+    let mut text = String::from_str(alloc, "void w(int me) { }")?;
+    for number in 0..count {
+        let lock = format!(in alloc; " lock l{number};")?;
+        text.push_str(lock.as_str())?;
+    }
+    Ok(text)
+}
+
+#[test]
+fn locks_are_counted(rt: HostRuntime) -> Result<(), Fail> {
+    let alloc = rt.alloc();
+    let few = locks(alloc, 256)?;
+    let ended = wanted(0, "thread 0 ended\n", "");
+    assert_words(&rt, alloc, WORLD, &[("m.c", few.as_str())], ended)?;
+    let many = locks(alloc, 257)?;
+    let refused = wanted(5, "", "cascc: L5 locks 257\n");
+    assert_words(&rt, alloc, WORLD, &[("m.c", many.as_str())], refused)?;
+    Ok(())
+}
+
+#[test]
+fn worlds_have_checked_modules(rt: HostRuntime) -> Result<(), Fail> {
+    let alloc = rt.alloc();
+    let rows = [
+        (TALK, "@", wanted(1, "", "b.c:1:1: R1\n")),
+        ("lock", TALK, wanted(1, "", "a.c:1:5: R6\n")),
+        (TALK, "lock K; lock K;", wanted(1, "", "b.c:1:14: T2 K\n")),
+        (
+            TALK,
+            "lock K; void w(int a) { lock(K); }",
+            wanted(1, "", "b.c:1:34: O5 K\n"),
+        ),
+        (
+            "lock K; void v(int a) { lock(K); }",
+            "@",
+            wanted(1, "", "a.c:1:34: O5 K\n"),
+        ),
+    ];
+    for (first, second, answer) in rows {
+        let texts = [("a.c", first), ("b.c", second)];
+        let words = ["world", "a.c", "b.c", "--threads", "w"];
+        assert_words(&rt, alloc, &words, &texts, answer)?;
+    }
+    let texts = [
+        ("-a", "int f(int a) { return 1 / a; }"),
+        ("b c", "int f(int a); void w(int me) { me = f(me); }"),
+    ];
+    let words = ["world", "--threads=w", "--", "-a", "b c"];
+    let bad = wanted(0, "thread 0 bad division by zero -a:1:16\n", "");
+    assert_words(&rt, alloc, &words, &texts, bad)?;
+    Ok(())
+}
+
+// `world a.c b.c --threads w` with this text of `b.c`, where these reads, puts on `out` and puts on `err` fail.
+fn assert_failing<R: Abort + Threads + Sync>(
+    rt: &R,
+    alloc: Global,
+    text: &str,
+    failing: [&[u64]; 3],
+    wanted: Answer,
+) -> Result<(), AllocError> {
+    let [reads, outs, errs] = failing;
+    let given = Given {
+        words: &["world", "a.c", "b.c", "--threads", "w"],
+        texts: &[("a.c", "lock K;"), ("b.c", text)],
+        reads,
+        outs,
+        errs,
+    };
+    assert_answer(rt, alloc, given, wanted)
+}
+
+#[test]
+fn lines_of_worlds_are_put_one_by_one(rt: HostRuntime) -> Result<(), Fail> {
+    let alloc = rt.alloc();
+    let whole = wanted(0, "0 1\n0 2\n0 3\nthread 0 ended\n", "");
+    assert_failing(&rt, alloc, SPEAK, [&[3], &[5], &[1]], whole)?;
+    assert_failing(
+        &rt,
+        alloc,
+        SPEAK,
+        [&[], &[1], &[2]],
+        wanted(4, "", CANNOT_WRITE),
+    )?;
+    let most = wanted(4, "0 1\n0 2\n0 3\n", CANNOT_WRITE);
+    assert_failing(&rt, alloc, SPEAK, [&[], &[4], &[2]], most)?;
+    let unread = wanted(3, "", "cascc: cannot read b.c\n");
+    assert_failing(&rt, alloc, "@", [&[2], &[1], &[2]], unread)?;
+    let refused = wanted(5, "", "cascc: L2 K\n");
+    assert_failing(&rt, alloc, "lock K;", [&[3], &[1], &[2]], refused)?;
+    assert_failing(&rt, alloc, "lock K;", [&[], &[], &[1]], wanted(4, "", ""))?;
+    let too_long = repeated(alloc, " ", 1_048_577)?;
+    let long = wanted(12, "", "cascc: too long b.c\n");
+    assert_failing(&rt, alloc, too_long.as_str(), [&[3], &[1], &[2]], long)?;
+    Ok(())
+}
