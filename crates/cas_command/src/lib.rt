@@ -4,8 +4,6 @@
 mod command;
 mod options;
 mod parts;
-#[cfg(test)]
-mod tests;
 mod values;
 mod words;
 

@@ -19,6 +19,3 @@ pub use fault::LexFault;
 pub use lexing::lex;
 pub use place::end_of;
 pub use token::{Sign, Token, TokenKind, Word};
-
-#[cfg(test)]
-mod tests;

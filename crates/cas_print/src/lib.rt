@@ -11,6 +11,3 @@ mod print;
 mod stmt;
 
 pub use print::print_module;
-
-#[cfg(test)]
-mod tests;

@@ -11,8 +11,6 @@ mod held;
 mod item;
 mod param;
 mod read;
-#[cfg(test)]
-mod tests;
 mod values;
 
 pub use cas_lex::ReadCode;

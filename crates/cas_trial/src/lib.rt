@@ -5,8 +5,6 @@
 mod joining;
 mod laws;
 mod tailing;
-#[cfg(test)]
-mod tests;
 mod threads;
 
 pub use joining::{Apart, Joined, Joining, join, joined_weighs_less, threads_join, units_join};

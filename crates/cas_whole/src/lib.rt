@@ -11,8 +11,6 @@ pub mod laws;
 mod names;
 mod program;
 mod roster;
-#[cfg(test)]
-mod tests;
 mod words;
 
 pub use body::Body;

@@ -1,4 +1,7 @@
-use crate::{Apart, Relaying, join, relay};
+//! What the passes of the trial make.
+
+use cas_trial::{Apart, Relaying, join, relay};
+use std::process::Abort;
 
 // Each call that may answer want of memory, once with ample memory: it gives another answer.
 #[test]

@@ -1,7 +1,7 @@
 //! Rows of texts, each with its tokens or its first fault.
 
-use super::*;
 use cas_base::Place;
+use cas_lex::{LexFault, Sign, TokenKind, Word, end_of, lex};
 use std::alloc::{AllocError, Global};
 use std::fmt::Write;
 use std::process::Abort;

@@ -1,7 +1,7 @@
 //! Rows of texts, each with the number of its items or its first fault.
 
-use super::*;
 use cas_base::Place;
+use cas_read::{ReadFault, read_module};
 use std::alloc::{AllocError, Global};
 use std::fmt::Write;
 use std::process::Abort;

@@ -1,6 +1,8 @@
-use super::*;
+//! Programs of no modules.
+
 use cas_base::Name;
 use cas_settle::LinkFault;
+use cas_whole::{Program, initial_words};
 use std::process::Abort;
 use std::test::Fail;
 

@@ -1,8 +1,7 @@
 //! Words, and the commands that they give by the rules of words.
 
-use crate::command::{Command, Turns, World};
-use crate::words::command_of;
 use cas_base::Text;
+use cas_command::{Command, Turns, World, command_of};
 use std::alloc::Global;
 use std::fmt::Write;
 use std::process::Abort;
