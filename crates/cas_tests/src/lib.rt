@@ -6,6 +6,8 @@ mod calls;
 #[cfg(test)]
 mod owning_tests;
 #[cfg(test)]
+mod stepping_tests;
+#[cfg(test)]
 mod tests;
 #[cfg(test)]
 mod turns_tests;
