@@ -1,129 +1,172 @@
 // Worked values from C's rules. A negative number is its word: -1 is 4294967295, -2147483648 is 2147483648.
 use super::*;
 
-#[test]
-fn sums_differences_and_products_wrap(rt: HostRuntime) {
-    let sums = [
-        (0, 0, 0),
-        (1, 41, 42),
-        (2147483647, 1, 2147483648),
-        (2147483648, 2147483648, 0),
-        (4294967295, 1, 0),
-        (4294967295, 4294967295, 4294967294),
-    ];
-    for (a, b, sum) in sums {
-        assert_eq!(rt; add(a, b), sum, "{a} + {b}");
-    }
-    let differences = [
-        (5, 3, 2),
-        (3, 5, 4294967294),
-        (0, 1, 4294967295),
-        (0, 0, 0),
-        (2147483648, 1, 2147483647),
-        (0, 2147483648, 2147483648),
-        (4294967295, 4294967295, 0),
-    ];
-    for (a, b, difference) in differences {
-        assert_eq!(rt; sub(a, b), difference, "{a} - {b}");
-    }
-    let products = [
-        (0, 4294967295, 0),
-        (123456789, 10, 1234567890),
-        (4294967289, 3, 4294967275),
-        (4294967295, 4294967295, 1),
-        (65536, 65536, 0),
-        (2147483647, 2, 4294967294),
-        (2147483648, 2, 0),
-    ];
-    for (a, b, product) in products {
-        assert_eq!(rt; mul(a, b), product, "{a} * {b}");
+#[derive(Clone, Copy, Debug)]
+enum Operator {
+    Sum,
+    Difference,
+    Product,
+    ShiftLeft,
+    ShiftRight,
+    ShiftRightSigned,
+    SignedQuotient,
+    SignedRemainder,
+    Quotient,
+    Remainder,
+}
+
+fn applied(operator: Operator, a: u32, b: u32) -> Option<u32> {
+    match operator {
+        Operator::Sum => Some(add(a, b)),
+        Operator::Difference => Some(sub(a, b)),
+        Operator::Product => Some(mul(a, b)),
+        Operator::ShiftLeft => Some(shl(a, b)),
+        Operator::ShiftRight => Some(shr(a, b)),
+        Operator::ShiftRightSigned => Some(sar(a, b)),
+        Operator::SignedQuotient => div_signed(a, b),
+        Operator::SignedRemainder => rem_signed(a, b),
+        Operator::Quotient => div_unsigned(a, b),
+        Operator::Remainder => rem_unsigned(a, b),
     }
 }
 
-#[test]
-fn shifts_go_by_the_count_modulo_32(rt: HostRuntime) {
-    let left = [
-        (5, 0, 5),
-        (1, 31, 2147483648),
-        (1, 32, 1),
-        (1, 33, 2),
-        (3, 31, 2147483648),
-        (4294967295, 1, 4294967294),
-        (1, 4294967295, 2147483648),
-    ];
-    for (a, b, shifted) in left {
-        assert_eq!(rt; shl(a, b), shifted, "{a} << {b}");
-    }
-    let right = [
-        (7, 1, 3),
-        (4294967288, 1, 2147483644),
-        (4294967295, 31, 1),
-        (2147483648, 31, 1),
-        (2147483648, 32, 2147483648),
-        (4294967295, 33, 2147483647),
-    ];
-    for (a, b, shifted) in right {
-        assert_eq!(rt; shr(a, b), shifted, "{a} >> {b}");
-    }
-    let right_signed = [
-        (7, 1, 3),
-        (4294967288, 1, 4294967292),
-        (4294967289, 1, 4294967292),
-        (4294967295, 31, 4294967295),
-        (2147483648, 31, 4294967295),
-        (2147483648, 1, 3221225472),
-        (2147483647, 31, 0),
-        (2147483647, 1, 1073741823),
-        (2147483648, 32, 2147483648),
-        (4294967295, 4294967295, 4294967295),
-    ];
-    for (a, b, shifted) in right_signed {
-        assert_eq!(rt; sar(a, b), shifted, "{a} >> {b} by sign");
-    }
-}
+// Sums, differences and products wrap; shifts go by the count modulo 32; signed division rounds toward zero.
+const ROWS: &[(Operator, u32, u32, Option<u32>)] = &[
+    (Operator::Sum, 0, 0, Some(0)),
+    (Operator::Sum, 1, 41, Some(42)),
+    (Operator::Sum, 2147483647, 1, Some(2147483648)),
+    (Operator::Sum, 2147483648, 2147483648, Some(0)),
+    (Operator::Sum, 4294967295, 1, Some(0)),
+    (Operator::Sum, 4294967295, 4294967295, Some(4294967294)),
+    (Operator::Difference, 5, 3, Some(2)),
+    (Operator::Difference, 3, 5, Some(4294967294)),
+    (Operator::Difference, 0, 1, Some(4294967295)),
+    (Operator::Difference, 0, 0, Some(0)),
+    (Operator::Difference, 2147483648, 1, Some(2147483647)),
+    (Operator::Difference, 0, 2147483648, Some(2147483648)),
+    (Operator::Difference, 4294967295, 4294967295, Some(0)),
+    (Operator::Product, 0, 4294967295, Some(0)),
+    (Operator::Product, 123456789, 10, Some(1234567890)),
+    (Operator::Product, 4294967289, 3, Some(4294967275)),
+    (Operator::Product, 4294967295, 4294967295, Some(1)),
+    (Operator::Product, 65536, 65536, Some(0)),
+    (Operator::Product, 2147483647, 2, Some(4294967294)),
+    (Operator::Product, 2147483648, 2, Some(0)),
+    (Operator::ShiftLeft, 5, 0, Some(5)),
+    (Operator::ShiftLeft, 1, 31, Some(2147483648)),
+    (Operator::ShiftLeft, 1, 32, Some(1)),
+    (Operator::ShiftLeft, 1, 33, Some(2)),
+    (Operator::ShiftLeft, 3, 31, Some(2147483648)),
+    (Operator::ShiftLeft, 4294967295, 1, Some(4294967294)),
+    (Operator::ShiftLeft, 1, 4294967295, Some(2147483648)),
+    (Operator::ShiftRight, 7, 1, Some(3)),
+    (Operator::ShiftRight, 4294967288, 1, Some(2147483644)),
+    (Operator::ShiftRight, 4294967295, 31, Some(1)),
+    (Operator::ShiftRight, 2147483648, 31, Some(1)),
+    (Operator::ShiftRight, 2147483648, 32, Some(2147483648)),
+    (Operator::ShiftRight, 4294967295, 33, Some(2147483647)),
+    (Operator::ShiftRightSigned, 7, 1, Some(3)),
+    (Operator::ShiftRightSigned, 4294967288, 1, Some(4294967292)),
+    (Operator::ShiftRightSigned, 4294967289, 1, Some(4294967292)),
+    (Operator::ShiftRightSigned, 4294967295, 31, Some(4294967295)),
+    (Operator::ShiftRightSigned, 2147483648, 31, Some(4294967295)),
+    (Operator::ShiftRightSigned, 2147483648, 1, Some(3221225472)),
+    (Operator::ShiftRightSigned, 2147483647, 31, Some(0)),
+    (Operator::ShiftRightSigned, 2147483647, 1, Some(1073741823)),
+    (Operator::ShiftRightSigned, 2147483648, 32, Some(2147483648)),
+    (
+        Operator::ShiftRightSigned,
+        4294967295,
+        4294967295,
+        Some(4294967295),
+    ),
+    (Operator::SignedQuotient, 7, 2, Some(3)),
+    (Operator::SignedRemainder, 7, 2, Some(1)),
+    (Operator::SignedQuotient, 4294967289, 2, Some(4294967293)),
+    (Operator::SignedRemainder, 4294967289, 2, Some(4294967295)),
+    (Operator::SignedQuotient, 7, 4294967294, Some(4294967293)),
+    (Operator::SignedRemainder, 7, 4294967294, Some(1)),
+    (Operator::SignedQuotient, 4294967289, 4294967294, Some(3)),
+    (
+        Operator::SignedRemainder,
+        4294967289,
+        4294967294,
+        Some(4294967295),
+    ),
+    (Operator::SignedQuotient, 0, 4294967295, Some(0)),
+    (Operator::SignedRemainder, 0, 4294967295, Some(0)),
+    (Operator::SignedQuotient, 4294967290, 3, Some(4294967294)),
+    (Operator::SignedRemainder, 4294967290, 3, Some(0)),
+    (Operator::SignedQuotient, 1, 2147483648, Some(0)),
+    (Operator::SignedRemainder, 1, 2147483648, Some(1)),
+    (
+        Operator::SignedQuotient,
+        2147483647,
+        4294967295,
+        Some(2147483649),
+    ),
+    (Operator::SignedRemainder, 2147483647, 4294967295, Some(0)),
+    (
+        Operator::SignedQuotient,
+        2147483649,
+        4294967295,
+        Some(2147483647),
+    ),
+    (Operator::SignedRemainder, 2147483649, 4294967295, Some(0)),
+    (Operator::SignedQuotient, 2147483648, 1, Some(2147483648)),
+    (Operator::SignedRemainder, 2147483648, 1, Some(0)),
+    (Operator::SignedQuotient, 2147483648, 2, Some(3221225472)),
+    (Operator::SignedRemainder, 2147483648, 2, Some(0)),
+    (
+        Operator::SignedQuotient,
+        2147483648,
+        2147483647,
+        Some(4294967295),
+    ),
+    (
+        Operator::SignedRemainder,
+        2147483648,
+        2147483647,
+        Some(4294967295),
+    ),
+    (Operator::SignedQuotient, 2147483648, 2147483648, Some(1)),
+    (Operator::SignedRemainder, 2147483648, 2147483648, Some(0)),
+    (Operator::SignedQuotient, 2147483648, 4294967295, None),
+    (Operator::SignedRemainder, 2147483648, 4294967295, None),
+    (Operator::SignedQuotient, 2147483648, 0, None),
+    (Operator::SignedRemainder, 2147483648, 0, None),
+    (Operator::SignedQuotient, 0, 0, None),
+    (Operator::SignedRemainder, 0, 0, None),
+    (Operator::Quotient, 7, 2, Some(3)),
+    (Operator::Remainder, 7, 2, Some(1)),
+    (Operator::Quotient, 4294967295, 2, Some(2147483647)),
+    (Operator::Remainder, 4294967295, 2, Some(1)),
+    (Operator::Quotient, 4294967289, 4, Some(1073741822)),
+    (Operator::Remainder, 4294967289, 4, Some(1)),
+    (Operator::Quotient, 4294967295, 1, Some(4294967295)),
+    (Operator::Remainder, 4294967295, 1, Some(0)),
+    (Operator::Quotient, 4294967295, 4294967295, Some(1)),
+    (Operator::Remainder, 4294967295, 4294967295, Some(0)),
+    (Operator::Quotient, 2147483648, 4294967295, Some(0)),
+    (
+        Operator::Remainder,
+        2147483648,
+        4294967295,
+        Some(2147483648),
+    ),
+    (Operator::Quotient, 4294967295, 10, Some(429496729)),
+    (Operator::Remainder, 4294967295, 10, Some(5)),
+    (Operator::Quotient, 4294967295, 0, None),
+    (Operator::Remainder, 4294967295, 0, None),
+    (Operator::Quotient, 0, 0, None),
+    (Operator::Remainder, 0, 0, None),
+];
 
 #[test]
-fn signed_division_rounds_toward_zero(rt: HostRuntime) {
-    let table = [
-        (7, 2, Some((3, 1))),
-        (4294967289, 2, Some((4294967293, 4294967295))),
-        (7, 4294967294, Some((4294967293, 1))),
-        (4294967289, 4294967294, Some((3, 4294967295))),
-        (0, 4294967295, Some((0, 0))),
-        (4294967290, 3, Some((4294967294, 0))),
-        (1, 2147483648, Some((0, 1))),
-        (2147483647, 4294967295, Some((2147483649, 0))),
-        (2147483649, 4294967295, Some((2147483647, 0))),
-        (2147483648, 1, Some((2147483648, 0))),
-        (2147483648, 2, Some((3221225472, 0))),
-        (2147483648, 2147483647, Some((4294967295, 4294967295))),
-        (2147483648, 2147483648, Some((1, 0))),
-        (2147483648, 4294967295, None),
-        (2147483648, 0, None),
-        (0, 0, None),
-    ];
-    for (a, b, parts) in table {
-        assert_eq!(rt; div_signed(a, b), parts.map(|parts| parts.0), "{a} / {b}");
-        assert_eq!(rt; rem_signed(a, b), parts.map(|parts| parts.1), "{a} % {b}");
-    }
-}
-
-#[test]
-fn unsigned_division_rounds_down(rt: HostRuntime) {
-    let table = [
-        (7, 2, Some((3, 1))),
-        (4294967295, 2, Some((2147483647, 1))),
-        (4294967289, 4, Some((1073741822, 1))),
-        (4294967295, 1, Some((4294967295, 0))),
-        (4294967295, 4294967295, Some((1, 0))),
-        (2147483648, 4294967295, Some((0, 2147483648))),
-        (4294967295, 10, Some((429496729, 5))),
-        (4294967295, 0, None),
-        (0, 0, None),
-    ];
-    for (a, b, parts) in table {
-        assert_eq!(rt; div_unsigned(a, b), parts.map(|parts| parts.0), "{a} / {b}");
-        assert_eq!(rt; rem_unsigned(a, b), parts.map(|parts| parts.1), "{a} % {b}");
+fn operators_have_their_values(rt: HostRuntime) {
+    for (operator, a, b, value) in ROWS {
+        let found = applied(*operator, *a, *b);
+        assert_eq!(rt; found, *value, "{operator:?} of {a} and {b}");
     }
 }
 
