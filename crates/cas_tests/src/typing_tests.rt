@@ -130,6 +130,7 @@ const TYPES: &[(&str, &str)] = &[
     ("void w(int me) { int a[0]; }", "m.c:1:22: T3"),
     ("const int t[0];", "m.c:1:11: T3 t"),
     ("const int t[1] = { 1, 2 };", "m.c:1:11: T3 t"),
+    ("lock L; shared(L) int a[1] = { 7, 8 };", "m.c:1:23: T3 a"),
     (
         "void f(int a); int f(int a) { return a; }",
         "m.c:1:20: T3 f",

@@ -8,6 +8,15 @@ use std::test::Fail;
 const MODULES: &[(&str, &str)] = &[
     // No statement.
     ("void w(int me) { }", "thread 0 ended\n"),
+    // A name goes back to the local that was hidden, behind each block.
+    (
+        "void w(int me) { int x = 1; { int y = 2; int *x = &y; { char x = 3; print(x); } print(*x); { int y = 4; int z = y; print(z); } print(y); } print(x); }",
+        "0 3\n0 2\n0 4\n0 2\n0 1\nthread 0 ended\n",
+    ),
+    (
+        "void w(int me) { int y = 0; { int y = 1; { int y = 2; { int y = 3; print(y); } print(y); } print(y); int x = 9; print(x); } print(y); }",
+        "0 3\n0 2\n0 1\n0 9\n0 0\nthread 0 ended\n",
+    ),
     // Places on later lines.
     (
         "void w(int me) {\n  int x; int d;\n  x = -2147483647 - 1; d = -1;\n  print(x / d); }",
