@@ -1,5 +1,5 @@
 -- Where the code evaluates is where the newest activation does.
-use Rattle.std.proofs.Common.{◌≡◌, ℕ, Bool, List, [], ◌∷◌, Option, Result, refl, sym, ap, subst, ◌∙◌}
+use Rattle.std.proofs.Common.{◌≡◌, ℕ, List, [], ◌∷◌, Option, Result, ap, subst, ◌∙◌}
 use Rattle.std.proofs.Math.Path.{fun_ext}
 use Rattle.cas_base.specs.declared.kind.Ty.{Ty}
 use Rattle.cas_typed.specs.declared.rows.StmtRow.{StmtRow}
@@ -42,3 +42,10 @@ first_frame ts f rest (b ∷ bs) older a are is = let same : b ≡ a = cc is in 
 
 pub newest_frame : (ts : List Typed) (xs rest : List Frame) (f : Frame) (all older : List Activation) (a : Activation) → xs ≡ f ∷ rest → AreFrames ts xs all → all ≡ a ∷ older → IsFrame ts f a
 newest_frame ts xs rest f all older a first are is = first_frame ts f rest all older a (subst (λ fs. AreFrames ts fs all) first are) is
+
+first_is_there : (ts : List Typed) (f : Frame) (rest : List Frame) (all : List Activation) → AreFrames ts (f ∷ rest) all → all ≡ [] → ⊥
+first_is_there ts f rest [] are is = are
+first_is_there ts f rest (a ∷ older) are is = cc is
+
+pub none_newest : (ts : List Typed) (xs rest : List Frame) (f : Frame) (all : List Activation) → xs ≡ f ∷ rest → AreFrames ts xs all → all ≡ [] → ⊥
+none_newest ts xs rest f all first are is = first_is_there ts f rest all (subst (λ fs. AreFrames ts fs all) first are) is

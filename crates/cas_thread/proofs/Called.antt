@@ -1,5 +1,5 @@
 -- What evaluating a call answers.
-use Rattle.std.proofs.Common.{◌≡◌, ℕ, true, List, [], ◌∷◌, map, Option, Some, None, Result, Ok, Err, refl, sym, ap, subst, ◌∙◌}
+use Rattle.std.proofs.Common.{◌≡◌, ℕ, true, List, [], ◌∷◌, map, Option, Some, None, Ok, Err, refl, sym, ap, subst, ◌∙◌}
 use Rattle.cas_base.specs.declared.kind.Ty.{Ty}
 use Rattle.cas_typed.specs.declared.tree.Destination.{Destination}
 use Rattle.cas_typed.specs.Resolved.{TypedExprTree, TypedStmtTree, TypedStmtOption, call, absent, present, typed_expr_tree}
@@ -7,7 +7,6 @@ use Rattle.cas_step.specs.Asks.{Asks, Value, and_then, gives}
 use Rattle.cas_step.specs.Evaluate.{Sight, values_of}
 use Rattle.cas_step.specs.Items.{Todo, Deed, begin, begun, loop, next, calls, deed_of, statement_deed}
 use Rattle.cas_step.specs.Step.{Object}
-use Rattle.cas_memory.specs.Values.{value_of}
 use Rattle.cas_eval.specs.Answer.{Around, answer, sight}
 use Rattle.cas_eval.specs.declared.values.NoResult.{NoResult}
 use Rattle.cas_eval.proofs.Answering.{answer_then, answer_gives, then_}

@@ -1,5 +1,5 @@
 -- The step of the definition, by what evaluating the first item answers.
-use Rattle.std.proofs.Common.{◌≡◌, ℕ, true, List, [], ◌∷◌, Option, Some, None, Result, Ok, Err, refl, sym, ap, subst, ◌∙◌}
+use Rattle.std.proofs.Common.{◌≡◌, ℕ, true, List, [], ◌∷◌, Option, Some, None, Result, Ok, Err, ap, subst, ◌∙◌}
 use Rattle.std.specs.Prelude.{slice_get}
 use Rattle.cas_base.specs.declared.act.Act.TheVariants as act
 use Rattle.cas_base.specs.declared.act.Why.{Why}

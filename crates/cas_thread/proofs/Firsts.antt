@@ -1,5 +1,5 @@
 -- What comes first in statements that evaluate, by their rows.
-use Rattle.std.proofs.Common.{◌≡◌, ℕ, Bool, true, List, [], ◌∷◌, Option, Some, None, Result, Ok, Err, refl, sym, ap, subst, ◌∙◌}
+use Rattle.std.proofs.Common.{◌≡◌, ℕ, Bool, true, List, [], ◌∷◌, Option, Some, None, Result, Ok, Err, sym, ap, subst, ◌∙◌}
 use Rattle.cas_base.specs.declared.place.Place.{Place}
 use Rattle.cas_step.specs.Asks.{and_then, gives, word_in}
 use Rattle.cas_step.specs.Evaluate.{either, target_of, value_of}

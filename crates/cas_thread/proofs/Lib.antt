@@ -18,3 +18,5 @@ pub mod Once
 pub mod Acts_of
 pub mod Locked
 pub mod Lock_acts
+pub mod Printed
+pub mod Print_acts

@@ -11,7 +11,7 @@ use Rattle.cas_step.specs.Env.{Env, Entity, function, outside, shared, table}
 use Rattle.cas_step.specs.Env as env
 use Rattle.cas_step.specs.Evaluate.{Sight, Cell, of_object, of_global, either, target_of, test_of, value_of, values_of}
 use Rattle.cas_step.specs.Items.{Todo, Deed, begin, begun, loop, next, after_break, after_continue, begin_all, begin_part, calls, chooses, deed_of, fallen, goes_on, into, jumps, locks, prints, returned, returns, statement_deed, stores, unlocks, writes}
-use Rattle.cas_step.specs.Step.{Activation, Block, Config, Here, Object, Step, bad_step, call_step, cells_at, entity_in, global_step, goes_step, lock_step, memory_keeping, memory_without, return_step, return_to, sight_of, step, step_doing, step_here, step_of, step_to, store_step, thread_with, word_step, write_step, doing, memory_with, with_call}
+use Rattle.cas_step.specs.Step.{Activation, Block, Here, Object, Step, bad_step, call_step, cells_at, entity_in, global_step, goes_step, lock_step, memory_keeping, memory_without, return_step, return_to, sight_of, step_doing, step_here, step_to, store_step, thread_with, word_step, write_step, doing, memory_with, with_call}
 use Rattle.cas_eval.specs.Answer.{Around, answer, outcome}
 use Rattle.cas_eval.specs.declared.values.NoResult.{NoResult}
 use Rattle.cas_eval.proofs.Answering.{answer_is, answer_then, given, then_}

@@ -8,7 +8,7 @@ use Rattle.cas_typed.specs.declared.rows.StmtRow.{StmtRow}
 use Rattle.cas_typed.specs.declared.rows.StmtRowForm.{StmtRowForm}
 use Rattle.cas_typed.specs.declared.rows.StmtRowForm.TheVariants as row
 use Rattle.cas_typed.specs.declared.typed.Typed.{Typed}
-use Rattle.cas_typed.specs.Numbered.{At, IsRow, AreRows, IsPartRow, size_of, size_of_option}
+use Rattle.cas_typed.specs.Numbered.{IsRow, AreRows, IsPartRow, size_of, size_of_option}
 use Rattle.cas_typed.specs.Resolved.{TypedExprTree, TypedStmtTree, skip, assign, call, block, if_, while_, do_, for_, break_, continue_, return_, lock, unlock, print, TypedStmtOption, absent, present, TypedStmtList, no_more, one_more}
 use Rattle.cas_whole.specs.declared.program.Program.{Program}
 use Rattle.cas_thread.specs.Frames.{AreFrames, IsFrame, rows_at}

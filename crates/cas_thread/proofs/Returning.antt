@@ -1,14 +1,13 @@
 -- A return: what the definition's step leaves, and the frames and the memory that the code leaves.
-use Rattle.std.proofs.Common.{arith, ◌≡◌, ℕ, List, [], ◌∷◌, ◌++◌, reverse, Option, Some, None, refl, sym, ap, subst, ◌∙◌}
+use Rattle.std.proofs.Common.{◌≡◌, ℕ, List, [], ◌∷◌, ◌++◌, reverse, Option, Some, None, refl, sym, ap, subst, ◌∙◌}
 use Rattle.std.proofs.lemmas.List.{reverse-append}
-use Rattle.cas_base.specs.declared.act.Act.{Act}
 use Rattle.cas_base.specs.declared.act.Act.TheVariants as act
 use Rattle.cas_typed.specs.declared.tree.Destination.{Destination}
 use Rattle.cas_typed.specs.declared.typed.Typed.{Typed}
 use Rattle.cas_step.specs.Answered.{value_at}
 use Rattle.cas_step.specs.Asks.{Value}
 use Rattle.cas_step.specs.Env.{Env}
-use Rattle.cas_step.specs.Step.{Activation, Block, Config, Here, Object, Step, cells_at, converted, memory_keeping, memory_storing, memory_with, memory_without, return_step, return_to, step_to, thread_with}
+use Rattle.cas_step.specs.Step.{Activation, Block, Here, Object, Step, cells_at, converted, memory_keeping, memory_storing, memory_with, memory_without, return_step, return_to, step_to, thread_with}
 use Rattle.cas_memory.specs.Blocks.{AreBefore}
 use Rattle.cas_thread.specs.Frames.{AreFrames, AreParts, IsFrame}
 use Rattle.cas_thread.specs.Stepping.{newest_serial}

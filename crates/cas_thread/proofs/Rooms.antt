@@ -1,5 +1,5 @@
 -- The room that is taken at a call serves for all items that the activation can have to do at once.
-use Rattle.std.proofs.Common.{arith, ◌≡◌, ℕ, ◌+◌, ◌*◌, ◌≤◌, Bool, true, false, List, [], ◌∷◌, ◌++◌, length, reverse, Option, Some, None, refl, sym, ap, subst, ◌∙◌}
+use Rattle.std.proofs.Common.{arith, ◌≡◌, ℕ, ◌+◌, ◌*◌, ◌≤◌, Bool, true, false, List, [], ◌∷◌, ◌++◌, length, reverse, Option, Some, None, refl, ap, subst, ◌∙◌}
 use Rattle.std.proofs.lemmas.List.{length-reverse, reverse-append}
 use Rattle.std.proofs.Math.Logic.{∥∥₁_elim}
 use Rattle.std.specs.Coded.{le_prop}
@@ -9,16 +9,16 @@ use Rattle.cas_step.specs.Evaluate.{either}
 use Rattle.cas_step.specs.Items as items
 use Rattle.cas_step.specs.Items.{begin, begun, loop, next, begin_all, begin_part, after_break, after_continue}
 use Rattle.cas_thread.specs.Control.{after, after_statement, if_any}
-use Rattle.cas_thread.specs.Room.{Fits, HasRoom, IsNextAt, IsNextForm, peak, room_for}
+use Rattle.cas_thread.specs.Room.{Fits, HasRoom, IsNextAt, IsNextForm, room_for}
 use Rattle.cas_thread.proofs.Reading.{at_this}
-use Rattle.cas_thread.specs.Todos.{IsAt, IsBegun, IsLoop, IsNext, IsPart, Shows}
+use Rattle.cas_thread.specs.Todos.{IsAt, IsNext, IsPart, Shows}
 use Rattle.cas_thread.specs.declared.todo.Todo.{Todo}
 use Rattle.cas_thread.specs.declared.todo.Todo.TheVariants.{Begin, Begun, Loop, Next}
 use Rattle.cas_typed.specs.declared.rows.StmtRow.{StmtRow}
 use Rattle.cas_typed.specs.declared.rows.StmtRowForm.{StmtRowForm}
 use Rattle.cas_typed.specs.declared.rows.StmtRowForm.TheVariants as row
-use Rattle.cas_typed.specs.Numbered.{At, IsRow, AreRows, IsPartRow, size_of, size_of_option, size_of_list}
-use Rattle.cas_typed.specs.Resolved.{TypedExprTree, TypedStmtTree, skip, assign, call, block, if_, while_, do_, for_, break_, continue_, return_, lock, unlock, print, TypedStmtOption, absent, present, TypedStmtList, no_more, one_more}
+use Rattle.cas_typed.specs.Numbered.{At, IsRow, AreRows, size_of, size_of_option, size_of_list}
+use Rattle.cas_typed.specs.Resolved.{TypedStmtTree, skip, assign, call, block, if_, while_, do_, for_, break_, continue_, return_, lock, unlock, print, TypedStmtOption, absent, present, TypedStmtList, no_more, one_more}
 
 pub some_size : (a : TypedStmtTree) → 1 ≤ size_of a
 some_size (skip p) = omega arith

@@ -4,11 +4,10 @@ use Rattle.std.specs.Prelude.{IsSome, slice_get}
 use Rattle.cas_step.specs.Fits.{IsAt}
 use Rattle.cas_typed.specs.Numbered.{IsFunctionOf}
 use Rattle.cas_typed.specs.Resolved.{TypedFunTree, TypedModuleTree}
-use Rattle.cas_typed.specs.Typed_as.{IsTypedAs}
 use Rattle.cas_typed.specs.Whole.{AreFunctionsOf}
 use Rattle.cas_typed.specs.declared.rows.TypedFun.{TypedFun}
 use Rattle.cas_typed.specs.declared.typed.Typed.{Typed}
-use Rattle.cas_whole.specs.Bodies.{typed_at, typed_in}
+use Rattle.cas_whole.specs.Bodies.{typed_at}
 use Rattle.cas_whole.specs.Whole.{AreTyped}
 
 -- what there is

@@ -1,5 +1,5 @@
 -- The definition's step, by the newest activation.
-use Rattle.std.proofs.Common.{◌≡◌, ℕ, List, [], ◌∷◌, Option, Some, None, refl, subst}
+use Rattle.std.proofs.Common.{◌≡◌, ℕ, List, [], ◌∷◌, Some, refl, subst}
 use Rattle.cas_step.specs.Env.{Env}
 use Rattle.cas_step.specs.Step.{Activation, Config, Step, step, step_here, step_of}
 

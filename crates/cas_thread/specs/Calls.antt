@@ -1,5 +1,5 @@
 -- Calls as the code takes them apart.
-use Rattle.std.specs.Prelude.{◌≡◌, ⊤, ℕ, Bool, true, List, map, Option, Some, None, Result, Ok, Err}
+use Rattle.std.specs.Prelude.{◌≡◌, ⊤, ℕ, List, map, Option, Some, None, Result, Ok, Err}
 use Rattle.cas_step.specs.Asks.{Value}
 use Rattle.cas_step.specs.Env as env
 use Rattle.cas_step.specs.Env.{FunctionAt, function}

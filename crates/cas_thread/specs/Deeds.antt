@@ -1,12 +1,12 @@
 -- What the code's deeds are, with the items that they leave.
-use Rattle.std.specs.Prelude.{◌≡◌, ⊤, ℕ, Bool, true, List, [], ◌∷◌, Option, Some, None, Result, Ok, Err}
+use Rattle.std.specs.Prelude.{◌≡◌, ⊤, ℕ, Bool, true, false, List, ◌∷◌, Option, Some, None, Result, Ok, Err}
 use Rattle.std.specs.Option.{option_map}
 use Rattle.cas_step.specs.Items as items
 use Rattle.cas_step.specs.Items.{Todo, begin, begun, loop, next, goes_on, stores, writes, returns, locks, unlocks, prints}
 use Rattle.cas_step.specs.Step.{Object}
 use Rattle.cas_memory.specs.Values.{object_of, value_of}
 use Rattle.cas_eval.specs.declared.values.NoResult.{NoResult}
-use Rattle.cas_typed.specs.Resolved.{TypedStmtTree, call, break_, continue_, lock, absent, present}
+use Rattle.cas_typed.specs.Resolved.{TypedStmtTree, call, break_, continue_, lock, print, present}
 use Rattle.cas_thread.specs.declared.deed.Deed.{Deed}
 use Rattle.cas_thread.specs.declared.deed.Deed.TheVariants.{Goes, Stores, Writes, Returns, Locks, Unlocks, Prints}
 use Rattle.cas_thread.specs.declared.deed.First.{First}
@@ -54,3 +54,13 @@ abbrev pub first_lock : List Todo → Option ℕ
 first_lock (begin a ∷ todo) = lock_in a
 first_lock (next p (present a) ∷ todo) = lock_in a
 first_lock _ = None
+
+-- whether a statement puts a word out, if it isn't Bad, and whether the first item's does
+abbrev pub is_print : TypedStmtTree → Bool
+is_print (print p a) = true
+is_print _ = false
+
+abbrev pub prints_first : List Todo → Bool
+prints_first (begin a ∷ todo) = is_print a
+prints_first (next p (present a) ∷ todo) = is_print a
+prints_first _ = false

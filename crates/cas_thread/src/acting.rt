@@ -3,33 +3,28 @@
 ghost use Rattle.std.specs.Prelude.{◌≡◌, ◌∷◌, ℕ, List, Option, Some, reverse, true};
 ghost use Rattle.cas_base.specs.declared.act.Act.TheVariants as act;
 ghost use Rattle.cas_program.specs.Program.{env_of};
-ghost use Rattle.cas_eval.specs.Answer.{answer};
 ghost use Rattle.cas_step.specs.Answered.{got};
 ghost use Rattle.cas_step.specs.Asks.{Value};
 ghost use Rattle.cas_step.specs.Env.{Env};
 ghost use Rattle.cas_step.specs.Items as todos;
-ghost use Rattle.cas_step.specs.Items.{deed_of};
 ghost use Rattle.cas_step.specs.Step as step;
-ghost use Rattle.cas_step.specs.Step.{sight_of, step_doing, step_here};
+ghost use Rattle.cas_step.specs.Step.{step_doing, step_here};
 ghost use Rattle.cas_typed.specs.Resolved.{TypedModuleTree};
 ghost use Rattle.cas_typed.specs.declared.typed.Typed.{Typed};
 ghost use Rattle.cas_whole.specs.Program_of.{IsProgramOf};
-ghost use Rattle.cas_thread.specs.Around.{around_in};
-ghost use Rattle.cas_thread.specs.Calls.{IsReadied};
 ghost use Rattle.cas_thread.specs.Control.{after};
 ghost use Rattle.cas_thread.specs.Deeds.{Begins, IsCall, deed_with};
 ghost use Rattle.cas_thread.specs.Frames.{AreFrames, AreThread};
 ghost use Rattle.cas_thread.specs.Stepping.{AreEntities};
 ghost use Rattle.cas_thread.specs.Thread.{Stands, Steps};
 
-use crate::call::first_call;
-use crate::config::{Config, Frame, rows_of};
+use crate::config::{Config, Frame};
 use crate::deed::{Deed, First};
-use crate::step::{first, here_in, items_of, newest};
+use crate::step::{arguments_of, first, items_of};
 use crate::take::lock_of;
 use crate::thread::Shared;
 use cas_base::Act;
-use cas_eval::{NoResult, check_arguments};
+use cas_eval::NoResult;
 use cas_memory::Entity;
 use cas_program::laws::programs_suit;
 use cas_step::laws::sound_threads_step;
@@ -82,27 +77,6 @@ fn deed_act(config: &Config, items: &[Option<Entity>], deed: Deed) -> Option<Act
         Deed::Locks(item) => lock_act(items, item),
         Deed::Unlocks(item) => unlock_act(items, item),
         Deed::Prints(word) => Some(Act::Out(word)),
-    }
-}
-
-// Why the arguments of the call that comes first have no values, or that they have.
-fn arguments_of(program: &Program, config: &Config, words: &[u32]) -> Result<(), NoResult>
-    ensures { (ms : List TypedModuleTree) (names : List (List ℕ)) (h : step.Here) → IsProgramOf program.now ms names → AreThread program.now.modules config.now h.config
-        → h.config.activations ≡ h.newest ∷ h.older → words.now ≡ h.words → Begins IsCall h.newest.todo
-        → IsReadied (answer (around_in (env_of ms) h) (deed_of (sight_of (env_of ms) h) ((env_of ms).function h.newest.function).ret h.newest.todo)) result }
-{
-    match newest(config) {
-        Some(frame) => {
-            let rows = rows_of(program.modules(), frame.unit, frame.place);
-            match first_call(rows, frame.todo.as_slice()) {
-                Some(called) => {
-                    let here = here_in(program, config, words, frame);
-                    check_arguments(&here, called.args)
-                }
-                None => Err(NoResult::Stuck),
-            }
-        }
-        None => Err(NoResult::Stuck),
     }
 }
 

@@ -36,7 +36,7 @@ use std::alloc::Global;
 
 /// A call, as a statement has it.
 #[derive(Clone, Copy)]
-pub struct Called<'a> {
+pub(crate) struct Called<'a> {
     /// The local that keeps the result.
     pub kept: Option<Destination>,
     /// The item of the function.
@@ -46,7 +46,7 @@ pub struct Called<'a> {
 
 /// A call whose arguments are evaluated.
 #[derive(Drop)]
-pub struct Ready {
+pub(crate) struct Ready {
     /// The local that keeps the result.
     pub kept: Option<Destination>,
     /// The item of the function.
@@ -106,7 +106,7 @@ fn called_next(rows: &[StmtRow], number: u32) -> Option<Called<'_>>
 }
 
 /// The call that comes first, if one does.
-pub fn first_call<'a>(rows: &'a [StmtRow], todo: &[Todo]) -> Option<Called<'a>>
+pub(crate) fn first_call<'a>(rows: &'a [StmtRow], todo: &[Todo]) -> Option<Called<'a>>
     ensures some { IfSome result (λ called. (it : List items.Todo) → Shows rows.now (reverse todo.now) it → Begins (IsCallOf called) it) }
     ensures none { IfNone result ((it : List items.Todo) → Shows rows.now (reverse todo.now) it → ¬ (Begins IsCall it)) }
 {
@@ -122,7 +122,11 @@ pub fn first_call<'a>(rows: &'a [StmtRow], todo: &[Todo]) -> Option<Called<'a>>
 }
 
 /// A call with its arguments, from left to right.
-pub fn evaluated(alloc: Global, here: &Here<'_>, called: &Called<'_>) -> Result<Ready, NoArguments>
+pub(crate) fn evaluated(
+    alloc: Global,
+    here: &Here<'_>,
+    called: &Called<'_>,
+) -> Result<Ready, NoArguments>
     ensures { (ret : Ty) (it : List items.Todo) → Begins (IsCallOf called.now) it
         → IsReady (answer (around here.now) (deed_of (sight (around here.now)) ret it)) (after true it) result }
 {
@@ -137,7 +141,7 @@ pub fn evaluated(alloc: Global, here: &Here<'_>, called: &Called<'_>) -> Result<
 }
 
 /// Where the function stands that an item is, if it is one: its module, and its place among those of the module.
-pub fn function_of(items: &[Option<Entity>], item: u32) -> Option<(u32, u32)>
+pub(crate) fn function_of(items: &[Option<Entity>], item: u32) -> Option<(u32, u32)>
     ensures { result ≡ function_place (entity_if (slice_get items.now item)) }
 {
     match entity_at(items, item) {
@@ -150,7 +154,7 @@ pub fn function_of(items: &[Option<Entity>], item: u32) -> Option<(u32, u32)>
 }
 
 /// The function at a place of a module.
-pub fn function_at(modules: &[Typed], unit: u32, place: u32) -> Option<&TypedFun>
+pub(crate) fn function_at(modules: &[Typed], unit: u32, place: u32) -> Option<&TypedFun>
     ensures some { IfSome result (λ f. typed_at modules.now unit place ≡ Some f.now) }
     ensures none { IfNone result (typed_at modules.now unit place ≡ None) }
 {
@@ -161,7 +165,7 @@ pub fn function_at(modules: &[Typed], unit: u32, place: u32) -> Option<&TypedFun
 }
 
 /// A call of a function at its start, with room for all items that it can have to do at once.
-pub fn new_frame(
+pub(crate) fn new_frame(
     alloc: Global,
     serial: u64,
     at: (u32, u32),

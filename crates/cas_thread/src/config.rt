@@ -23,7 +23,7 @@ use std::alloc::Global;
 
 /// A call that hasn't returned.
 #[derive(Debug, Drop)]
-pub struct Frame {
+pub(crate) struct Frame {
     /// Its serial number, which no other call of the thread has.
     pub serial: u64,
     /// The number of its function's module.
@@ -50,7 +50,7 @@ pub struct Config {
 
 /// The rows of the function at a place of a module; none where there is no such function.
 #[tactic(auto, using(crate::proofs::Getting::get_there, crate::proofs::Getting::get_past))]
-pub fn rows_of(modules: &[Typed], unit: u32, place: u32) -> &[StmtRow]
+pub(crate) fn rows_of(modules: &[Typed], unit: u32, place: u32) -> &[StmtRow]
     ensures { result.now ≡ rows_at modules.now unit place }
 {
     match modules.get(unit as usize) {
@@ -75,7 +75,7 @@ fn advance_frame(modules: &[Typed], frame: Frame, is: bool) -> Frame
 }
 
 /// Goes on in the newest frame behind its first item. It takes no memory.
-pub fn advance_newest(modules: &[Typed], frames: &mut Vec<Frame>, is: bool)
+pub(crate) fn advance_newest(modules: &[Typed], frames: &mut Vec<Frame>, is: bool)
     requires { ∥ ((all : List step.Activation) × AreFrames modules.now (reverse frames.old.items) all) ∥₁ }
     ensures frames { (all : List step.Activation) → AreFrames modules.now (reverse frames.old.items) all
         → AreFrames modules.now (reverse frames.new.items) (gone is all) }
@@ -103,7 +103,7 @@ impl Config {
     }
 
     /// Goes on in the newest call behind its first item. It takes no memory.
-    pub fn go_on(&mut self, modules: &[Typed], is: bool)
+    pub(crate) fn go_on(&mut self, modules: &[Typed], is: bool)
         requires { ∥ IsAThread modules.now self.old ∥₁ }
         ensures goes { (h : step.Here) → AreThread modules.now self.old h.config → h.config.activations ≡ h.newest ∷ h.older
             → AreThread modules.now self.new (thread_with h (doing h (after is h.newest.todo)) h.config.memory) }
@@ -114,7 +114,7 @@ impl Config {
     }
 
     /// Stores a value at a place of an object. Where there is no such place nothing changes.
-    pub fn store(&mut self, object: Object, place: u32, value: Value)
+    pub(crate) fn store(&mut self, object: Object, place: u32, value: Value)
         ensures { (modules : List Typed) (h : step.Here) (todo : List items.Todo) → AreThread modules self.old (thread_with h (doing h todo) h.config.memory)
             → AreThread modules self.new (thread_with h (doing h todo) (memory_with h.config.memory (object_of object) place (value_of value))) }
     {
@@ -162,7 +162,7 @@ fn keep(memory: &mut Memory, serial: u64, target: Option<Destination>, value: Op
 impl Config {
     /// Returns from the newest call with this value: to the caller, or, from the outermost call, to the end of the thread.
     /// None where there is no call.
-    pub fn give_back(&mut self, value: Option<Value>) -> Option<Act>
+    pub(crate) fn give_back(&mut self, value: Option<Value>) -> Option<Act>
         ensures { (modules : List Typed) (e : Env) (h : step.Here) (rs : List ℕ) (s : step.Step) → AreThread modules self.old h.config → h.config.activations ≡ h.newest ∷ h.older
             → return_step e h rs h.older (option_map value_of value) ≡ Some s → IsTaken modules result self.new s }
     {

@@ -52,7 +52,7 @@ fn next_turn(rows: &[StmtRow], todo: &mut Vec<Todo>)
 }
 
 /// Statements before the items.
-pub fn begin_each(rows: &[StmtRow], todo: &mut Vec<Todo>, parts: &[u32])
+pub(crate) fn begin_each(rows: &[StmtRow], todo: &mut Vec<Todo>, parts: &[u32])
     requires room { vec_len todo.old + length parts.now ≤ vec_capacity todo.old }
     ensures shows { (bs : TypedStmtList) (it : List items.Todo) → AreAt rows.now bs parts.now → Shows rows.now (reverse todo.old.items) it
         → Shows rows.now (reverse todo.new.items) (begin_all bs it) }
@@ -164,7 +164,7 @@ fn begin_statement(rows: &[StmtRow], todo: &mut Vec<Todo>, number: u32, row: &St
 
 /// The row with this number.
 #[tactic(auto, using(crate::proofs::Getting::get_there, crate::proofs::Getting::get_past))]
-pub fn row_at(rows: &[StmtRow], number: u32) -> Option<&StmtRow>
+pub(crate) fn row_at(rows: &[StmtRow], number: u32) -> Option<&StmtRow>
     ensures some { IfSome result (λ row. slice_get rows.now number ≡ Some row.now) }
     ensures none { IfNone result (slice_get rows.now number ≡ None) }
 {
@@ -292,7 +292,7 @@ fn next_at(rows: &[StmtRow], todo: &mut Vec<Todo>, number: u32, is: bool)
 
 /// Removes the first item, and puts in front of the others what follows on it, where its condition, if it has one, comes to
 /// this. It takes no memory.
-pub fn advance(rows: &[StmtRow], todo: &mut Vec<Todo>, is: bool)
+pub(crate) fn advance(rows: &[StmtRow], todo: &mut Vec<Todo>, is: bool)
     requires room { ∥ HasRoom rows.now (vec_capacity todo.old) (reverse todo.old.items) ∥₁ }
     ensures shows { (it : List items.Todo) → Shows rows.now (reverse todo.old.items) it → Shows rows.now (reverse todo.new.items) (after is it) }
     ensures room { vec_capacity todo.new ≡ vec_capacity todo.old }
@@ -309,7 +309,7 @@ pub fn advance(rows: &[StmtRow], todo: &mut Vec<Todo>, is: bool)
 }
 
 /// What the `for` of this row does after a turn, if it is one, and does something.
-pub fn next_part(rows: &[StmtRow], number: u32) -> Option<Option<u32>>
+pub(crate) fn next_part(rows: &[StmtRow], number: u32) -> Option<Option<u32>>
     ensures some { IfSome result (λ part. (p : Place) (u : TypedStmtOption) → At rows.now number (IsNext rows.now p u) → IsPart rows.now u part) }
     ensures none { IfNone result ((p : Place) (u : TypedStmtOption) → ¬ (At rows.now number (IsNext rows.now p u))) }
 {

@@ -28,7 +28,7 @@ use cas_typed::{StmtRow, StmtRowForm, TypedExpr, TypedTarget};
 
 /// What a step does at last, but for calls.
 #[derive(Clone, Copy, Debug, PartialEq, Eq)]
-pub enum Deed {
+pub(crate) enum Deed {
     /// Nothing but go on, by the truth of the condition, if there is one.
     Goes(bool),
     /// Stores a value at a place of an object.
@@ -47,7 +47,7 @@ pub enum Deed {
 
 /// What comes first.
 #[derive(Clone, Copy, Debug, PartialEq, Eq)]
-pub enum First {
+pub(crate) enum First {
     /// A call, of which nothing is evaluated.
     Call,
     /// A jump to the end or the next turn of the nearest loop.
@@ -266,7 +266,7 @@ fn next_at(here: &Here<'_>, rows: &[StmtRow], number: u32) -> Result<First, NoRe
 }
 
 /// The first item to do.
-pub fn first_item(todo: &[Todo]) -> Option<Todo>
+pub(crate) fn first_item(todo: &[Todo]) -> Option<Todo>
     ensures some { IfSome result (λ it. (rest : List code.Todo) × (reverse todo.now ≡ it ∷ rest)) }
     ensures none { IfNone result (reverse todo.now ≡ []) }
 {
@@ -279,7 +279,7 @@ pub fn first_item(todo: &[Todo]) -> Option<Todo>
 /// What comes first where this is left to do in a function of this type: the deed of the first item, a call or a jump, or
 /// why there is nothing.
 #[tactic(auto, using(cas_eval::proofs::Answering::answer_gives))]
-pub fn first_step(
+pub(crate) fn first_step(
     here: &Here<'_>,
     rows: &[StmtRow],
     ret: Ty,

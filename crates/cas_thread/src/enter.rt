@@ -23,7 +23,7 @@ use cas_typed::{Destination, Typed};
 impl Config {
     /// Goes on behind the newest call's first item, and begins a call of the function that stands there with these
     /// arguments. None where there is no such function. On want of memory nothing changes.
-    pub fn enter(
+    pub(crate) fn enter(
         &mut self,
         modules: &[Typed],
         at: (u32, u32),

@@ -2,9 +2,9 @@
 //! them alone (`control`); a thread is its activations with their memory (`config`). A step looks at what comes first, and
 //! evaluates (`deed`); then it goes on, stores, takes or gives back a lock, puts a word out, or returns (`take`), or it calls
 //! (`call`, `enter`): `step` is all of it. What is offered: a thread's start (`starting`), its next step (`thread`), the act of
-//! that step without the step (`acting`), its place (`place`), and the lock that it takes (`locking`). Contracts speak of the
-//! definitions of `cas_step`: `specs/Thread` says which thread of the definition one of the code is. It stands on `cas_base`,
-//! `cas_typed`, `cas_step`, `cas_memory`, `cas_eval`, `cas_program` and `cas_whole`.
+//! that step without the step (`acting`), its place (`place`), the lock that it takes (`locking`), and whether it puts a word out
+//! (`printing`). Contracts speak of the definitions of `cas_step`: `specs/Thread` says which thread of the definition one of the
+//! code is. It stands on `cas_base`, `cas_typed`, `cas_step`, `cas_memory`, `cas_eval`, `cas_program` and `cas_whole`.
 #![tactic(auto)]
 
 mod acting;
@@ -16,6 +16,7 @@ mod enter;
 pub mod laws;
 mod locking;
 mod place;
+mod printing;
 mod starting;
 mod step;
 mod take;
@@ -27,5 +28,6 @@ pub use acting::act_of;
 pub use config::Config;
 pub use locking::next_lock;
 pub use place::place_of;
+pub use printing::next_prints;
 pub use starting::start;
 pub use thread::{Shared, thread_step};

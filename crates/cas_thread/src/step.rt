@@ -1,6 +1,7 @@
 //! Steps of threads of a program.
 
 ghost use Rattle.std.specs.Prelude.{◌≡◌, [], ◌∷◌, ℕ, List, Some, None, true, IfNone, IfSome, IfOk, OnErr, reverse, slice_get};
+ghost use Rattle.cas_base.specs.declared.act.Act.TheVariants as act;
 ghost use Rattle.cas_memory.specs.Entities.{entity_if};
 ghost use Rattle.cas_thread.specs.declared.config.Frame as code;
 ghost use Rattle.cas_step.specs.Items.{deed_of};
@@ -11,7 +12,7 @@ ghost use Rattle.cas_program.specs.Program.{env_of};
 ghost use Rattle.cas_typed.specs.Resolved.{TypedModuleTree};
 ghost use Rattle.cas_whole.specs.Program_of.{IsProgramOf};
 ghost use Rattle.cas_thread.specs.Around.{around_in};
-ghost use Rattle.cas_thread.specs.Calls.{IsReady};
+ghost use Rattle.cas_thread.specs.Calls.{IsReadied, IsReady};
 ghost use Rattle.cas_thread.specs.Control.{after};
 ghost use Rattle.cas_thread.specs.Deeds.{Begins, IsCall, IsFirst, IsJump};
 ghost use Rattle.cas_thread.specs.Frames.{AreThread};
@@ -21,13 +22,13 @@ use crate::call::{Ready, evaluated, first_call, function_of};
 use crate::config::{Config, Frame, rows_of};
 use crate::deed::{First, first_step};
 use cas_base::{Act, NoMemory};
-use cas_eval::{Here, NoArguments, NoResult};
+use cas_eval::{Here, NoArguments, NoResult, check_arguments};
 use cas_memory::Entity;
 use cas_program::laws::declarations_agree;
 use cas_whole::Program;
 
 /// Where the newest call evaluates.
-pub fn here_in<'a>(
+pub(crate) fn here_in<'a>(
     program: &'a Program,
     config: &'a Config,
     words: &'a [u32],
@@ -47,7 +48,7 @@ pub fn here_in<'a>(
 }
 
 /// The newest call.
-pub fn newest(config: &Config) -> Option<&Frame>
+pub(crate) fn newest(config: &Config) -> Option<&Frame>
     ensures some { IfSome result (λ f. (rest : List code.Frame) × (reverse config.now.frames.items ≡ f.now ∷ rest)) }
     ensures none { IfNone result (reverse config.now.frames.items ≡ []) }
 {
@@ -58,7 +59,7 @@ pub fn newest(config: &Config) -> Option<&Frame>
 }
 
 /// What comes first in a thread: the deed of its newest call's first item, a call or a jump, or why there is nothing.
-pub fn first(program: &Program, config: &Config, words: &[u32]) -> Result<First, NoResult>
+pub(crate) fn first(program: &Program, config: &Config, words: &[u32]) -> Result<First, NoResult>
     ensures { (ms : List TypedModuleTree) (names : List (List ℕ)) (h : step.Here) → IsProgramOf program.now ms names → AreThread program.now.modules config.now h.config
         → h.config.activations ≡ h.newest ∷ h.older → words.now ≡ h.words
         → IsFirst (answer (around_in (env_of ms) h) (deed_of (sight_of (env_of ms) h) ((env_of ms).function h.newest.function).ret h.newest.todo))
@@ -78,7 +79,7 @@ pub fn first(program: &Program, config: &Config, words: &[u32]) -> Result<First,
 }
 
 /// What the items of the newest call's module stand for.
-pub fn items_of<'a>(program: &'a Program, config: &Config) -> &'a [Option<Entity>]
+pub(crate) fn items_of<'a>(program: &'a Program, config: &Config) -> &'a [Option<Entity>]
     ensures { (ms : List TypedModuleTree) (names : List (List ℕ)) (h : step.Here) → IsProgramOf program.now ms names → AreThread program.now.modules config.now h.config
         → h.config.activations ≡ h.newest ∷ h.older → AreEntities result.now (env_of ms) h }
 {
@@ -109,6 +110,51 @@ fn ready(program: &Program, config: &Config, words: &[u32]) -> Result<Ready, NoA
     }
 }
 
+/// Why the arguments of the call that comes first have no values, or that they have. It takes no memory.
+pub(crate) fn arguments_of(
+    program: &Program,
+    config: &Config,
+    words: &[u32],
+) -> Result<(), NoResult>
+    ensures { (ms : List TypedModuleTree) (names : List (List ℕ)) (h : step.Here) → IsProgramOf program.now ms names → AreThread program.now.modules config.now h.config
+        → h.config.activations ≡ h.newest ∷ h.older → words.now ≡ h.words → Begins IsCall h.newest.todo
+        → IsReadied (answer (around_in (env_of ms) h) (deed_of (sight_of (env_of ms) h) ((env_of ms).function h.newest.function).ret h.newest.todo)) result }
+{
+    match newest(config) {
+        Some(frame) => {
+            let rows = rows_of(program.modules(), frame.unit, frame.place);
+            match first_call(rows, frame.todo.as_slice()) {
+                Some(called) => {
+                    let here = here_in(program, config, words, frame);
+                    check_arguments(&here, called.args)
+                }
+                None => Err(NoResult::Stuck),
+            }
+        }
+        None => Err(NoResult::Stuck),
+    }
+}
+
+// What a call comes to where there was no room for its arguments: Bad ones are Bad all the same.
+fn call_without_room(
+    program: &Program,
+    config: &Config,
+    words: &[u32],
+) -> Result<Option<Act>, NoMemory>
+    ensures taken { IfOk result (λ done. (ms : List TypedModuleTree) (names : List (List ℕ)) (h : step.Here) (s : step.Step) → IsProgramOf program.now ms names
+        → AreThread program.now.modules config.now h.config → h.config.activations ≡ h.newest ∷ h.older → words.now ≡ h.words → Begins IsCall h.newest.todo
+        → step_here (env_of ms) h ≡ Some s → IsStep program.now.modules done config.now words.now s) }
+    ensures quiet { OnErr result ((ms : List TypedModuleTree) (names : List (List ℕ)) (h : step.Here) (s : step.Step) → IsProgramOf program.now ms names
+        → AreThread program.now.modules config.now h.config → h.config.activations ≡ h.newest ∷ h.older → words.now ≡ h.words → Begins IsCall h.newest.todo
+        → step_here (env_of ms) h ≡ Some s → s.act ≡ act.Quiet) }
+{
+    match arguments_of(program, config, words) {
+        Ok(_) => Err(NoMemory),
+        Err(NoResult::Bad(why)) => Ok(Some(Act::Bad(why))),
+        Err(NoResult::Stuck) => Ok(None),
+    }
+}
+
 // The step of a call.
 fn call(program: &Program, config: &mut Config, words: &[u32]) -> Result<Option<Act>, NoMemory>
     requires { ∥ ((ms : List TypedModuleTree) × (names : List (List ℕ)) × (c : step.Config) × IsProgramOf program.now ms names × AreThread program.now.modules config.old c) ∥₁ }
@@ -116,6 +162,9 @@ fn call(program: &Program, config: &mut Config, words: &[u32]) -> Result<Option<
         → AreThread program.now.modules config.old h.config → h.config.activations ≡ h.newest ∷ h.older → words.now ≡ h.words → Begins IsCall h.newest.todo
         → step_here (env_of ms) h ≡ Some s → IsStep program.now.modules done config.new words.now s) }
     ensures kept { OnErr result ((c : step.Config) → AreThread program.now.modules config.old c → AreThread program.now.modules config.new c) }
+    ensures quiet { OnErr result ((ms : List TypedModuleTree) (names : List (List ℕ)) (h : step.Here) (s : step.Step) → IsProgramOf program.now ms names
+        → AreThread program.now.modules config.old h.config → h.config.activations ≡ h.newest ∷ h.older → words.now ≡ h.words → Begins IsCall h.newest.todo
+        → step_here (env_of ms) h ≡ Some s → s.act ≡ act.Quiet) }
 {
     declarations_agree();
     let modules = program.modules();
@@ -133,7 +182,10 @@ fn call(program: &Program, config: &mut Config, words: &[u32]) -> Result<Option<
             }
         }
         Err(why) => match why {
-            NoArguments::Memory => Err(NoMemory),
+            NoArguments::Memory => match call_without_room(program, config, words) {
+                Ok(done) => Ok(done),
+                Err(_) => Err(NoMemory),
+            },
             NoArguments::OfValue(why) => match why {
                 NoResult::Bad(why) => Ok(Some(Act::Bad(why))),
                 NoResult::Stuck => Ok(None),
@@ -143,7 +195,7 @@ fn call(program: &Program, config: &mut Config, words: &[u32]) -> Result<Option<
 }
 
 /// The step of a thread: its act. None where there is no such step, as in no typed module.
-pub fn step_in(
+pub(crate) fn step_in(
     program: &Program,
     config: &mut Config,
     words: &mut [u32],
@@ -156,6 +208,9 @@ pub fn step_in(
     ensures words { OnErr result (words.new ≡ words.old) }
     ensures calls { OnErr result ((ms : List TypedModuleTree) (names : List (List ℕ)) (h : step.Here) → IsProgramOf program.now ms names → AreThread program.now.modules config.old h.config
         → h.config.activations ≡ h.newest ∷ h.older → words.old ≡ h.words → Begins IsCall h.newest.todo) }
+    ensures quiet { OnErr result ((ms : List TypedModuleTree) (names : List (List ℕ)) (h : step.Here) (s : step.Step) → IsProgramOf program.now ms names
+        → AreThread program.now.modules config.old h.config → h.config.activations ≡ h.newest ∷ h.older → words.old ≡ h.words
+        → step_here (env_of ms) h ≡ Some s → s.act ≡ act.Quiet) }
 {
     let modules = program.modules();
     match first(program, config, words) {

@@ -20,7 +20,7 @@ use cas_typed::Typed;
 
 /// What an item stands for.
 #[tactic(auto, using(crate::proofs::Getting::get_there, crate::proofs::Getting::get_past))]
-pub fn entity_at(items: &[Option<Entity>], item: u32) -> Option<Entity>
+pub(crate) fn entity_at(items: &[Option<Entity>], item: u32) -> Option<Entity>
     ensures { option_map entity_of result ≡ entity_if (slice_get items.now item) }
 {
     match items.get(item as usize) {
@@ -30,7 +30,7 @@ pub fn entity_at(items: &[Option<Entity>], item: u32) -> Option<Entity>
 }
 
 /// The word of the lock that an item is, if it is one.
-pub fn lock_of(items: &[Option<Entity>], item: u32) -> Option<u32>
+pub(crate) fn lock_of(items: &[Option<Entity>], item: u32) -> Option<u32>
     ensures { result ≡ lock_word (entity_if (slice_get items.now item)) }
 {
     match entity_at(items, item) {
@@ -119,7 +119,7 @@ impl Config {
     }
 
     /// Does a deed: the act of its step. None where it has no sense, as in no typed module.
-    pub fn take(
+    pub(crate) fn take(
         &mut self,
         modules: &[Typed],
         items: &[Option<Entity>],

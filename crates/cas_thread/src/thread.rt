@@ -1,6 +1,7 @@
 //! Threads of a program, as callers see them.
 
 ghost use Rattle.std.specs.Prelude.{◌≡◌, ◌∷◌, ℕ, List, IfOk, OnErr};
+ghost use Rattle.cas_base.specs.declared.act.Act.TheVariants as act;
 ghost use Rattle.cas_step.specs.Step as step;
 ghost use Rattle.cas_typed.specs.Resolved.{TypedModuleTree};
 ghost use Rattle.cas_whole.specs.Program_of.{IsProgramOf};
@@ -21,7 +22,7 @@ pub struct Shared {
 }
 
 /// Takes the next step of a thread, and answers its act. A Bad step changes nothing. Want of memory comes only where the
-/// step is a call, and then nothing changes.
+/// step is a call whose act is Quiet, and then nothing changes.
 pub fn thread_step(
     program: &Program,
     config: &mut Config,
@@ -32,6 +33,7 @@ pub fn thread_step(
     ensures same_config { OnErr result ((c : step.Config) → IsThread program.now config.old c → IsThread program.now config.new c) }
     ensures same_words { OnErr result (shared.new.words.items ≡ shared.old.words.items) }
     ensures calls { OnErr result ((ms : List TypedModuleTree) (names : List (List ℕ)) (c : step.Config) (a : step.Activation) (older : List step.Activation) → IsProgramOf program.now ms names → IsThread program.now config.old c → c.activations ≡ a ∷ older → Begins IsCall a.todo) }
+    ensures quiet { OnErr result (Steps program.now config.old shared.old.words.items (λ s. s.act ≡ act.Quiet)) }
 {
     sound_threads_step();
     programs_suit();

@@ -2,7 +2,7 @@
 
 /// An item to do, by the number of a row of its function.
 #[derive(Clone, Copy, Debug, PartialEq, Eq)]
-pub enum Todo {
+pub(crate) enum Todo {
     /// A statement to begin.
     Begin(u32),
     /// A `while` or `do` that has begun: its condition is next.

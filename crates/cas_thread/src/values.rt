@@ -10,7 +10,7 @@ use cas_memory::Value;
 
 /// The value as a word.
 #[tactic(auto, using(cas_eval::proofs::Answering::answer_gives, cas_eval::proofs::Answering::answer_senseless))]
-pub fn word_in(value: Value) -> Result<u32, NoResult>
+pub(crate) fn word_in(value: Value) -> Result<u32, NoResult>
     ensures { (r : Around) → result ≡ answer r (asks.word_in (value_of value)) }
 {
     match value {

@@ -1,4 +1,4 @@
-use Rattle.std.proofs.Common.{Bool, Ok, Err, subst, ap, ◌∙◌}
+use Rattle.std.proofs.Common.{Bool, Ok, Err, subst}
 use Rattle.cas_program.specs.Program.{env_of}
 use Rattle.cas_eval.specs.declared.values.NoResult.{NoResult}
 use Rattle.cas_thread.specs.Control.{after}

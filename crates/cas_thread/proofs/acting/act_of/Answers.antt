@@ -1,4 +1,3 @@
-use Rattle.std.proofs.Common.{Some, ◌≡◌}
 use Rattle.std.proofs.Math.Logic.{∥∥₁_elim}
 use Rattle.cas_program.specs.Program.{env_of}
 use Rattle.cas_step.specs.Step.{Here}

@@ -1,4 +1,4 @@
-use Rattle.std.proofs.Common.{Some, Err, ap, subst, ◌∙◌}
+use Rattle.std.proofs.Common.{Some, Err, ap, ◌∙◌}
 use Rattle.cas_step.specs.Items.{calls}
 use Rattle.cas_step.specs.Step.{entity_in}
 use Rattle.cas_program.specs.Program.{env_of}

@@ -1,7 +1,5 @@
 use Rattle.std.proofs.Common.{◌∷◌, List, reverse, true, Bool, Some, sym, ap, subst}
-use Rattle.std.specs.Option.{option_map}
 use Rattle.cas_step.specs.Step.{Activation}
-use Rattle.cas_memory.specs.Values.{object_of, value_of}
 use Rattle.cas_thread.specs.Control.{after}
 use Rattle.cas_thread.specs.Frames.{AreFrames}
 use Rattle.cas_thread.proofs.Acts_of.{goes_act, prints_act, stores_act, writes_act}

@@ -1,8 +1,5 @@
-use Rattle.std.proofs.Common.{ℕ, Option, subst}
-use Rattle.cas_base.specs.declared.place.Place.{Place}
-use Rattle.cas_typed.specs.Numbered.{At}
-use Rattle.cas_typed.specs.Resolved.{TypedStmtOption}
-use Rattle.cas_thread.specs.Todos.{IsNext, IsPart}
+use Rattle.std.proofs.Common.{subst}
+use Rattle.cas_thread.specs.Todos.{IsPart}
 use Rattle.cas_thread.proofs.Called.{next_some, next_none, no_part}
 use Rattle.cas_thread.proofs.call.called_next.Goals as goal
 

@@ -1,6 +1,5 @@
-use Rattle.std.proofs.Common.{arith, ℕ, List, [], length, sym, ap, subst, reverse, vec_capacity}
+use Rattle.std.proofs.Common.{arith, [], length, sym, ap, subst, reverse, vec_capacity}
 use Rattle.cas_step.specs.Items.{begin_all}
-use Rattle.cas_thread.specs.Room.{Fits}
 use Rattle.cas_thread.specs.Todos.{AreAt, Shows}
 use Rattle.cas_thread.proofs.Beginning.{rows_at}
 use Rattle.cas_thread.proofs.Rooms.{all_fit}

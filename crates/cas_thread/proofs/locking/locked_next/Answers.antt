@@ -1,4 +1,4 @@
-use Rattle.std.proofs.Common.{sym, ap, subst}
+use Rattle.std.proofs.Common.{subst}
 use Rattle.cas_thread.specs.Todos.{IsPart}
 use Rattle.cas_thread.proofs.Locked.{no_part_locks, part_locks}
 use Rattle.cas_thread.proofs.locking.locked_next.Goals as goal

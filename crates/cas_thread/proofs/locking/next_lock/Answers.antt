@@ -1,12 +1,9 @@
-use Rattle.std.proofs.Common.{ℕ, List, None, Option, reverse, sym, ap, subst, ◌∙◌}
+use Rattle.std.proofs.Common.{List, reverse, sym, ap, subst, ◌∙◌}
 use Rattle.cas_program.specs.Program.{env_of}
-use Rattle.cas_step.specs.Env.{FunctionAt}
 use Rattle.cas_step.specs.Step.{Here, entity_in}
 use Rattle.cas_typed.specs.declared.typed.Typed.{Typed}
 use Rattle.cas_thread.specs.Frames.{rows_at}
-use Rattle.cas_thread.specs.Stepping.{lock_word}
 use Rattle.cas_thread.specs.Todos.{Shows}
-use Rattle.cas_thread.specs.Deeds.{first_lock}
 use Rattle.cas_thread.proofs.Arounds.{newest_frame}
 use Rattle.cas_thread.proofs.Lock_acts.{step_takes, word_of}
 use Rattle.cas_thread.proofs.Top.{newest_of, step_at}

@@ -1,4 +1,4 @@
-use Rattle.std.proofs.Common.{◌≡◌, ℕ, true, List, Some, Ok, Err, map, sym, ap, subst, ◌∙◌}
+use Rattle.std.proofs.Common.{◌≡◌, ℕ, true, List, Some, Err, map, sym, ap, subst, ◌∙◌}
 use Rattle.std.proofs.Math.Logic.{∥∥₁_map}
 use Rattle.cas_step.specs.Asks.{Value}
 use Rattle.cas_step.specs.Items.{calls}
@@ -9,16 +9,14 @@ use Rattle.cas_program.specs.Program.{env_of}
 use Rattle.cas_typed.specs.Resolved.{TypedModuleTree}
 use Rattle.cas_typed.specs.declared.typed.Typed.{Typed}
 use Rattle.cas_eval.specs.declared.args.NoArguments.{NoArguments}
-use Rattle.cas_eval.specs.declared.values.NoResult.{NoResult}
-use Rattle.cas_memory.specs.declared.value.Value as code
 use Rattle.cas_whole.specs.Program_of.{IsProgramOf}
 use Rattle.cas_whole.specs.Whole.{AreTyped, function_at as stands_at}
 use Rattle.cas_thread.specs.Calls.{IsReady, function_place}
 use Rattle.cas_thread.specs.Control.{after}
 use Rattle.cas_thread.specs.Frames.{AreThread}
-use Rattle.cas_thread.specs.Stepping.{IsTaken}
 use Rattle.cas_thread.proofs.Doing.{Deeds, does_step, bad_steps, never_stuck}
 use Rattle.cas_thread.proofs.Entering.{called_step, called_nowhere}
+use Rattle.cas_thread.proofs.Lock_acts.{call_act}
 use Rattle.cas_thread.proofs.step.call.Goals as goal
 
 pub enter-requires : goal.enter-requires
@@ -69,3 +67,12 @@ returns-in-Bad-clause-taken c = λ ms names h s program thread is words begins s
     let left = after true h.newest.todo in
     let fails = subst (λ (x : NoArguments). IsReady (Deeds e h s) left (Err x)) c.in-OfValue.is (c.in-Err.ensures ms names h program thread is words begins) in
     bad_steps e h s c.args.program.now.modules c.args.config.now c.args.words.now c.in-Bad.why thread words (fails ∙ ap Err c.in-Bad.is) steps
+
+pub returns-in-Some-clause-quiet : goal.returns-in-Some-clause-quiet
+returns-in-Some-clause-quiet c = λ ms names h s program thread is words begins steps.
+    let e = env_of ms in
+    let left = after true h.newest.todo in
+    let ready = c.in-Ok.ready in
+    let vs = map value_of ready.values.items in
+    let w = does_step e h s (calls ready.item vs ready.kept left) (c.in-Ok.ensures ms names h program thread is words begins) steps in
+    sym (call_act e h s w.0 (entity_in e h ready.item) vs ready.kept left w.1)

@@ -1,4 +1,4 @@
-use Rattle.std.proofs.Common.{ℕ, true, Bool, List, Option, Ok, Err, refl, sym, ap, subst, ◌∙◌}
+use Rattle.std.proofs.Common.{ℕ, Bool, List, Ok, Err, sym, subst}
 use Rattle.std.proofs.Math.Logic.{∥∥₁_map}
 use Rattle.cas_step.specs.Items.{deed_of}
 use Rattle.cas_step.specs.Step.{Config, sight_of}
@@ -10,7 +10,7 @@ use Rattle.cas_typed.specs.declared.typed.Typed.{Typed}
 use Rattle.cas_whole.specs.Program_of.{IsProgramOf}
 use Rattle.cas_thread.specs.Control.{after}
 use Rattle.cas_thread.specs.Deeds.{Begins, IsCall, IsFirst, IsJump, deed_with}
-use Rattle.cas_thread.specs.Frames.{AreThread, IsAThread}
+use Rattle.cas_thread.specs.Frames.{AreThread}
 use Rattle.cas_thread.specs.Stepping.{IsStep, Stands}
 use Rattle.cas_thread.specs.declared.deed.First.{First}
 use Rattle.cas_eval.specs.declared.values.NoResult.{NoResult}
@@ -67,3 +67,9 @@ returns-in-Ok-call-clause-taken c = λ ms names h s program thread is words step
     let left = λ (truth : Bool). after truth h.newest.todo in
     let begins = subst (λ (x : First). IsFirst (Deeds e h s) left (Begins IsCall h.newest.todo) (Begins IsJump h.newest.todo) (Ok x)) c.in-Call.is (c.in-Ok.ensures ms names h program thread is words) in
     c.in-Ok-call.ensures.taken ms names h s program thread is words begins steps
+
+pub returns-in-Err-call-clause-quiet : goal.returns-in-Err-call-clause-quiet
+returns-in-Err-call-clause-quiet c = λ ms names h s program thread is words steps.
+    let left = λ (truth : Bool). after truth h.newest.todo in
+    let begins = subst (λ (x : First). IsFirst (Deeds (env_of ms) h s) left (Begins IsCall h.newest.todo) (Begins IsJump h.newest.todo) (Ok x)) c.in-Call.is (c.in-Ok.ensures ms names h program thread is words) in
+    c.in-Err-call.ensures.quiet ms names h s program thread is words begins steps

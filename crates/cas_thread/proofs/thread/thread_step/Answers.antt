@@ -1,4 +1,4 @@
-use Rattle.std.proofs.Common.{arith, ◌≡◌, Some, sym, ◌∙◌}
+use Rattle.std.proofs.Common.{arith, ◌≡◌, ◌∙◌}
 use Rattle.std.proofs.Math.Logic.{∥∥₁_elim, ∥∥₁_map}
 use Rattle.std.proofs.lemmas.List.{with_items_is}
 use Rattle.cas_program.specs.Program.{env_of}
@@ -38,3 +38,11 @@ returns-in-Err-clause-calls c = λ ms names k a older program thread going.
     let ws = c.args.shared.now.words.items in
     let h : Here = record { config = k; newest = a; older = older; words = ws } in
     c.in-Err.ensures.calls ms names h program thread going c.as_mut_slice.ensures.value
+
+pub returns-in-Err-clause-quiet : goal.returns-in-Err-clause-quiet
+returns-in-Err-clause-quiet c = λ ms names k s program thread steps.
+    let ws = c.args.shared.now.words.items in
+    let e = env_of ms in
+    let n = newest_of e ws k s steps in
+    let h : Here = record { config = k; newest = n.0; older = n.1; words = ws } in
+    c.in-Err.ensures.quiet ms names h s program thread n.2 c.as_mut_slice.ensures.value (step_at e ws k n.0 n.1 s n.2 steps)

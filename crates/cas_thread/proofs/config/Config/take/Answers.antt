@@ -1,6 +1,5 @@
-use Rattle.std.proofs.Common.{Bool, List, refl, ◌∙◌}
+use Rattle.std.proofs.Common.{Bool, refl, ◌∙◌}
 use Rattle.std.specs.Option.{option_map}
-use Rattle.cas_step.specs.Items.{Todo}
 use Rattle.cas_memory.specs.Values.{value_of}
 use Rattle.cas_thread.specs.Control.{after}
 use Rattle.cas_thread.specs.declared.deed.Deed.TheVariants.{Writes, Returns, Locks, Unlocks}

@@ -9,7 +9,7 @@ use Rattle.cas_thread.specs.Frames.{rows_at}
 use Rattle.cas_thread.specs.Todos.{Shows}
 use Rattle.cas_thread.proofs.Acts_of.{readied}
 use Rattle.cas_thread.proofs.Arounds.{around_same, newest_frame}
-use Rattle.cas_thread.proofs.acting.arguments_of.Goals as goal
+use Rattle.cas_thread.proofs.step.arguments_of.Goals as goal
 
 pub returns-in-Some-first_call : goal.returns-in-Some-first_call
 returns-in-Some-first_call c = λ ms names h program thread is words begins.
