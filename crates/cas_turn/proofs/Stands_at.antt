@@ -160,20 +160,15 @@ pub begins_call : (activations : List Activation) → activations ≢ [] → ((a
 begins_call [] goes_on calls = absurd (goes_on refl)
 begins_call (a ∷ older) goes_on calls = calls a older refl
 
-takes_call : (hs : List (Option ℕ)) (s : Step) (a : Act) (activations : List Activation) → IsFree hs a → BeginsCall activations → TakesMemory activations (at_step hs s a)
-takes_call hs s (act.Lock l) activations free begins = let P : State → Type 0 = TakesMemory activations in subst P (sym (ap (at_lock s l) (free l refl))) (inl begins)
-takes_call hs s (act.Bad why) activations free begins = begins
-takes_call hs s act.Quiet activations free begins = inl begins
-takes_call hs s (act.Unlock l) activations free begins = inl begins
-takes_call hs s (act.Out n) activations free begins = inl begins
-takes_call hs s act.Done activations free begins = inl begins
+takes_call : (hs : List (Option ℕ)) (s : Step) (a : Act) (activations : List Activation) → a ≡ act.Quiet → BeginsCall activations → TakesMemory activations (at_step hs s a)
+takes_call hs s a activations is begins = let P : State → Type 0 = TakesMemory activations in subst P (sym (ap (at_step hs s) is)) (inl begins)
 
 takes_out : (hs : List (Option ℕ)) (s : Step) (a : Act) (activations : List Activation) (n : ℕ) → s.act ≡ act.Out n → a ≡ act.Out n → TakesMemory activations (at_step hs s a)
 takes_out hs s a activations n out is = let P : State → Type 0 = TakesMemory activations in subst P (sym (ap (at_step hs s) is)) (inr (n, out))
 
 module _ (ws : List ℕ) (hs : List (Option ℕ)) (ms : List TypedModuleTree) (c : step.Config) (s : Step) (is : step.step (env_of ms) ws c ≡ Some s) where
-  pub call_there : IsFree hs s.act → BeginsCall c.activations → TakesMemory c.activations (state_in ws hs ms c)
-  call_there free begins = let P : State → Type 0 = TakesMemory c.activations in subst P (sym (at_its_step ws hs ms c s is)) (takes_call hs s s.act c.activations free begins)
+  pub call_there : s.act ≡ act.Quiet → BeginsCall c.activations → TakesMemory c.activations (state_in ws hs ms c)
+  call_there quiet begins = let P : State → Type 0 = TakesMemory c.activations in subst P (sym (at_its_step ws hs ms c s is)) (takes_call hs s s.act c.activations quiet begins)
 
   pub out_there : (n : ℕ) → s.act ≡ act.Out n → TakesMemory c.activations (state_in ws hs ms c)
   out_there n out = let P : State → Type 0 = TakesMemory c.activations in subst P (sym (at_its_step ws hs ms c s is)) (takes_out hs s s.act c.activations n out out)

@@ -29,11 +29,10 @@ abbrev pub BeginsCall : List Activation → Type 0
 BeginsCall [] = ⊥
 BeginsCall (a ∷ older) = Begins IsCall a.todo
 
--- a turn of a thread with these activations may take memory: its next step begins a call, whether that is Bad or not, or puts a
--- word out
+-- a turn of a thread with these activations may take memory: it may take its next step, which begins a call or puts a word out.
+-- A thread whose next step is Bad, or waits for a lock, takes none, and neither does one that has ended
 abbrev pub TakesMemory : List Activation → State → Type 0
 TakesMemory activations (running s) = BeginsCall activations ⊎ ((n : ℕ) × (s.act ≡ act.Out n))
-TakesMemory activations (bad why unit p) = BeginsCall activations
 TakesMemory activations _ = ⊥
 
 -- the answer is what the thread stands at; want of memory is answered where a turn may take some

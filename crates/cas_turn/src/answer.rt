@@ -5,7 +5,7 @@ use cas_base::{Place, Why};
 /// Why a turn of a thread didn't take its step.
 #[derive(Clone, Copy, Debug, PartialEq, Eq)]
 pub enum WorldAnswer {
-    /// Want of memory, at a call or at a word that is put out.
+    /// Want of memory, at a call or at a word that is put out. The next step isn't Bad.
     Memory,
     /// The next step takes a lock that a thread has.
     Waits {

@@ -10,7 +10,7 @@ use crate::answer::WorldAnswer;
 use crate::effect::{hold, put};
 use crate::standing::wait_of;
 use cas_base::{Act, Why};
-use cas_thread::{Config, Shared, act_of, place_of, thread_step};
+use cas_thread::{Config, Shared, act_of, next_prints, place_of, thread_step};
 use cas_whole::Program;
 
 // Whether an act puts a word out.
@@ -28,7 +28,7 @@ fn puts_out(act: Act) -> bool
     }
 }
 
-// Whether there is room for what the next step puts out, if it puts a word out.
+// Whether there is room for what the next step puts out, if it puts a word out. Room is taken only where the step is a print.
 fn has_room(program: &Program, config: &Config, shared: &Shared, out: &mut Vec<(u32, u32)>) -> bool
     requires { ∥ Stands program.now config.now shared.now.words.items ∥₁ }
     ensures same { out.new.items ≡ out.old.items }
@@ -36,6 +36,9 @@ fn has_room(program: &Program, config: &Config, shared: &Shared, out: &mut Vec<(
     ensures full { OnFalse result (Steps program.now config.now shared.now.words.items (λ s. (n : ℕ) × (s.act ≡ Act.Out n))) }
 {
     if out.len() < out.capacity() {
+        return true;
+    }
+    if !next_prints(program, config) {
         return true;
     }
     if out.reserve(1).is_ok() {

@@ -91,7 +91,7 @@ impl World {
     }
 
     /// A turn of a thread: it takes its next step, or it is told why not, and nothing changes. Want of memory is told only where
-    /// the step begins a call or puts a word out.
+    /// the thread may take its step, and the step begins a call or puts a word out.
     pub fn step(&mut self, thread: u32) -> Result<(), WorldAnswer>
         requires { thread < vec_len self.old.threads }
         ensures program { self.new.program ≡ self.old.program }

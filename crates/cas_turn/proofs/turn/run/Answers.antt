@@ -23,9 +23,8 @@ returns-in-Err-clause-answer c = λ ms names d program thread.
     let hs = c.args.holders.now in
     let may = c.requires.may ms names d program thread in
     let (s, is) = next_step ws hs ms d may (c.requires.goes_on ms names d program thread) in
-    let free = free_from ws hs ms d s may is (c.requires.free ms names d s program thread is) in
     let begins = begins_call d.activations (c.requires.goes_on ms names d program thread) (λ a older same. c.in-Err.ensures.calls ms names d a older program thread same) in
-    call_there ws hs ms d s is free begins
+    call_there ws hs ms d s is (c.in-Err.ensures.quiet ms names d s program thread is) begins
 
 pub bad_at-requires : goal.bad_at-requires
 bad_at-requires c = goes_from_stands c.args.program.now c.thread_step.new.config c.args.shared.now.words.items (∥∥₁_map c.requires.stands (λ t.
