@@ -1,9 +1,8 @@
 -- A shelf that tells its texts tells one of each name, so a command comes to one thing.
-use Rattle.std.proofs.Common.{◌≡◌, ◌<◌, ◌≤◌, ℕ, List, [], ◌∷◌, length, Option, Some, None, refl, sym, ◌∙◌, ap, subst, inl, inr, arith}
+use Rattle.std.proofs.Common.{◌≡◌, ◌<◌, ◌≤◌, ℕ, true, false, List, [], ◌∷◌, length, Option, Some, None, refl, sym, ◌∙◌, ap, subst, inl, inr, arith}
 use Rattle.cas_outside.specs.Shelf.{Texts, text_of}
 use Rattle.cas_top.specs.Answer.{IsRead, AreRead, IsFirstLong}
 use Rattle.cas_top.specs.Exclusion.{CausesExclude}
-use Rattle.cas_clight.specs.Tree.{ModuleTree}
 use Rattle.cas_parse.proofs.Texts.{one_module, no_module_and_fault}
 use Rattle.cas_command.specs.Words.{Command, Run, World, Wanted, run, check, world, wanted_texts}
 use Rattle.cas_program.specs.Program.{units_of}
@@ -11,15 +10,16 @@ use Rattle.cas_settle.proofs.SettledLemmas.{none-settled}
 use Rattle.cas_settle.specs.Settle.{first_refusal}
 use Rattle.cas_settle.specs.declared.link.LinkFault.{LinkFault}
 use Rattle.cas_own.specs.Checked.{OwnFaultTree, own_fault, IsChecked, HasOwnFault}
-use Rattle.cas_syntax.specs.Tree as syntax
-use Rattle.cas_top.specs.First_form.{first_form, IsFirstForm}
+use Rattle.cas_syntax.specs.Tree.{ModuleTree}
+use Rattle.cas_top.specs.Checked_module.{IsCheckedModule, AreCheckedModules, IsCheckedText}
+use Rattle.cas_top.specs.First_form.{is_first_form}
 use Rattle.cas_typed.proofs.Modules.{typed_in_one_way, typed_without_fault}
 use Rattle.cas_typed.specs.Faults.{Fault}
 use Rattle.cas_typed.specs.Modules.{IsTyped}
 use Rattle.cas_typed.specs.Resolved.{TypedModuleTree}
 use Rattle.cas_typed.specs.Walk.{HasTypeFault}
-use Rattle.cas_top.specs.Worlds.{AreCheckedModules, PrintsWorld, RefusesProgram}
-use Rattle.cas_top.specs.Plan.{prints, refuses, Plans, PrintsLines, IsCheckedText, AreChecked, RefusesText, RefusesFirst, misread, untyped, unowned, RefusesRun, faulty, formless}
+use Rattle.cas_top.specs.Worlds.{PrintsWorld, RefusesProgram}
+use Rattle.cas_top.specs.Plan.{prints, refuses, Plans, PrintsLines, AreChecked, RefusesText, RefusesFirst, misread, untyped, unowned, RefusesRun, faulty, formless}
 
 some_injective : (x y : List ℕ) → Some x ≡ Some y → x ≡ y
 some_injective x y h = cc
@@ -51,22 +51,16 @@ read_and_long held (w ∷ ws) (x ∷ xs) name h (inl k) =
     within_and_longer w.limit x k.1.0 (one_text (text_of held w.name) x k.1.0 h.0.tells k.1.1) h.0.within k.1.2
 read_and_long held (w ∷ ws) (x ∷ xs) name h (inr k) = read_and_long held ws xs name h.1 k.2
 
-one_form : (name : List ℕ) (m n : syntax.ModuleTree) (tree : ModuleTree) → m ≡ n → first_form name m ≡ Some tree → first_form name n ≡ None → ⊥
-one_form name m n tree same some none =
-    let P : syntax.ModuleTree → Type 0 = λ x. first_form name x ≡ Some tree in
-    let kept : first_form name n ≡ Some tree = subst P same some in
-    cc
-
 -- a typed module has no fault of typing
-typed_and_faulty : (m n : syntax.ModuleTree) (r : TypedModuleTree) (f : Fault) → m ≡ n → IsTyped m r → HasTypeFault n f → ⊥
+typed_and_faulty : (m n : ModuleTree) (r : TypedModuleTree) (f : Fault) → m ≡ n → IsTyped m r → HasTypeFault n f → ⊥
 typed_and_faulty m n r f same typed fault =
-    let P : syntax.ModuleTree → Type 0 = λ x. IsTyped x r in
+    let P : ModuleTree → Type 0 = λ x. IsTyped x r in
     typed_without_fault n r f (subst P same typed) fault
 
 -- a module is resolved in one way
-one_resolved : (m n : syntax.ModuleTree) (r s : TypedModuleTree) → m ≡ n → IsTyped m r → IsTyped n s → r ≡ s
+one_resolved : (m n : ModuleTree) (r s : TypedModuleTree) → m ≡ n → IsTyped m r → IsTyped n s → r ≡ s
 one_resolved m n r s same h k =
-    let P : syntax.ModuleTree → Type 0 = λ x. IsTyped x r in
+    let P : ModuleTree → Type 0 = λ x. IsTyped x r in
     typed_in_one_way n r s (subst P same h) k
 
 -- a checked module has no fault of ownership
@@ -76,31 +70,32 @@ checked_and_unowned r s f same checked fault =
     let none : own_fault s ≡ None = subst P same checked in
     cc
 
+-- a text is read as one checked module
+one_checked : (text : List ℕ) (r s : TypedModuleTree) → IsCheckedModule text r → IsCheckedModule text s → r ≡ s
+one_checked text r s h k = one_resolved h.read_module k.read_module r s (one_module text h.read_module k.read_module h.read k.read) h.typed k.typed
+
 -- a text of a checked module isn't refused
 checked_and_refused : (name text line : List ℕ) → IsCheckedText text → RefusesText name text line → ⊥
-checked_and_refused name text line h (misread code p fault) = no_module_and_fault text h.read_module code p h.read fault
-checked_and_refused name text line h (untyped m f read fault) =
-    typed_and_faulty h.read_module m h.resolved f (one_module text h.read_module m h.read read) h.typed fault
-checked_and_refused name text line h (unowned m r f read typed fault) =
+checked_and_refused name text line (r, h) (misread code p fault) = no_module_and_fault text h.read_module code p h.read fault
+checked_and_refused name text line (r, h) (untyped m f read fault) =
+    typed_and_faulty h.read_module m r f (one_module text h.read_module m h.read read) h.typed fault
+checked_and_refused name text line (r, h) (unowned m s f read typed fault) =
     let same = one_module text h.read_module m h.read read in
-    checked_and_unowned h.resolved r f (one_resolved h.read_module m h.resolved r same h.typed typed) h.checked fault
+    checked_and_unowned r s f (one_resolved h.read_module m r s same h.typed typed) h.checked fault
 
--- a text of the first form is of a checked module
-form_is_checked : (text name : List ℕ) (tree : ModuleTree) → IsFirstForm text name tree → IsCheckedText text
-form_is_checked text name tree form = record {
-  read_module = form.read_module;
-  read = form.read;
-  resolved = form.resolved;
-  typed = form.typed;
-  checked = form.checked;
-}
+-- a module is of the first form or it isn't
+one_form : (name : List ℕ) (r s : TypedModuleTree) → r ≡ s → is_first_form name r.module_tree ≡ true → is_first_form name s.module_tree ≡ false → ⊥
+one_form name r s same is not =
+    let P : TypedModuleTree → Type 0 = λ x. is_first_form name x.module_tree ≡ true in
+    let kept : is_first_form name s.module_tree ≡ true = subst P same is in
+    cc
 
 -- a text that prints lines isn't refused
 shown_and_refused : (r : Run) (text : List ℕ) (lines : List (List ℕ)) (line : List ℕ) → PrintsLines text r.thread lines → RefusesRun r text line → ⊥
-shown_and_refused r text lines line (tree, form, report, finished, whole) (faulty why refused) =
-    checked_and_refused r.source text why (form_is_checked text r.thread tree form) refused
-shown_and_refused r text lines line (tree, form, report, finished, whole) (formless m resolved read typed checked none) =
-    one_form r.thread form.read_module m tree (one_module text form.read_module m form.read read) form.form none
+shown_and_refused r text lines line (m, form, report, finished, whole) (faulty why refused) =
+    checked_and_refused r.source text why (m, form.is_module) refused
+shown_and_refused r text lines line (m, form, report, finished, whole) (formless n checked none) =
+    one_form r.thread m n (one_checked text m n form.is_module checked) form.form none
 
 -- where all texts are of checked modules, none is refused
 checked_and_first : (names texts : List (List ℕ)) (line : List ℕ) → AreChecked texts → RefusesFirst names texts line → ⊥
@@ -113,16 +108,7 @@ checked_and_first (n ∷ ns) (t ∷ ts) line h (inr later) = checked_and_first n
 modules_checked : (texts : List (List ℕ)) (ms : List TypedModuleTree) → AreCheckedModules texts ms → AreChecked texts
 modules_checked [] ms h = tt
 modules_checked (t ∷ ts) [] h = absurd h
-modules_checked (t ∷ ts) (m ∷ ms) h = (
-  record {
-    read_module = h.0.read_module;
-    read = h.0.read;
-    resolved = m;
-    typed = h.0.typed;
-    checked = h.0.checked;
-  },
-  modules_checked ts ms h.1,
-)
+modules_checked (t ∷ ts) (m ∷ ms) h = ((m, h.0), modules_checked ts ms h.1)
 
 -- and their modules are one
 one_modules : (texts : List (List ℕ)) (ms ns : List TypedModuleTree) → AreCheckedModules texts ms → AreCheckedModules texts ns → ms ≡ ns
@@ -132,8 +118,7 @@ one_modules [] (m ∷ ms) ns h k = absurd h
 one_modules (t ∷ ts) [] ns h k = absurd h
 one_modules (t ∷ ts) (m ∷ ms) [] h k = absurd k
 one_modules (t ∷ ts) (m ∷ ms) (n ∷ ns) h k =
-    let same = one_module t h.0.read_module k.0.read_module h.0.read k.0.read in
-    let first = one_resolved h.0.read_module k.0.read_module m n same h.0.typed k.0.typed in
+    let first = one_checked t m n h.0 k.0 in
     let others = one_modules ts ms ns h.1 k.1 in
     ap (λ x. x ∷ ms) first ∙ ap (λ xs. n ∷ xs) others
 

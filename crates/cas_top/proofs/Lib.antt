@@ -1,10 +1,13 @@
+pub mod Both
 pub mod Ends
 pub mod Excluding
 pub mod FormLaws
 pub mod One_by_one
+pub mod One_function
 pub mod ReportLaws
 pub mod RunLaws
 pub mod SumLaws
+pub mod Sum_typing
 pub mod Taking
 pub mod World_ends
 pub mod Turning

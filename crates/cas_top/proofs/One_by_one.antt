@@ -1,13 +1,23 @@
 -- How the texts of modules are read and checked one after another.
-use Rattle.std.proofs.Common.{◌≡◌, ℕ, List, [], ◌∷◌, ◌++◌, ◌+◌, ◌<◌, length, drop, get_or, map, Result, Ok, Err, refl, sym, ap, ◌∙◌, inl, inr, subst, append-nil}
+use Rattle.std.proofs.Common.{◌≡◌, ℕ, List, [], ◌∷◌, ◌++◌, ◌+◌, ◌<◌, true, false, length, drop, get_or, map, Result, Ok, Err, refl, sym, ap, ◌∙◌, inl, inr, subst, append-nil}
 use Rattle.std.proofs.lemmas.List.{drop_more}
 use Rattle.std.specs.Borrow.{Bor}
+use Rattle.std.specs.declared.alloc.Global.{Global}
+use Rattle.std.specs.declared.vec.Vec.{Vec}
 use Rattle.cas_command.specs.Parts.{texts}
 use Rattle.cas_command.specs.Words.{Run, source_text}
+use Rattle.cas_own.specs.Checked.{IsChecked}
 use Rattle.cas_own.specs.declared.checked.Checked.{Checked}
+use Rattle.cas_syntax.specs.Tree.{ModuleTree, module_tree}
+use Rattle.cas_typed.specs.Resolved.{TypedModuleTree}
+use Rattle.cas_typed.specs.Typed_as.{IsTypedAs}
+use Rattle.cas_typed.specs.declared.typed.Typed.{Typed}
 use Rattle.cas_top.specs.Answer.{Told, AreRead, IsFirstLong, IsFirstUnread, IsRead}
-use Rattle.cas_top.specs.Plan.{IsCheckedText, AreChecked, RefusesFirst, faulty}
-use Rattle.cas_top.specs.View.{module_line, names_of, texts_of, IsSource, AreSources, IsCheckedAs, IsCheckedSource, IsShown, AreAllChecked, AreOkLines}
+use Rattle.cas_top.specs.Checked_module.{IsCheckedText}
+use Rattle.cas_top.specs.First_form.{is_first_form}
+use Rattle.cas_top.specs.Plan.{AreChecked, RefusesFirst, RefusesRun, faulty, formless}
+use Rattle.cas_top.specs.Printed.{form_line}
+use Rattle.cas_top.specs.View.{module_line, names_of, texts_of, IsSource, AreSources, IsCheckedAs, IsCheckedSource, IsRun, IsShown, AreAllChecked, AreOkLines}
 use Rattle.cas_top.specs.declared.refusal.Refusal.{Refusal}
 use Rattle.cas_top.specs.declared.refusal.Refusal.TheVariants as refusal
 use Rattle.cas_top.specs.declared.source.Source.{Source}
@@ -23,7 +33,7 @@ texts_item names i d below = ap texts (drop_more names i d below)
 
 -- a text that is read as a checked module
 pub checked_text : (name text : List ℕ) (checked : Checked) → IsCheckedAs name text (Ok checked) → IsCheckedText text
-checked_text name text checked (m, t, read, stands, typed, good) = record { read_module = m; read = read; resolved = t; typed = typed; checked = good }
+checked_text name text checked (m, t, read, stands, typed, good) = (t, record { read_module = m; read = read; typed = typed; checked = good })
 
 -- why a text isn't of a checked module
 pub refused_source : (name text : List ℕ) (why : Refusal) → IsCheckedAs name text (Err why) → IsCheckedSource name text (Err why)
@@ -44,6 +54,22 @@ refused_run r text (refusal.Unlinked line) h = absurd h
 refused_run r text (refusal.Unread n) h = absurd h
 refused_run r text (refusal.TooLong n) h = absurd h
 refused_run r text refusal.Unwritten h = absurd h
+
+-- the lines of a checked module's run, where there are some
+pub shown_run : (r : Run) (name text : List ℕ) (checked : Checked) (typed : Typed) (lines : Vec (List ℕ) Global) → IsCheckedAs name text (Ok checked) → typed ≡ checked.typed →
+    ((t : TypedModuleTree) → IsTypedAs typed t → IsChecked t → IsRun t r.thread lines.items) → IsShown r text (Ok lines)
+shown_run r name text checked typed lines (m, t, read, stands, good, is_checked) same run =
+    let P : Typed → Type 0 = λ x. IsTypedAs x t in
+    let (form, report, finished, printed) = run t (subst P (sym same) stands) is_checked in
+    (t, record { is_module = record { read_module = m; read = read; typed = good; checked = is_checked }; form = form }, report, finished, printed)
+
+-- .. and where there are none, since it isn't of the first form
+pub formless_run : (r : Run) (name text : List ℕ) (checked : Checked) (typed : Typed) → IsCheckedAs name text (Ok checked) → typed ≡ checked.typed →
+    is_first_form r.thread (module_tree typed.filled) ≡ false → RefusesRun r text (form_line r.source)
+formless_run r name text checked typed (m, t, read, stands, good, is_checked) same none =
+    let P : ModuleTree → Type 0 = λ x. is_first_form r.thread x ≡ false in
+    let filled : module_tree typed.filled ≡ t.module_tree = ap (λ (x : Typed). module_tree x.filled) same ∙ sym stands.module_tree in
+    formless t (record { read_module = m; read = read; typed = good; checked = is_checked }) (subst P filled none)
 
 -- why some of the texts aren't of checked modules
 pub refused_lines : (names texts : List (List ℕ)) (why : Refusal) → AreAllChecked names texts (Err why) → AreOkLines names texts (Err why)

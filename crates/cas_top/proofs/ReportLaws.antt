@@ -1,21 +1,45 @@
--- A module with code has one report: that of the machine on that code, and of an interleaving that ends.
-use Rattle.std.proofs.Common.{◌≡◌, ◌↔◌, ℕ, ◌+◌, zero, suc, List, [], ◌∷◌, ◌++◌, length, map, Some, None, slice_get, refl, sym, ap, subst, ◌∙◌, arith}
-use Rattle.cas_base.specs.declared.decl.Decl.{Decl}
+-- A module of the first form has one report: that of the machine on its code, and of an interleaving that ends.
+use Rattle.std.proofs.Common.{◌≡◌, ◌↔◌, ℕ, ◌+◌, zero, suc, true, false, List, [], ◌∷◌, ◌++◌, length, Option, Some, None, slice_get, refl, sym, ap, subst, ◌∙◌, arith}
+use Rattle.std.proofs.lemmas.List.Elements.{All-from_recursion}
+use Rattle.cas_base.specs.Word.{narrowed}
+use Rattle.cas_base.specs.declared.act.Act.TheVariants as act
 use Rattle.cas_base.specs.declared.kind.Kind.TheVariants.{I32}
 use Rattle.cas_base.specs.declared.place.Place.{Place}
-use Rattle.cas_syntax.specs.declared.tree.Ident.{Ident}
-use Rattle.cas_clight.specs.Tree.{ExprTree, literal, StmtTree, print, ItemTree, define, ModuleTree}
-use Rattle.cas_clight.specs.Program.{env_of}
-use Rattle.cas_clight.specs.Step.{Config, Here, Sight, Env, begin, word, gives, value_of, sight_of, thread_with, print_step, return_step, started}
-use Rattle.cas_clight.specs.World.{World, MayStep, world_after, Interleaves, at_first, and_step, IsFirstWorld, HasEnded}
-use Rattle.cas_top.specs.Machine.{State, Report, RunsTo, executed, Runs, stays, steps, start, loads, IsBodyCode, IsItemsCode}
-use Rattle.cas_top.specs.Plan.{entry, IsDone, IsFinished}
+use Rattle.cas_own.specs.Checked.{IsChecked}
+use Rattle.cas_program.specs.Program.{env_of}
+use Rattle.cas_step.specs.Answered.{answered}
+use Rattle.cas_step.specs.Asks.{Value, word, Asks, gives, and_then, word_in}
+use Rattle.cas_step.specs.Env.{Env}
+use Rattle.cas_step.specs.Evaluate.{Sight, value_of}
+use Rattle.cas_step.specs.Items.{Todo, begin, begin_all, prints}
+use Rattle.cas_step.specs.Step.{Object, Activation, Config, Step, Here, entity_in, sight_of, cells_at, memory_without, thread_with, step_to, goes_step, step_doing, step, locals_of}
+use Rattle.cas_syntax.specs.Tree.{ExprTree, StmtList, no_more, one_more, print, FunTree, ItemTree, define, ModuleTree, module_tree}
+use Rattle.cas_syntax.specs.declared.tree.Module.{Module}
+use Rattle.cas_typed.specs.Formed.{IsFormed}
+use Rattle.cas_typed.specs.Modules.{IsTyped, AreItems, return_type, scope_in}
+use Rattle.cas_typed.specs.Resolved as t
+use Rattle.cas_typed.specs.Resolved.{TypedExprTree, TypedStmtList, TypedModuleTree}
+use Rattle.cas_typed.specs.Typed_as.{IsTypedAs}
+use Rattle.cas_typed.specs.Typing.{AreStmts}
+use Rattle.cas_typed.specs.declared.typed.Typed.{Typed}
+use Rattle.cas_world.specs.Races.{RacesAbsent, program_world}
+use Rattle.cas_world.specs.World.{World, MayStep, world_after, Interleaves, at_first, and_step, first_world, HasEnded}
+use Rattle.cas_top.specs.First_form.{prints_sum, is_entry_named, is_first_form_of, is_first_form}
+use Rattle.cas_top.specs.Machine.{State, Report, RunsTo, executed, Runs, stays, steps, start, IsExprCode, IsBodyCode, IsItemsCode}
+use Rattle.cas_top.specs.Plan.{IsDone, IsFinished}
+use Rattle.cas_top.specs.Printed.{report_lines}
+use Rattle.cas_top.specs.View.{IsRun}
 use Rattle.cas_top.specs.declared.machine.End.{End}
 use Rattle.cas_top.specs.declared.machine.End.TheVariants.{Done}
 use Rattle.cas_top.specs.declared.machine.Instr.{Instr}
 use Rattle.cas_top.specs.declared.machine.Instr.TheVariants.{OutEax, Ret}
+use Rattle.cas_top.proofs.Both.{left_part}
+use Rattle.cas_top.proofs.One_function.{entry, one_program, one_world, one_body}
 use Rattle.cas_top.proofs.RunLaws.{one_end}
-use Rattle.cas_top.proofs.SumLaws.{slice_get-append_seam, behind, evaluated}
+use Rattle.cas_top.proofs.SumLaws.{slice_get-append_seam, behind, typed_sum, evaluated}
+use Rattle.cas_top.proofs.Sum_typing.{typed_body, body_resolved, one_function}
+
+-- the machine
 
 -- the second element behind a list
 slice_get-append_second : {A : Type 0} (xs : List A) (x y : A) (ys : List A) → slice_get (xs ++ x ∷ y ∷ ys) (length xs + 1) ≡ Some y
@@ -23,12 +47,6 @@ slice_get-append_second [] x y ys = refl
 slice_get-append_second (z ∷ xs) x y ys =
     let next : length (z ∷ xs) + 1 ≡ suc (length xs + 1) = omega arith in
     rw next (slice_get-append_second xs x y ys)
-
--- a module of one function that prints one sum
-abbrev printing : Decl → List Ident → Place → ExprTree → (place closing : Place) → ModuleTree
-printing d ps at e place closing = record {
-  items = define (record { decl = d; params = ps; body = print at e ∷ []; place = place; closing = closing }) ∷ [];
-}
 
 -- the code of a sum, with the word put out and the return behind it
 abbrev body_of : List Instr → List Instr
@@ -48,6 +66,8 @@ ends_behind sum n =
     let P : State → Type 0 = λ s. Runs code s (finished sum n) in
     steps (behind sum n) _ refl (subst P (sym at_out) (steps put_out _ refl (subst P (sym at_return) (stays (finished sum n)))))
 
+-- the program
+
 -- in a world of one thread that has ended, exactly that thread is done
 abbrev OneHasEnded : World → Type 0
 OneHasEnded world = (i : ℕ) → HasEnded world i ↔ IsDone (Done ∷ []) i
@@ -57,60 +77,108 @@ one_has_ended c world one over zero = (λ ended. refl, λ done. (c, ap (λ threa
 one_has_ended c world one over (suc i) =
     (λ ended. absurd (cc (sym (ap (λ threads. slice_get threads (suc i)) one) ∙ ended.1)), λ done. absurd (cc done))
 
--- the source's thread 0 prints the value of the sum, and ends
-interleaved : (d : Decl) (ps : List Ident) (at : Place) (e : ExprTree) (place closing : Place) (n : ℕ) →
-    ((s : Sight) → value_of s e ≡ gives [] (word n)) →
-    let env : Env = env_of (printing d ps at e place closing ∷ []) in
-    (first : World) × IsFirstWorld env (entry ∷ []) [] first
-    × (threads : List ℕ) × (world : World) × Interleaves env first threads world
-    × OneHasEnded world × (world.out ≡ (0, n) ∷ [])
-interleaved d ps at e place closing n value =
-    let env : Env = env_of (printing d ps at e place closing ∷ []) in
-    let begun : Config = started entry (word 0 ∷ []) (record { statements = print at e ∷ []; closing = closing; rooms = map (λ p. 1) ps }) in
-    let first : World = record { threads = begun ∷ []; words = []; holders = []; out = [] } in
-    let begins : IsFirstWorld env (entry ∷ []) [] first = record { threads = (refl, tt); words = refl; holders = refl; out = refl } in
-    let here : Here = record {
-      newest = record { serial = 0; function = entry; target = None; todo = begin (print at e) ∷ [] };
-      older = [];
-      memory = begun.memory;
-      fresh = 1;
-      words = [];
+-- a call of the entry that has this left to do
+abbrev call_with : List Todo → Activation
+call_with todo = record { serial = 0; function = entry; target = None; todo = todo }
+
+-- a thread in it with these locals, and a world of this thread alone
+module _ (locals : List (List (Value Object))) where
+  abbrev thread_at : List Todo → Config
+  thread_at todo = record { activations = call_with todo ∷ []; memory = record { serial = 0; locals = locals } ∷ []; fresh = 1 }
+
+  abbrev here_at : List Todo → Here
+  here_at todo = record { config = thread_at todo; newest = call_with todo; older = []; words = [] }
+
+  abbrev world_at : List Todo → World
+  world_at todo = record { threads = thread_at todo ∷ []; words = []; holders = []; out = [] }
+
+-- what a world comes to where one thread prints this word and ends
+abbrev Prints : Env → World → ℕ → Type 0
+Prints e first n = (threads : List ℕ) × (world : World) × Interleaves e first threads world × OneHasEnded world × (world.out ≡ (0, n) ∷ [])
+
+-- the step that prints what was asked
+abbrev print_step : Env → Here → Asks Object (Value Object) → Option Step
+print_step e h x =
+    step_doing e h (answered (entity_in e h) (slice_get h.words) (cells_at h.config.memory)
+    (and_then (and_then x (λ u. and_then (word_in u) (λ m. gives (word (narrowed m I32))))) (λ v. and_then (word_in v) (λ m. gives (prints m [])))))
+
+-- the thread prints the value of the expression, and ends
+print_and_end : (e : Env) (locals : List (List (Value Object))) (p : Place) (x : TypedExprTree) (n : ℕ) →
+    ((s : Sight Object) → value_of s x ≡ gives (word n)) → Prints e (world_at locals (begin (t.print p (t.narrow I32 x)) ∷ [])) n
+print_and_end e locals p x n value =
+    let todo : List Todo = begin (t.print p (t.narrow I32 x)) ∷ [] in
+    let first : World = world_at locals todo in
+    let here : Here = here_at locals todo in
+    let printing : Step = goes_step e here [] (act.Out n) [] in
+    let may_print : MayStep e first 0 printing = record {
+      next = record { config = thread_at locals todo; stands = refl; steps = ap (print_step e here) (value (sight_of e here)) };
+      enabled = tt;
     } in
-    let taken : print_step here at [] (value_of (sight_of here) e) ≡ print_step here at [] (gives [] (word n)) = ap (print_step here at []) (value (sight_of here)) in
-    let may_print : MayStep env first 0 (print_step here at [] (gives [] (word n))) = record { config = begun; stands = refl; steps = ap (λ s. Some s) taken; enabled = tt } in
-    let printed : Config = thread_with here [] in
-    let left : Here = record { newest = record { serial = 0; function = entry; target = None; todo = [] }; older = []; memory = begun.memory; fresh = 1; words = [] } in
-    let second : World = world_after first 0 (print_step here at [] (gives [] (word n))) in
-    let may_return : MayStep env second 0 (return_step left closing) = record { config = printed; stands = refl; steps = refl; enabled = tt } in
-    let last : World = world_after second 0 (return_step left closing) in
-    (first, begins, _, last, and_step (and_step at_first 0 _ may_print) 0 _ may_return, one_has_ended (return_step left closing).next last refl refl, refl)
+    let second : World = world_after first 0 printing in
+    let left : Here = here_at locals [] in
+    let over : Config = thread_with left [] (memory_without left.config.memory 0) in
+    let returning : Step = step_to e left [] act.Done over in
+    let may_return : MayStep e second 0 returning = record { next = record { config = thread_at locals []; stands = refl; steps = refl }; enabled = tt } in
+    let last : World = world_after second 0 returning in
+    (_, last, and_step (and_step at_first 0 _ may_print) 0 _ may_return, one_has_ended over last refl refl, refl)
+
+-- .. from the first world, where this is the body of the entry
+from_first : (e : Env) (p : Place) (a : ExprTree) (n : ℕ) → (e.function entry).body ≡ typed_body p a → ((s : Sight Object) → value_of s (typed_sum a) ≡ gives (word n)) →
+    Prints e (first_world e (entry ∷ []) []) n
+from_first e p a n body value =
+    let locals : List (List (Value Object)) = locals_of (e.function entry).locals (word 0 ∷ []) in
+    let P : TypedStmtList → Type 0 = λ b. Prints e (world_at locals (begin_all b [])) n in
+    subst P (sym body) (print_and_end e locals p (typed_sum a) n value)
+
+-- both
+
+-- a module whose one item is a function that a thread of this name may enter, and that prints one sum
+pub record IsOne (name : List ℕ) (r : TypedModuleTree) (f : FunTree) (p : Place) (a : ExprTree) : Type 0 where
+  pub items : r.module_tree.items ≡ define f ∷ []
+  pub named : is_entry_named name f ≡ true
+  pub body : f.body ≡ one_more (print p a) no_more
+  pub formed : IsFormed r.module_tree
+  pub typed : IsTyped r.module_tree r
+
+-- its program prints the value of the sum
+program_prints : (name : List ℕ) (r : TypedModuleTree) (f : FunTree) (p : Place) (a : ExprTree) (code : List Instr) (n : ℕ) → IsOne name r f p a → IsExprCode a code →
+    ((s : Sight Object) → value_of s (typed_sum a) ≡ gives (word n)) → Prints (env_of (r ∷ [])) (program_world (r ∷ []) (name ∷ [])) n
+program_prints name r f p a code n one is_code value =
+    let P : List ItemTree → Type 0 = λ items. AreItems [] items r.functions in
+    let (it, good, functions) = one_function (subst P one.items one.typed.functions) in
+    let Q : StmtList → Type 0 = λ b. AreStmts (return_type f.decl.form) false (scope_in [] f) b it.body in
+    let resolved : it.body ≡ typed_body p a = body_resolved p is_code (subst Q one.body good.body) in
+    let body = one_body name r f one.items one.named one.formed it functions good.item ∙ resolved in
+    let F : World → Type 0 = λ w. Prints (env_of (r ∷ [])) w n in
+    subst F (sym (one_world name r f one.items one.named one.formed)) (from_first (env_of (r ∷ [])) p a n body value)
 
 -- the report of a run of one thread that ended in this state
 abbrev report_of : State → End → Report
 report_of s e = record { out = s.out; ends = e ∷ [] }
 
 -- a run of the code ends, and its report is that of a finished run of the module
-abbrev HasReport : ModuleTree → List Instr → Type 0
-HasReport tree code = (s : State) × Runs code (start 0) s × (s.end ≡ Some Done) × IsFinished tree (report_of s Done)
+abbrev HasReport : TypedModuleTree → (name : List ℕ) → List Instr → Type 0
+HasReport r name code = (s : State) × Runs code (start 0) s × (s.end ≡ Some Done) × IsFinished r name (report_of s Done)
 
-body_has_report : (d : Decl) (ps : List Ident) (body : List StmtTree) (place closing : Place) (code : List Instr) → IsBodyCode body code →
-    HasReport (record { items = define (record { decl = d; params = ps; body = body; place = place; closing = closing }) ∷ [] }) code
-body_has_report d ps (print at e ∷ []) place closing code (sum, is_code, whole) =
+one_has_report : (name : List ℕ) (r : TypedModuleTree) (f : FunTree) (p : Place) (a : ExprTree) (code sum : List Instr) → RacesAbsent → IsChecked r → IsOne name r f p a →
+    IsItemsCode r.module_tree.items code → IsExprCode a sum → code ≡ body_of sum → HasReport r name code
+one_has_report name r f p a code sum absent checked one generated is_code whole =
     let (n, value, leaves) = evaluated is_code in
     let run : Runs (body_of sum) (start 0) (finished sum n) = leaves (OutEax ∷ Ret ∷ []) (finished sum n) (ends_behind sum n) in
     let P : List Instr → Type 0 = λ c. Runs c (start 0) (finished sum n) in
     let ran : P code = subst P (sym whole) run in
-    let (first, begins, threads, world, interleaving, ended, source) = interleaved d ps at e place closing n value in (
+    let program = one_program name r f one.items one.named one.formed one.typed in
+    let (threads, world, interleaving, ended, source) = program_prints name r f p a sum n one is_code value in (
       finished sum n,
       ran,
       refl,
       record {
         code = code;
-        generated = (sum, is_code, whole);
+        generated = generated;
         machine = (finished sum n, ran, Done, refl, refl);
         done = (refl, tt);
-        first = first;
-        begins = begins;
+        program = program;
+        race_free = absent (r ∷ []) (name ∷ []) program (All-from_recursion IsChecked (r ∷ []) (checked, tt));
         threads = threads;
         world = world;
         interleaving = interleaving;
@@ -118,19 +186,57 @@ body_has_report d ps (print at e ∷ []) place closing code (sum, is_code, whole
         source = source;
       },
     )
-body_has_report d ps body place closing code is_code = absurd is_code
 
-has_report : (items : List ItemTree) (code : List Instr) → IsItemsCode items code → HasReport (record { items = items }) code
-has_report (define f ∷ []) code is_code = body_has_report f.decl f.params f.body f.place f.closing code is_code
-has_report items code is_code = absurd is_code
+-- a module of the first form is one, and this is its code
+record Parts (name : List ℕ) (items : List ItemTree) (code : List Instr) : Type 0 where
+  f : FunTree
+  p : Place
+  a : ExprTree
+  sum : List Instr
+  one : items ≡ define f ∷ []
+  named : is_entry_named name f ≡ true
+  body : f.body ≡ one_more (print p a) no_more
+  is_code : IsExprCode a sum
+  whole : code ≡ body_of sum
+
+parts_of_body : (name : List ℕ) (f : FunTree) (body : StmtList) (code : List Instr) → is_entry_named name f ≡ true → f.body ≡ body → IsBodyCode body code → Parts name (define f ∷ []) code
+parts_of_body name f (one_more (print at e) no_more) code named same (sum, is_code, whole) = record {
+  f = f;
+  p = at;
+  a = e;
+  sum = sum;
+  one = refl;
+  named = named;
+  body = same;
+  is_code = is_code;
+  whole = whole;
+}
+parts_of_body name f _ code named same is_code = absurd is_code
+
+parts_of : (name : List ℕ) (items : List ItemTree) (code : List Instr) → is_first_form_of name items ≡ true → IsItemsCode items code → Parts name items code
+parts_of name (define f ∷ []) code form is_code = parts_of_body name f f.body code (left_part (is_entry_named name f) (prints_sum f.body) form) refl is_code
+parts_of name _ code form is_code = absurd is_code
 
 -- a run of a module's code to an end leaves the report of a finished run of the module
-pub runs_to_finished : (tree : ModuleTree) {code ran : List Instr} {report : Report} →
-    IsItemsCode tree.items code → ran ≡ code → RunsTo ran report → IsFinished tree report
-runs_to_finished tree {code} is_code same_code (s, run, e, ends, is) =
-    let (t, t_run, done, finished) = has_report tree.items code is_code in
+pub runs_to_finished : (name : List ℕ) (r : TypedModuleTree) {code ran : List Instr} {report : Report} → RacesAbsent → IsFormed r.module_tree → IsTyped r.module_tree r → IsChecked r →
+    is_first_form name r.module_tree ≡ true → IsItemsCode r.module_tree.items code → ran ≡ code → RunsTo ran report → IsFinished r name report
+runs_to_finished name r {code} absent formed typed checked form generated same_code (s, run, e, ends, is) =
+    let parts = parts_of name r.module_tree.items code form generated in
+    let one : IsOne name r parts.f parts.p parts.a = record { items = parts.one; named = parts.named; body = parts.body; formed = formed; typed = typed } in
+    let (t, t_run, done, finished) = one_has_report name r parts.f parts.p parts.a code parts.sum absent checked one generated parts.is_code parts.whole in
     let P : List Instr → Type 0 = λ c. Runs c (start 0) s in
     let same : t ≡ s = one_end t_run (subst P same_code run) done ends in
     let is_done : Done ≡ e = cc (ap (λ (u : State). u.end) same) in
-    let Q : Report → Type 0 = λ r. IsFinished tree r in
+    let Q : Report → Type 0 = λ x. IsFinished r name x in
     subst Q (ap (λ (u : State). report_of u Done) same ∙ ap (report_of s) is_done ∙ sym is) finished
+
+-- .. and its lines are those of a run of the module
+pub run_of : (name : List ℕ) (typed : Typed) (m : Module) (r : TypedModuleTree) (code ran : List Instr) (report : Report) (lines : List (List ℕ)) → RacesAbsent → m ≡ typed.filled → IsTypedAs typed r →
+    IsChecked r → is_first_form name (module_tree m) ≡ true → IsItemsCode (module_tree m).items code → ran ≡ code → RunsTo ran report → lines ≡ report_lines report → IsRun r name lines
+run_of name typed m r code ran report lines absent filled stands checked form generated same_code run printed =
+    let same : module_tree m ≡ r.module_tree = ap module_tree filled ∙ sym stands.module_tree in
+    let P : ModuleTree → Type 0 = λ x. is_first_form name x ≡ true in
+    let Q : ModuleTree → Type 0 = λ x. IsItemsCode x.items code in
+    let formed = subst IsFormed (sym stands.module_tree) stands.formed in
+    let here = subst P same form in
+    (here, report, runs_to_finished name r absent formed stands.typed checked here (subst Q same generated) same_code run, printed)

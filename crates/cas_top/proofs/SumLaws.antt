@@ -2,12 +2,16 @@
 use Rattle.std.proofs.Common.{◌≡◌, ℕ, List, [], ◌∷◌, ◌++◌, length, Some, None, slice_get, refl, sym, ap, subst, append_assoc}
 use Rattle.std.proofs.lemmas.List.{length_push}
 use Rattle.cas_base.specs.Word.{word_add}
-use Rattle.cas_base.specs.declared.kind.Kind.{Kind}
 use Rattle.cas_base.specs.declared.kind.Kind.TheVariants.{I32}
-use Rattle.cas_clight.specs.declared.tree.BinaryOperator.{BinaryOperator}
-use Rattle.cas_clight.specs.declared.tree.BinaryOperator.TheVariants.{Add}
-use Rattle.cas_clight.specs.Tree.{ExprTree, literal, binary}
-use Rattle.cas_clight.specs.Step.{Sight, word, gives, and_then, result_of, value_of}
+use Rattle.cas_syntax.specs.Tree.{ExprTree, literal, binary}
+use Rattle.cas_syntax.specs.declared.tree.BinaryOperator.TheVariants.{Add}
+use Rattle.cas_typed.specs.Resolved as t
+use Rattle.cas_typed.specs.Resolved.{TypedExprTree}
+use Rattle.cas_typed.specs.declared.tree.Signedness.TheVariants.{Signed}
+use Rattle.cas_step.specs.Asks.{Value, word, Asks, gives, and_then, word_in}
+use Rattle.cas_step.specs.Evaluate.{Sight, a_word, value_of}
+use Rattle.cas_step.specs.Operators.{binary_result}
+use Rattle.cas_step.specs.Step.{Object}
 use Rattle.cas_top.specs.Machine.{State, executed, Runs, steps, start, IsExprCode, loads, adds}
 use Rattle.cas_top.specs.declared.machine.Instr.{Instr}
 use Rattle.cas_top.specs.declared.machine.Instr.TheVariants.{AddEax}
@@ -37,19 +41,19 @@ leaves_sum code m n leaves rest t run =
     let S : State → Type 0 = λ s. Runs (code ++ (AddEax n ∷ rest)) s t in
     subst P (sym whole) (leaves (AddEax n ∷ rest) t (steps (behind code m) t refl (subst S (sym at_sum) from_sum)))
 
+-- what a sum of literals is resolved to
+abbrev pub typed_sum : ExprTree → TypedExprTree
+typed_sum (literal n k) = t.literal n
+typed_sum (binary op a b) = t.binary op Signed (typed_sum a) (typed_sum b)
+typed_sum _ = t.null
+
+-- the sum of what an expression gives and a number
+abbrev with_number : ℕ → Asks Object (Value Object) → Asks Object (Value Object)
+with_number n x = and_then x (λ u. and_then (gives (word n)) (λ v. and_then (word_in u) (λ a. and_then (word_in v) (λ b. a_word (binary_result Add Signed a b)))))
+
 -- a sum of literals evaluates to the word that its code leaves
-pub evaluated : {e : ExprTree} {code : List Instr} → IsExprCode e code → (n : ℕ) × ((s : Sight) → value_of s e ≡ gives [] (word n)) × Leaves code n
-evaluated (loads n k) = (n, λ s. refl, λ rest t run. steps (start 0) t refl run)
-evaluated (adds sum code n k is_code) =
-    let (m, value, leaves) = evaluated is_code in
-    (word_add m n, λ s. ap (λ g. and_then g (λ u. and_then (gives [] (word n)) (λ v. result_of Add u v))) (value s), leaves_sum code m n leaves)
-
--- there is one operator
-pub only_add : (op : BinaryOperator) → op ≡ Add
-only_add Add = refl
-
--- code of the left operand, with `add eax` behind it, is code of a sum
-pub adds_to : {whole sum given right : ExprTree} {code all : List Instr} (n : ℕ) (k : Kind) →
-    whole ≡ binary Add sum right → right ≡ literal n k → given ≡ sum → IsExprCode given code → all ≡ code ++ AddEax n ∷ [] → IsExprCode whole all
-adds_to {code = code} n k at_whole at_right at_sum is_code at_all =
-    rw (at_whole, at_right, at_all, ← at_sum) (adds _ code n k is_code)
+pub evaluated : {e : ExprTree} {code : List Instr} → IsExprCode e code →
+    (n : ℕ) × ((s : Sight Object) → value_of s (typed_sum e) ≡ gives (word n)) × Leaves code n
+evaluated (loads n) = (n, λ s. refl, λ rest t run. steps (start 0) t refl run)
+evaluated (adds sum code n is_code) =
+    let (m, value, leaves) = evaluated is_code in (word_add m n, λ s. ap (with_number n) (value s), leaves_sum code m n leaves)

@@ -1,5 +1,5 @@
 -- How modules are checked and joined, and how threads take turns.
-use Rattle.std.proofs.Common.{◌≡◌, ℕ, zero, suc, ◌+◌, ◌<◌, Bool, true, false, ◌&&◌, List, [], ◌∷◌, ◌++◌, length, map, get_or, Option, Some, Result, Ok, Err, ◌≢◌, refl, sym, ap, ◌∙◌, inl, inr, subst, append-nil, append_assoc, arith}
+use Rattle.std.proofs.Common.{◌≡◌, ℕ, zero, suc, ◌+◌, ◌<◌, true, List, [], ◌∷◌, ◌++◌, length, map, get_or, Option, Some, Result, Ok, Err, ◌≢◌, refl, sym, ap, ◌∙◌, inl, inr, subst, append-nil, append_assoc, arith}
 use Rattle.std.specs.Borrow.{Bor}
 use Rattle.std.specs.List.{list_all}
 use Rattle.cas_base.specs.Name.{is_name}
@@ -12,7 +12,9 @@ use Rattle.cas_settle.specs.declared.link.LinkFault.{LinkFault}
 use Rattle.cas_settle.specs.declared.link.LinkFault.TheVariants as link
 use Rattle.cas_top.specs.Plan.{RefusesFirst}
 use Rattle.cas_top.specs.View.{module_line, names_of, texts_of, AreModules, IsCheckedAs, IsJoined, IsUnlinked, IsWorldShown}
-use Rattle.cas_top.specs.Worlds.{AreCheckedModules, PrintsWorld, turned, world_lines}
+use Rattle.cas_top.specs.Checked_module.{AreCheckedModules}
+use Rattle.cas_top.specs.Worlds.{PrintsWorld, turned, world_lines}
+use Rattle.cas_top.proofs.Both.{left_part, right_part}
 use Rattle.cas_top.proofs.One_by_one.{checked_text}
 use Rattle.cas_top.specs.declared.refusal.Refusal.{Refusal}
 use Rattle.cas_top.specs.declared.refusal.Refusal.TheVariants as refusal
@@ -84,19 +86,11 @@ modules_end whole checked on =
 
 -- names of threads' functions
 
-all_left : (a b : Bool) → a && b ≡ true → a ≡ true
-all_left true b h = refl
-all_left false b h = cc
-
-all_right : (a b : Bool) → a && b ≡ true → b ≡ true
-all_right true b h = h
-all_right false b h = cc
-
 -- the name at which a loop is
 pub name_at : (names : List (Bor (List ℕ))) (i : ℕ) (d : Bor (List ℕ)) → i < length names → list_all is_name (texts names) ≡ true → is_name (get_or names i d).now ≡ true
 name_at [] i d within all = absurd (omega (arith, within))
-name_at (n ∷ ns) zero d within all = all_left (is_name n.now) (list_all is_name (texts ns)) all
-name_at (n ∷ ns) (suc i) d within all = name_at ns i d (omega (arith, within)) (all_right (is_name n.now) (list_all is_name (texts ns)) all)
+name_at (n ∷ ns) zero d within all = left_part (is_name n.now) (list_all is_name (texts ns)) all
+name_at (n ∷ ns) (suc i) d within all = name_at ns i d (omega (arith, within)) (right_part (is_name n.now) (list_all is_name (texts ns)) all)
 
 -- the lines of one more thread
 map_behind : {X : Type 0} (f : ℕ → X) (xs : List ℕ) (x : ℕ) → map f (xs ++ x ∷ []) ≡ map f xs ++ f x ∷ []

@@ -1,4 +1,5 @@
 pub mod Answer
+pub mod Checked_module
 pub mod Exclusion
 pub mod First_form
 pub mod Machine

@@ -2,9 +2,9 @@
 -- touches no memory.
 use Rattle.std.specs.Prelude.{◌≡◌, ℕ, ◌+◌, List, [], ◌∷◌, ◌++◌, Option, Some, None, slice_get}
 use Rattle.cas_base.specs.Word.{word_add}
-use Rattle.cas_base.specs.declared.kind.Kind.{Kind}
-use Rattle.cas_clight.specs.declared.tree.BinaryOperator.TheVariants.{Add}
-use Rattle.cas_clight.specs.Tree.{ExprTree, literal, binary, StmtTree, print, ItemTree, define}
+use Rattle.cas_base.specs.declared.kind.Kind.TheVariants.{I32}
+use Rattle.cas_syntax.specs.Tree.{ExprTree, literal, binary, StmtList, no_more, one_more, print, ItemTree, define}
+use Rattle.cas_syntax.specs.declared.tree.BinaryOperator.TheVariants.{Add}
 use Rattle.cas_top.specs.declared.machine.Instr.{Instr}
 use Rattle.cas_top.specs.declared.machine.Instr.TheVariants.{MovEax, AddEax, OutEax, Ret}
 use Rattle.cas_top.specs.declared.machine.End.{End}
@@ -46,15 +46,15 @@ abbrev pub RunsTo : List Instr → Report → Type 0
 RunsTo code report =
     (s : State) × Runs code (start 0) s × (e : End) × (s.end ≡ Some e) × (report ≡ record { out = s.out; ends = e ∷ [] })
 
--- this code leaves the value of the expression, a sum of literals, in the register
+-- this code leaves the value of the expression, a sum of literals of `int`, in the register
 pub data IsExprCode : ExprTree → List Instr → Type 0 where
-  loads : (n : ℕ) (k : Kind) → IsExprCode (literal n k) (MovEax n ∷ [])
-  adds : (sum : ExprTree) (code : List Instr) (n : ℕ) (k : Kind) → IsExprCode sum code →
-      IsExprCode (binary Add sum (literal n k)) (code ++ AddEax n ∷ [])
+  loads : (n : ℕ) → IsExprCode (literal n I32) (MovEax n ∷ [])
+  adds : (sum : ExprTree) (code : List Instr) (n : ℕ) → IsExprCode sum code →
+      IsExprCode (binary Add sum (literal n I32)) (code ++ AddEax n ∷ [])
 
 -- this is the code of a body that prints one sum
-abbrev pub IsBodyCode : List StmtTree → List Instr → Type 0
-IsBodyCode (print at e ∷ []) code = (sum : List Instr) × IsExprCode e sum × (code ≡ sum ++ OutEax ∷ Ret ∷ [])
+abbrev pub IsBodyCode : StmtList → List Instr → Type 0
+IsBodyCode (one_more (print at a) no_more) code = (sum : List Instr) × IsExprCode a sum × (code ≡ sum ++ OutEax ∷ Ret ∷ [])
 IsBodyCode _ code = ⊥
 
 -- this is the code of a module of one function that prints one sum

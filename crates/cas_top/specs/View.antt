@@ -1,5 +1,5 @@
 -- What the code's refusals and texts hold, as the definitions speak of them, and what its functions answer.
-use Rattle.std.specs.Prelude.{◌≡◌, ◌≢◌, ◌<◌, ◌≤◌, ◌⊎◌, ⊤, ℕ, true, List, [], ◌∷◌, ◌++◌, length, map, Some, Result, Ok, Err, codes}
+use Rattle.std.specs.Prelude.{◌≡◌, ◌≢◌, ◌<◌, ◌≤◌, ◌⊎◌, ⊤, ℕ, true, false, List, [], ◌∷◌, ◌++◌, length, map, Option, Some, None, Result, Ok, Err, codes}
 use Rattle.std.specs.List.{list_all}
 use Rattle.std.specs.declared.vec.Vec.{Vec}
 use Rattle.std.specs.declared.alloc.Global.{Global}
@@ -18,22 +18,27 @@ use Rattle.cas_whole.specs.Program_of.{IsProgramOf}
 use Rattle.cas_whole.specs.Whole.{AreTyped}
 use Rattle.cas_whole.specs.declared.program.Program.{Program}
 use Rattle.cas_world.specs.Races.{IsRaceFree, program_world}
-use Rattle.cas_top.specs.Worlds.{AreCheckedModules, link_fault_line, PrintsWorld, RefusesProgram}
+use Rattle.cas_top.specs.Checked_module.{AreCheckedModules, IsCheckedText}
+use Rattle.cas_top.specs.Worlds.{link_fault_line, PrintsWorld, RefusesProgram}
 use Rattle.cas_top.specs.declared.refusal.ModuleFault.{ModuleFault}
 use Rattle.cas_top.specs.declared.refusal.ModuleFault.TheVariants as fault
 use Rattle.cas_top.specs.declared.refusal.Refusal.{Refusal}
 use Rattle.cas_top.specs.declared.refusal.Refusal.TheVariants as refusal
 use Rattle.cas_top.specs.declared.source.Source.{Source}
 use Rattle.cas_top.specs.Answer.{Told, Taken, IsRefusal, IsFirstLong, IsFirstUnread, AreRead, IsCut, IsPartly, IsPrinted, IsRead, IsFailed, IsTried}
-use Rattle.cas_top.specs.Plan.{PrintsLines, RefusesText, RefusesRun, RefusesFirst, IsCheckedText, AreChecked}
+use Rattle.cas_top.specs.First_form.{is_sum, is_first_form}
+use Rattle.cas_top.specs.Machine.{Report, IsExprCode}
+use Rattle.cas_top.specs.declared.machine.Instr.{Instr}
+use Rattle.cas_top.specs.declared.machine.Instr.TheVariants.{OutEax, Ret}
+use Rattle.cas_top.specs.Plan.{IsFinished, PrintsLines, RefusesText, RefusesRun, RefusesFirst, AreChecked}
 use Rattle.cas_syntax.specs.Reading.{IsReadAs}
-use Rattle.cas_syntax.specs.Tree.{ModuleTree}
+use Rattle.cas_syntax.specs.Tree.{ExprTree, ModuleTree}
 use Rattle.cas_typed.specs.Faults as type
 use Rattle.cas_typed.specs.Modules.{IsTyped}
 use Rattle.cas_typed.specs.Resolved.{TypedModuleTree}
 use Rattle.cas_typed.specs.Typed_as.{IsTypedAs}
 use Rattle.cas_typed.specs.declared.typed.Typed.{Typed}
-use Rattle.cas_top.specs.Printed.{line_of, fault_line, type_fault_line, own_fault_line, form_line, ok_line}
+use Rattle.cas_top.specs.Printed.{line_of, fault_line, type_fault_line, own_fault_line, form_line, ok_line, report_lines}
 
 -- the names of texts that were read, and the texts
 abbrev pub names_of : List Source → List (List ℕ)
@@ -107,6 +112,22 @@ IsShown r text (Ok lines) = PrintsLines text r.thread lines.items
 IsShown r text (Err (refusal.Faulty n f)) = RefusesRun r text (module_line n.now f)
 IsShown r text (Err refusal.Memory) = Unit {0}
 IsShown r text (Err other) = ⊥
+
+-- the code of a sum, where the expression is one
+abbrev pub IsSumCode : ExprTree → Option (Vec Instr Global) → Type 0
+IsSumCode a None = is_sum a ≡ false
+IsSumCode a (Some code) = (is_sum a ≡ true) × IsExprCode a code.items
+
+-- the code that puts out the value of an expression and ends, where it is a sum
+abbrev pub IsPrintCode : ExprTree → Option (Vec Instr Global) → Type 0
+IsPrintCode a None = is_sum a ≡ false
+IsPrintCode a (Some code) = (is_sum a ≡ true) × (sum : List Instr) × IsExprCode a sum × (code.items ≡ sum ++ OutEax ∷ Ret ∷ [])
+
+-- the module is of the first form, and these are the lines of a finished run of it on one thread of this function
+abbrev pub IsRun : TypedModuleTree → (thread : List ℕ) → (lines : List (List ℕ)) → Type 0
+IsRun resolved thread lines =
+    (is_first_form thread resolved.module_tree ≡ true)
+    × (report : Report) × IsFinished resolved thread report × (lines ≡ report_lines report)
 
 -- the text of this name is of a checked module, or this is why not
 abbrev pub IsCheckedSource : (name text : List ℕ) → Result (Unit {0}) Refusal → Type 0

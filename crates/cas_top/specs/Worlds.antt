@@ -1,5 +1,5 @@
 -- What `world` comes to: a refusal of the modules and threads, which are no program; or the lines of the world that turns come to.
-use Rattle.std.specs.Prelude.{◌≡◌, ⊤, ℕ, ◌==◌, ◌&&◌, List, [], ◌∷◌, ◌++◌, length, map, replicate, Option, Some, None, slice_get, codes}
+use Rattle.std.specs.Prelude.{◌≡◌, ℕ, ◌==◌, ◌&&◌, List, [], ◌∷◌, ◌++◌, length, map, replicate, Option, Some, None, slice_get, codes}
 use Rattle.std.specs.Fmt.{decimal}
 use Rattle.std.specs.List.{find, flat_map}
 use Rattle.std.specs.Option.{option_map_or}
@@ -8,7 +8,6 @@ use Rattle.cas_base.specs.declared.act.Why.{Why}
 use Rattle.cas_base.specs.declared.act.Why.TheVariants as why
 use Rattle.cas_command.specs.Words as words
 use Rattle.cas_command.specs.Words.{Turns}
-use Rattle.cas_own.specs.Checked.{IsChecked}
 use Rattle.cas_program.specs.Program.{IsProgram, env_of, units_of}
 use Rattle.cas_settle.specs.Count.{count_text}
 use Rattle.cas_settle.specs.Settle.{cells_of, first_refusal}
@@ -16,16 +15,14 @@ use Rattle.cas_settle.specs.declared.link.CellRow.{CellRow}
 use Rattle.cas_settle.specs.declared.link.LinkFault.{LinkFault}
 use Rattle.cas_settle.specs.declared.link.LinkFault.TheVariants as fault
 use Rattle.cas_step.specs.Env.{Env}
-use Rattle.cas_syntax.specs.Reading.{IsReadAs}
-use Rattle.cas_syntax.specs.Tree.{ModuleTree}
 use Rattle.cas_turn.specs.Answers.{state_shown}
 use Rattle.cas_turn.specs.declared.answer.ThreadState.{ThreadState}
 use Rattle.cas_turn.specs.declared.answer.ThreadState.TheVariants as stands
-use Rattle.cas_typed.specs.Modules.{IsTyped}
 use Rattle.cas_typed.specs.Resolved.{TypedModuleTree}
 use Rattle.cas_world.specs.Races.{IsRaceFree, program_world}
 use Rattle.cas_world.specs.Turns.{turns, rounds, state_of, threads_from}
 use Rattle.cas_world.specs.World.{World}
+use Rattle.cas_top.specs.Checked_module.{AreCheckedModules}
 use Rattle.cas_top.specs.Printed.{line_of, out_line}
 
 -- a refusal of a program in words: `L1 NAME`, `L2 NAME`, `L3 NAME: DEFINED | DECLARED`, `L4 NAME: FOUND` or `L5 WORD N`
@@ -86,19 +83,6 @@ turns_of items = flat_map (λ item. replicate item.1 item.0) items
 abbrev pub turned : Env → Turns → World → World
 turned e (words.schedule items) w = turns e w (turns_of items)
 turned e (words.rounds count) w = rounds e w count
-
--- the text is read as a module, and this is that module, typed and checked
-pub record IsCheckedModule (text : List ℕ) (resolved : TypedModuleTree) : Type 0 where
-  pub read_module : ModuleTree
-  pub read : IsReadAs text read_module
-  pub typed : IsTyped read_module resolved
-  pub checked : IsChecked resolved
-
--- so are these texts and modules, one by one
-abbrev pub AreCheckedModules : (texts : List (List ℕ)) → List TypedModuleTree → Type 0
-AreCheckedModules [] [] = ⊤
-AreCheckedModules (text ∷ texts) (m ∷ ms) = IsCheckedModule text m × AreCheckedModules texts ms
-AreCheckedModules _ _ = ⊥
 
 -- The texts are checked and a program, which is race-free, and these are the lines of the world that the turns come to from its first.
 pub record PrintsWorld (w : words.World) (texts : List (List ℕ)) (lines : List (List ℕ)) : Type 0 where

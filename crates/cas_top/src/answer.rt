@@ -8,7 +8,6 @@ ghost use Rattle.cas_command.specs.Words.{check, run, world, source_limit};
 ghost use Rattle.cas_top.specs.View.{IsEnd, IsGiven, IsWithin, Counts, IsPutLines, IsShown};
 
 use crate::checking::checked_lines;
-use crate::first_form::first_form;
 use crate::modules::checked_module;
 use crate::outcome::lines_of;
 use crate::reading::{fetch, fetch_all};
@@ -119,12 +118,8 @@ fn lines_of_text<'a>(alloc: Global, text: &[u8], given: Run<'a>) -> Result<Vec<T
         Ok(checked) => checked,
         Err(refusal) => return Err(refusal),
     };
-    match first_form(alloc, checked.typed().module(), given.thread) {
-        Ok(Some(module)) => match lines_of(alloc, &module) {
-            Ok(Some(lines)) => Ok(lines),
-            Ok(None) => unreachable!(),
-            Err(NoMemory) => Err(Refusal::Memory),
-        },
+    match lines_of(alloc, checked.typed(), given.thread) {
+        Ok(Some(lines)) => Ok(lines),
         Ok(None) => Err(Refusal::Faulty(given.source, ModuleFault::Formless)),
         Err(NoMemory) => Err(Refusal::Memory),
     }

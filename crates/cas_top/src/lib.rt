@@ -3,7 +3,6 @@
 
 mod answer;
 mod checking;
-mod first_form;
 mod generate;
 pub mod laws;
 mod machine;

@@ -1,13 +1,7 @@
-use Rattle.cas_clight.specs.Tree.{module_tree}
-use Rattle.cas_top.proofs.FormLaws.{has_code}
-use Rattle.cas_top.proofs.ReportLaws.{runs_to_finished}
+use Rattle.cas_top.proofs.ReportLaws.{run_of}
 use Rattle.cas_top.proofs.outcome.lines_of.Goals as goal
 
-pub returns-in_default-clause-others : goal.returns-in_default-clause-others
-returns-in_default-clause-others c name m form =
-    let (code, is_code) = has_code name m _ form in (rw c.in_default.is at c.in_ok-code.ensures.others) code is_code
-
 pub returns-clause-printed : goal.returns-clause-printed
-returns-clause-printed c =
-    let is_code = rw c.in-Some.is at c.in_ok-code.ensures.generated in
-    (_, runs_to_finished (module_tree c.args.tree.now) is_code c.deref.ensures.value c.in_ok-report.ensures, c.in_ok-report_lines.ensures)
+returns-clause-printed c = λ r stands checked.
+    run_of c.args.thread.now c.args.typed.now c.module.result.now r _ _ _ _ c.races_absent.ensures c.module.ensures stands checked
+    (rw c.in-Some.is at c.in_ok-code.ensures.form) (rw c.in-Some.is at c.in_ok-code.ensures.generated) c.deref.ensures.value c.in_ok-report.ensures c.in_ok-report_lines.ensures

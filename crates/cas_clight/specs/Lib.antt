@@ -1,4 +1,0 @@
-pub mod Program
-pub mod Step
-pub mod Tree
-pub mod World
