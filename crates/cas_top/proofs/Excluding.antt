@@ -2,9 +2,8 @@
 use Rattle.std.proofs.Common.{◌≡◌, ◌<◌, ◌≤◌, ℕ, true, false, List, [], ◌∷◌, length, Option, Some, None, refl, sym, ◌∙◌, ap, subst, inl, inr, arith}
 use Rattle.cas_outside.specs.Shelf.{Texts, text_of}
 use Rattle.cas_top.specs.Answer.{IsRead, AreRead, IsFirstLong}
-use Rattle.cas_top.specs.Exclusion.{CausesExclude}
 use Rattle.cas_parse.proofs.Texts.{one_module, no_module_and_fault}
-use Rattle.cas_command.specs.Words.{Command, Run, World, Wanted, run, check, world, wanted_texts}
+use Rattle.cas_command.specs.Words.{Command, Run, World, Wanted, run, check, world}
 use Rattle.cas_program.specs.Program.{units_of}
 use Rattle.cas_settle.proofs.SettledLemmas.{none-settled}
 use Rattle.cas_settle.specs.Settle.{first_refusal}
@@ -52,13 +51,13 @@ read_and_long held (w ∷ ws) (x ∷ xs) name h (inl k) =
 read_and_long held (w ∷ ws) (x ∷ xs) name h (inr k) = read_and_long held ws xs name h.1 k.2
 
 -- a typed module has no fault of typing
-typed_and_faulty : (m n : ModuleTree) (r : TypedModuleTree) (f : Fault) → m ≡ n → IsTyped m r → HasTypeFault n f → ⊥
+pub typed_and_faulty : (m n : ModuleTree) (r : TypedModuleTree) (f : Fault) → m ≡ n → IsTyped m r → HasTypeFault n f → ⊥
 typed_and_faulty m n r f same typed fault =
     let P : ModuleTree → Type 0 = λ x. IsTyped x r in
     typed_without_fault n r f (subst P same typed) fault
 
 -- a module is resolved in one way
-one_resolved : (m n : ModuleTree) (r s : TypedModuleTree) → m ≡ n → IsTyped m r → IsTyped n s → r ≡ s
+pub one_resolved : (m n : ModuleTree) (r s : TypedModuleTree) → m ≡ n → IsTyped m r → IsTyped n s → r ≡ s
 one_resolved m n r s same h k =
     let P : ModuleTree → Type 0 = λ x. IsTyped x r in
     typed_in_one_way n r s (subst P same h) k
@@ -71,11 +70,11 @@ checked_and_unowned r s f same checked fault =
     cc
 
 -- a text is read as one checked module
-one_checked : (text : List ℕ) (r s : TypedModuleTree) → IsCheckedModule text r → IsCheckedModule text s → r ≡ s
+pub one_checked : (text : List ℕ) (r s : TypedModuleTree) → IsCheckedModule text r → IsCheckedModule text s → r ≡ s
 one_checked text r s h k = one_resolved h.read_module k.read_module r s (one_module text h.read_module k.read_module h.read k.read) h.typed k.typed
 
 -- a text of a checked module isn't refused
-checked_and_refused : (name text line : List ℕ) → IsCheckedText text → RefusesText name text line → ⊥
+pub checked_and_refused : (name text line : List ℕ) → IsCheckedText text → RefusesText name text line → ⊥
 checked_and_refused name text line (r, h) (misread code p fault) = no_module_and_fault text h.read_module code p h.read fault
 checked_and_refused name text line (r, h) (untyped m f read fault) =
     typed_and_faulty h.read_module m r f (one_module text h.read_module m h.read read) h.typed fault
@@ -98,20 +97,20 @@ shown_and_refused r text lines line (m, form, report, finished, whole) (formless
     one_form r.thread m n (one_checked text m n form.is_module checked) form.form none
 
 -- where all texts are of checked modules, none is refused
-checked_and_first : (names texts : List (List ℕ)) (line : List ℕ) → AreChecked texts → RefusesFirst names texts line → ⊥
+pub checked_and_first : (names texts : List (List ℕ)) (line : List ℕ) → AreChecked texts → RefusesFirst names texts line → ⊥
 checked_and_first [] texts line h k = absurd k
 checked_and_first (n ∷ ns) [] line h k = absurd k
 checked_and_first (n ∷ ns) (t ∷ ts) line h (inl refused) = checked_and_refused n t line h.0 refused
 checked_and_first (n ∷ ns) (t ∷ ts) line h (inr later) = checked_and_first ns ts line h.1 later.1
 
 -- checked texts are of checked modules
-modules_checked : (texts : List (List ℕ)) (ms : List TypedModuleTree) → AreCheckedModules texts ms → AreChecked texts
+pub modules_checked : (texts : List (List ℕ)) (ms : List TypedModuleTree) → AreCheckedModules texts ms → AreChecked texts
 modules_checked [] ms h = tt
 modules_checked (t ∷ ts) [] h = absurd h
 modules_checked (t ∷ ts) (m ∷ ms) h = ((m, h.0), modules_checked ts ms h.1)
 
 -- and their modules are one
-one_modules : (texts : List (List ℕ)) (ms ns : List TypedModuleTree) → AreCheckedModules texts ms → AreCheckedModules texts ns → ms ≡ ns
+pub one_modules : (texts : List (List ℕ)) (ms ns : List TypedModuleTree) → AreCheckedModules texts ms → AreCheckedModules texts ns → ms ≡ ns
 one_modules [] [] [] h k = refl
 one_modules [] [] (n ∷ ns) h k = absurd k
 one_modules [] (m ∷ ms) ns h k = absurd h
@@ -142,27 +141,3 @@ one_plan (run r) (a ∷ b ∷ d ∷ rest) lines s t line h k = absurd h
 one_plan (check names) texts lines s t line h k = checked_and_first names texts line h.1 k.1
 one_plan (world w) texts lines s t line h (inl k) = checked_and_first w.names texts line (modules_checked texts h.1.modules h.1.read) k.1
 one_plan (world w) texts lines s t line h (inr k) = program_and_refused w texts lines line h.1 k.1
-
--- nor to refusals of two statuses
-pub one_refusal : (c : Command) (texts : List (List ℕ)) (s t : ℕ) (line other : List ℕ) → Plans c texts (refuses s line) → Plans c texts (refuses t other) → s ≡ t
-one_refusal (run r) [] s t line other h k = absurd h
-one_refusal (run r) (a ∷ []) s t line other h k = absurd h
-one_refusal (run r) (a ∷ b ∷ []) s t line other h k = h.0 ∙ sym k.0
-one_refusal (run r) (a ∷ b ∷ d ∷ rest) s t line other h k = absurd h
-one_refusal (check names) texts s t line other h k = h.0 ∙ sym k.0
-one_refusal (world w) texts s t line other (inl h) (inl k) = h.0 ∙ sym k.0
-one_refusal (world w) texts s t line other (inl h) (inr k) = absurd (checked_and_first w.names texts line (modules_checked texts k.1.modules k.1.read) h.1)
-one_refusal (world w) texts s t line other (inr h) (inl k) = absurd (checked_and_first w.names texts other (modules_checked texts h.1.modules h.1.read) k.1)
-one_refusal (world w) texts s t line other (inr h) (inr k) = h.0 ∙ sym k.0
-
-pub causes_exclude : CausesExclude
-causes_exclude held c = record {
-  refused = λ s t text line p r.
-      let P : List (List ℕ) → Type 0 = λ ts. Plans c ts (refuses t line) in
-      one_plan c p.texts p.lines s t line p.plan (subst P (one_list held (wanted_texts c) r.texts p.texts r.read p.read) r.plan);
-  refused_once = λ s t line other p r.
-      let P : List (List ℕ) → Type 0 = λ ts. Plans c ts (refuses t other) in
-      one_refusal c p.texts s t line other p.plan (subst P (one_list held (wanted_texts c) r.texts p.texts r.read p.read) r.plan);
-  printed_long = λ s text name p l. read_and_long held (wanted_texts c) p.texts name p.read l;
-  refused_long = λ s line name r l. read_and_long held (wanted_texts c) r.texts name r.read l;
-}

@@ -2,6 +2,7 @@ pub mod Both
 pub mod Ends
 pub mod Excluding
 pub mod FormLaws
+pub mod One_answer
 pub mod One_by_one
 pub mod One_function
 pub mod ReportLaws

@@ -1,9 +1,9 @@
 -- The program of a module of one function that a thread may enter: it settles, the thread begins at the function, and no word is shared.
-use Rattle.std.proofs.Common.{◌≡◌, ℕ, Bool, true, false, ◌&&◌, List, [], ◌∷◌, Option, Some, None, if◌then◌else◌, slice_get, refl, sym, ap, subst, ◌∙◌}
+use Rattle.std.proofs.Common.{◌≡◌, ℕ, Bool, true, List, [], ◌∷◌, Option, Some, None, if◌then◌else◌, slice_get, refl, sym, ap, subst, ◌∙◌}
 use Rattle.std.specs.List.{flat_map, cons_option}
 use Rattle.std.specs.Option.{option_map, option_or}
 use Rattle.std.specs.Str.{bytes_eq}
-use Rattle.std.specs.Prelude.{All, map, position, filter, not}
+use Rattle.std.specs.Prelude.{map, position, filter, not}
 use Rattle.std.proofs.lemmas.Iterator.Adapters.{position_from-zero}
 use Rattle.std.proofs.lemmas.List.Elements.{All-from_recursion}
 use Rattle.cas_base.specs.Decl.{is_entry, is_function, definitions, references, functions_of, is_named, definition_of}
@@ -13,16 +13,15 @@ use Rattle.cas_base.specs.declared.decl.Form.TheVariants as form
 use Rattle.cas_program.proofs.Agreeing.{itself, same_name}
 use Rattle.cas_program.specs.Program.{IsProgram, env_of, entries_of, initial_words, units_of, function_of, function_with, body_item, item_words}
 use Rattle.cas_settle.proofs.SettledLemmas.{settled-none}
-use Rattle.cas_settle.specs.Settle.{IsSettled, all_decls, first_refusal, twice_fault, references_fault, entries_fault, entry_fault, limits_fault, place_of}
-use Rattle.cas_settle.specs.declared.link.LinkFault.{LinkFault}
+use Rattle.cas_settle.specs.Settle.{IsSettled, first_refusal, twice_fault, references_fault, entries_fault, entry_fault, limits_fault, place_of}
 use Rattle.cas_settle.specs.declared.link.LinkFault.TheVariants.{Entry}
 use Rattle.cas_step.specs.Env.{FunctionAt, Function}
 use Rattle.cas_syntax.specs.Tree.{FunTree, ItemTree, define}
 use Rattle.cas_typed.specs.Formed.{IsFormed, ItemsAreFormed}
 use Rattle.cas_typed.specs.Modules.{IsTyped, decl_of}
-use Rattle.cas_typed.specs.Resolved.{TypedStmtList, TypedFunTree, TypedModuleTree}
+use Rattle.cas_typed.specs.Resolved.{TypedFunTree, TypedModuleTree}
 use Rattle.cas_world.specs.Races.{program_world}
-use Rattle.cas_world.specs.World.{World, first_world}
+use Rattle.cas_world.specs.World.{first_world}
 use Rattle.cas_top.specs.First_form.{is_entry_named}
 use Rattle.cas_top.proofs.Both.{left_part, right_part}
 

@@ -12,7 +12,7 @@ use Rattle.cas_step.specs.Asks.{Value, word, Asks, gives, and_then, word_in}
 use Rattle.cas_step.specs.Env.{Env}
 use Rattle.cas_step.specs.Evaluate.{Sight, value_of}
 use Rattle.cas_step.specs.Items.{Todo, begin, begin_all, prints}
-use Rattle.cas_step.specs.Step.{Object, Activation, Config, Step, Here, entity_in, sight_of, cells_at, memory_without, thread_with, step_to, goes_step, step_doing, step, locals_of}
+use Rattle.cas_step.specs.Step.{Object, Activation, Config, Step, Here, entity_in, sight_of, cells_at, memory_without, thread_with, step_to, goes_step, step_doing, locals_of}
 use Rattle.cas_syntax.specs.Tree.{ExprTree, StmtList, no_more, one_more, print, FunTree, ItemTree, define, ModuleTree, module_tree}
 use Rattle.cas_syntax.specs.declared.tree.Module.{Module}
 use Rattle.cas_typed.specs.Formed.{IsFormed}
@@ -29,13 +29,12 @@ use Rattle.cas_top.specs.Machine.{State, Report, RunsTo, executed, Runs, stays, 
 use Rattle.cas_top.specs.Plan.{IsDone, IsFinished}
 use Rattle.cas_top.specs.Printed.{report_lines}
 use Rattle.cas_top.specs.View.{IsRun}
-use Rattle.cas_top.specs.declared.machine.End.{End}
 use Rattle.cas_top.specs.declared.machine.End.TheVariants.{Done}
 use Rattle.cas_top.specs.declared.machine.Instr.{Instr}
 use Rattle.cas_top.specs.declared.machine.Instr.TheVariants.{OutEax, Ret}
 use Rattle.cas_top.proofs.Both.{left_part}
 use Rattle.cas_top.proofs.One_function.{entry, one_program, one_world, one_body}
-use Rattle.cas_top.proofs.RunLaws.{one_end}
+use Rattle.cas_top.proofs.RunLaws.{report_of, one_end}
 use Rattle.cas_top.proofs.SumLaws.{slice_get-append_seam, behind, typed_sum, evaluated}
 use Rattle.cas_top.proofs.Sum_typing.{typed_body, body_resolved, one_function}
 
@@ -151,10 +150,6 @@ program_prints name r f p a code n one is_code value =
     let body = one_body name r f one.items one.named one.formed it functions good.item ∙ resolved in
     let F : World → Type 0 = λ w. Prints (env_of (r ∷ [])) w n in
     subst F (sym (one_world name r f one.items one.named one.formed)) (from_first (env_of (r ∷ [])) p a n body value)
-
--- the report of a run of one thread that ended in this state
-abbrev report_of : State → End → Report
-report_of s e = record { out = s.out; ends = e ∷ [] }
 
 -- a run of the code ends, and its report is that of a finished run of the module
 abbrev HasReport : TypedModuleTree → (name : List ℕ) → List Instr → Type 0

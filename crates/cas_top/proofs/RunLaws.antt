@@ -32,6 +32,10 @@ step_or_none : {code : List Instr} {s t : State} → Runs code s t →
 step_or_none (stays s) = inl refl
 step_or_none (steps s t going rest) = inr (going, rest)
 
+-- the report of a run of one thread that ended in this state
+abbrev pub report_of : State → End → Report
+report_of s e = record { out = s.out; ends = e ∷ [] }
+
 -- runs from one state to an end are the same
 pub one_end : {code : List Instr} {s t u : State} {d e : End} → Runs code s t → Runs code s u → t.end ≡ Some d → u.end ≡ Some e → t ≡ u
 one_end (stays s) other left right = elim (step_or_none other) [ inl same ↦ same | inr more ↦ absurd (cc more.0) ]

@@ -2,7 +2,6 @@
 use Rattle.std.proofs.Common.{◌≡◌, ℕ, List, [], ◌∷◌, ◌++◌, length, Some, None, slice_get, refl, sym, ap, subst, append_assoc}
 use Rattle.std.proofs.lemmas.List.{length_push}
 use Rattle.cas_base.specs.Word.{word_add}
-use Rattle.cas_base.specs.declared.kind.Kind.TheVariants.{I32}
 use Rattle.cas_syntax.specs.Tree.{ExprTree, literal, binary}
 use Rattle.cas_syntax.specs.declared.tree.BinaryOperator.TheVariants.{Add}
 use Rattle.cas_typed.specs.Resolved as t

@@ -1,12 +1,12 @@
 -- A function that prints a sum of literals is resolved in one way.
-use Rattle.std.proofs.Common.{◌≡◌, ℕ, Bool, List, [], ◌∷◌, ◌++◌, Option, None, Result, Ok, refl, sym, ap, ◌∙◌}
+use Rattle.std.proofs.Common.{◌≡◌, Bool, List, [], ◌∷◌, Option, None, Result, Ok, refl, sym, ap, ◌∙◌}
 use Rattle.std.specs.Prelude.{⊤}
 use Rattle.cas_base.specs.declared.decl.Decl.{Decl}
 use Rattle.cas_base.specs.declared.kind.Kind.TheVariants.{I32}
 use Rattle.cas_base.specs.declared.kind.Ty.{Ty}
 use Rattle.cas_base.specs.declared.kind.Ty.TheVariants.{Int}
 use Rattle.cas_base.specs.declared.place.Place.{Place}
-use Rattle.cas_syntax.specs.Tree.{ExprTree, literal, StmtList, no_more, one_more, print, FunTree, ItemTree, define}
+use Rattle.cas_syntax.specs.Tree.{ExprTree, literal, no_more, one_more, print, FunTree, ItemTree, define}
 use Rattle.cas_syntax.specs.declared.tree.BinaryOperator.TheVariants.{Add}
 use Rattle.cas_typed.specs.Faults.{Fault, sooner, unless, then_, found}
 use Rattle.cas_typed.specs.Modules.{IsFunction, AreItems, no_item, a_global, a_prototype, a_function}

@@ -1,5 +1,5 @@
 -- The items of a schedule, as turns have them.
-use Rattle.std.proofs.Common.{◌≡◌, ℕ, List, [], ◌∷◌, ◌++◌, map, replicate, refl, ap, ◌∙◌}
+use Rattle.std.proofs.Common.{◌≡◌, ℕ, List, [], ◌∷◌, ◌++◌, map, replicate, refl, ap}
 use Rattle.cas_top.specs.Worlds.{turns_of}
 use Rattle.cas_turn.specs.Schedules.{unrolled}
 use Rattle.cas_turn.specs.declared.item.Item.{Item}

@@ -1,30 +1,34 @@
 -- How modules are checked and joined, and how threads take turns.
-use Rattle.std.proofs.Common.{◌≡◌, ℕ, zero, suc, ◌+◌, ◌<◌, true, List, [], ◌∷◌, ◌++◌, length, map, get_or, Option, Some, Result, Ok, Err, ◌≢◌, refl, sym, ap, ◌∙◌, inl, inr, subst, append-nil, append_assoc, arith}
+use Rattle.std.proofs.Common.{◌≡◌, ℕ, zero, suc, ◌+◌, ◌<◌, true, List, [], ◌∷◌, ◌++◌, length, map, get_or, Some, Ok, Err, ◌≢◌, refl, sym, ap, ◌∙◌, inl, inr, subst, append-nil, append_assoc, arith}
 use Rattle.std.specs.Borrow.{Bor}
 use Rattle.std.specs.List.{list_all}
 use Rattle.cas_base.specs.Name.{is_name}
 use Rattle.cas_command.specs.Parts.{texts}
-use Rattle.cas_command.specs.Words.{World}
+use Rattle.cas_command.specs.Words.{Turns, schedule, rounds, World}
 use Rattle.cas_own.specs.declared.checked.Checked.{Checked}
 use Rattle.cas_program.specs.Program.{IsProgram, env_of, units_of}
 use Rattle.cas_settle.specs.Settle.{first_refusal}
 use Rattle.cas_settle.specs.declared.link.LinkFault.{LinkFault}
 use Rattle.cas_settle.specs.declared.link.LinkFault.TheVariants as link
 use Rattle.cas_top.specs.Plan.{RefusesFirst}
-use Rattle.cas_top.specs.View.{module_line, names_of, texts_of, AreModules, IsCheckedAs, IsJoined, IsUnlinked, IsWorldShown}
+use Rattle.cas_top.specs.View.{names_of, texts_of, AreModules, IsCheckedAs, IsJoined, IsUnlinked, IsWorldShown}
 use Rattle.cas_top.specs.Checked_module.{AreCheckedModules}
-use Rattle.cas_top.specs.Worlds.{PrintsWorld, turned, world_lines}
+use Rattle.cas_top.specs.Worlds.{PrintsWorld, turned, turns_of, world_lines}
 use Rattle.cas_top.proofs.Both.{left_part, right_part}
 use Rattle.cas_top.proofs.One_by_one.{checked_text}
 use Rattle.cas_top.specs.declared.refusal.Refusal.{Refusal}
 use Rattle.cas_top.specs.declared.refusal.Refusal.TheVariants as refusal
 use Rattle.cas_top.specs.declared.source.Source.{Source}
+use Rattle.cas_step.specs.Env.{Env}
 use Rattle.cas_turn.proofs.Rounds_lemmas.{threads_more}
 use Rattle.cas_turn.specs.Joined.{typed_of}
 use Rattle.cas_typed.specs.Resolved.{TypedModuleTree}
 use Rattle.cas_whole.specs.Whole.{AreTyped}
 use Rattle.cas_world.specs.Races.{IsRaceFree, program_world}
 use Rattle.cas_world.specs.Turns.{threads_from}
+use Rattle.cas_world.specs.World as definition
+use Rattle.cas_world.specs.World.{Reaches, at_first}
+use Rattle.cas_world.proofs.Turns.{turns_interleave, rounds_interleave}
 
 -- the modules of texts one by one
 
@@ -130,6 +134,11 @@ joined_refused ms names f (refusal.TooLong n) known h = absurd h
 joined_refused ms names f (refusal.Faulty n fault) known h = absurd h
 joined_refused ms names f refusal.Unwritten known h = absurd h
 
+-- the world that turns come to is reached
+turned_reaches : (e : Env) (first : definition.World) (ts : Turns) → Reaches e first (turned e ts first)
+turned_reaches e first (schedule items) = (_, turns_interleave e first first [] (turns_of items) at_first)
+turned_reaches e first (rounds count) = (_, rounds_interleave e first first [] count at_first)
+
 -- the lines of a program's world are what `world` prints
 pub prints : (w : World) (names threads texts lines : List (List ℕ)) (ms : List TypedModuleTree) → names ≡ w.names → threads ≡ w.threads → AreCheckedModules texts ms →
     IsProgram ms threads → IsRaceFree (env_of ms) (program_world ms threads) → lines ≡ world_lines names ms (turned (env_of ms) w.turns (program_world ms threads)) →
@@ -142,6 +151,7 @@ prints w names threads texts lines ms same_names same_threads read program free 
       read = read;
       program = subst P same_threads program;
       race_free = subst F same_threads free;
+      reached = turned_reaches (env_of ms) (program_world ms w.threads) w.turns;
       whole = whole ∙ ap (λ ns. world_lines ns ms (turned (env_of ms) w.turns (program_world ms threads))) same_names
           ∙ ap (λ ts. world_lines w.names ms (turned (env_of ms) w.turns (program_world ms ts))) same_threads;
     }

@@ -1,10 +1,10 @@
 -- How the work of `world` ends, from how its parts ended.
-use Rattle.std.proofs.Common.{◌≡◌, ℕ, List, ◌∷◌, map, Result, Ok, Err, refl, inl, inr, subst}
+use Rattle.std.proofs.Common.{◌≡◌, ℕ, List, map, Result, Err, refl, inl, inr, subst}
 use Rattle.std.specs.List.{concat}
 use Rattle.cas_command.specs.Words.{World, world, source_text}
 use Rattle.cas_top.proofs.Ends.{end_of_put, of_sources}
 use Rattle.cas_top.specs.Answer.{Told, Taken, AreRead, IsText}
-use Rattle.cas_top.specs.View.{module_line, names_of, texts_of, AreSources, IsCause, IsEnd, IsPutLines, IsWorldShown}
+use Rattle.cas_top.specs.View.{names_of, texts_of, AreSources, IsCause, IsEnd, IsPutLines, IsWorldShown}
 use Rattle.cas_top.specs.Worlds.{PrintsWorld}
 use Rattle.cas_top.specs.declared.refusal.Refusal.{Refusal}
 use Rattle.cas_top.specs.declared.refusal.Refusal.TheVariants as refusal

@@ -1,5 +1,5 @@
 -- What `world` comes to: a refusal of the modules and threads, which are no program; or the lines of the world that turns come to.
-use Rattle.std.specs.Prelude.{◌≡◌, ℕ, ◌==◌, ◌&&◌, List, [], ◌∷◌, ◌++◌, length, map, replicate, Option, Some, None, slice_get, codes}
+use Rattle.std.specs.Prelude.{◌≡◌, ℕ, ◌==◌, ◌&&◌, List, [], ◌++◌, length, map, replicate, Some, slice_get, codes}
 use Rattle.std.specs.Fmt.{decimal}
 use Rattle.std.specs.List.{find, flat_map}
 use Rattle.std.specs.Option.{option_map_or}
@@ -21,7 +21,7 @@ use Rattle.cas_turn.specs.declared.answer.ThreadState.TheVariants as stands
 use Rattle.cas_typed.specs.Resolved.{TypedModuleTree}
 use Rattle.cas_world.specs.Races.{IsRaceFree, program_world}
 use Rattle.cas_world.specs.Turns.{turns, rounds, state_of, threads_from}
-use Rattle.cas_world.specs.World.{World}
+use Rattle.cas_world.specs.World.{World, Reaches}
 use Rattle.cas_top.specs.Checked_module.{AreCheckedModules}
 use Rattle.cas_top.specs.Printed.{line_of, out_line}
 
@@ -84,12 +84,14 @@ abbrev pub turned : Env → Turns → World → World
 turned e (words.schedule items) w = turns e w (turns_of items)
 turned e (words.rounds count) w = rounds e w count
 
--- The texts are checked and a program, which is race-free, and these are the lines of the world that the turns come to from its first.
+-- The texts are checked and a program, which is race-free, and these are the lines of the world that the turns come to from its
+-- first, which some interleaving reaches.
 pub record PrintsWorld (w : words.World) (texts : List (List ℕ)) (lines : List (List ℕ)) : Type 0 where
   pub modules : List TypedModuleTree
   pub read : AreCheckedModules texts modules
   pub program : IsProgram modules w.threads
   pub race_free : IsRaceFree (env_of modules) (program_world modules w.threads)
+  pub reached : Reaches (env_of modules) (program_world modules w.threads) (turned (env_of modules) w.turns (program_world modules w.threads))
   pub whole : lines ≡ world_lines w.names modules (turned (env_of modules) w.turns (program_world modules w.threads))
 
 -- The texts are checked but no program, and this is the line of what is first refused.

@@ -1,5 +1,5 @@
 //! The generator: from a module of the first form, one function that prints one sum of literals, to the machine's code.
-ghost use Rattle.std.specs.Prelude.{◌≡◌, ◌∷◌, [], ◌++◌, ℕ, List, false, map, true, IfOk, IfSome, IfNone};
+ghost use Rattle.std.specs.Prelude.{◌≡◌, ◌∷◌, [], ℕ, List, false, map, true, IfOk, IfSome, IfNone};
 ghost use Rattle.cas_base.specs.declared.kind.Kind.TheVariants as kind;
 ghost use Rattle.cas_base.specs.declared.place.Place.{Place};
 ghost use Rattle.cas_syntax.specs.Tree as syntax;

@@ -3,7 +3,8 @@
 ghost use Rattle.cas_top.specs.Exclusion.{CausesExclude};
 
 /// Where a shelf tells its texts, the causes of the statuses of printing, of a refusal by the texts and of a text
-/// that is too long exclude each other. (That of faulty words excludes them, since there is no command then.)
+/// that is too long exclude each other, and there is one text to print, or one line of a refusal. (The cause of faulty words
+/// excludes them, since there is no command then.)
 pub fn causes_exclude()
     ensures { CausesExclude }
 {}

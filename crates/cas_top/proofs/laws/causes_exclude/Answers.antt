@@ -1,4 +1,4 @@
-use Rattle.cas_top.proofs.Excluding.{causes_exclude}
+use Rattle.cas_top.proofs.One_answer.{causes_exclude}
 use Rattle.cas_top.proofs.laws.causes_exclude.Goals as goal
 
 pub returns : goal.returns
