@@ -1,19 +1,16 @@
 -- `for`, from what is found of its parts.
-use Rattle.std.proofs.Common.{◌≡◌, ℕ, ◌+◌, Bool, true, List, [], ◌∷◌, ◌++◌, length, set, Option, Some, None, Result, Ok, Err, ◌∙◌}
+use Rattle.std.proofs.Common.{◌≡◌, ℕ, ◌+◌, Bool, true, List, [], ◌∷◌, ◌++◌, length, set, Option, Result, Ok, ◌∙◌}
 use Rattle.cas_base.specs.declared.kind.Ty.{Ty}
 use Rattle.cas_base.specs.declared.place.Place.{Place}
 use Rattle.cas_syntax.specs.Tree as tree
 use Rattle.cas_syntax.specs.Tree.{ExprTree, StmtTree, StmtOption}
-use Rattle.cas_type.specs.Answer.{Fails}
 use Rattle.cas_type.specs.Rows.{StmtWalks, PartWalks}
-use Rattle.cas_type.specs.declared.fault.TypeFault.{TypeFault}
-use Rattle.cas_type.proofs.By_parts.{fails_then}
 use Rattle.cas_type.proofs.Added_rows.{for_row}
-use Rattle.cas_type.proofs.Parts.{then_found, fails_next}
+use Rattle.cas_type.proofs.Parts.{then_found}
 use Rattle.cas_typed.specs.Faults.{Fault, then_}
 use Rattle.cas_typed.specs.Numbered.{optional_expr_tree}
 use Rattle.cas_typed.specs.Resolved.{TypedExprTree, TypedStmtTree, for_, TypedStmtOption}
-use Rattle.cas_typed.specs.Scopes.{Scope, inside, past, past_option, after_option}
+use Rattle.cas_typed.specs.Scopes.{Scope, inside, past_option, after_option}
 use Rattle.cas_typed.specs.Walk.{walk, walk_part, walk_optional}
 use Rattle.cas_typed.specs.declared.rows.StmtRow.{StmtRow}
 use Rattle.cas_typed.specs.declared.rows.StmtRowForm.{StmtRowForm}
@@ -49,34 +46,3 @@ for_walks ret l s p i x u b old begun first second made new n k h j begins c num
       stands.0,
       stands.1,
     )
-
-pub for_fails_first : (f : TypeFault) (ret : Ty) (l : Bool) (s : Scope) (p : Place) (i : StmtOption) (x : Option ExprTree) (u : StmtOption) (b : StmtTree)
-    → Fails f (walk_part ret l (inside s) i) → Fails f (walk ret l s (tree.for_ p i x u b))
-for_fails_first f ret l s p i x u b h = fails_then f (walk_part ret l (inside s) i) (begins_with ret l p (after_option (inside s) i) x u b) h
-
-pub for_fails_test : (f : TypeFault) (ret : Ty) (l : Bool) (s : Scope) (p : Place) (i : StmtOption) (x : Option ExprTree) (u : StmtOption) (b : StmtTree) (i' : TypedStmtOption)
-    → walk_part ret l (inside s) i ≡ Ok i' → Fails f (walk_optional (after_option (inside s) i) p x) → Fails f (walk ret l s (tree.for_ p i x u b))
-for_fails_test f ret l s p i x u b i' first h =
-    let within = after_option (inside s) i in
-    fails_next f (walk_part ret l (inside s) i) i' (begins_with ret l p within x u b) first
-    (fails_then f (walk_optional within p x) (goes_on ret l p within u b i') h)
-
-pub for_fails_next : (f : TypeFault) (ret : Ty) (l : Bool) (s : Scope) (p : Place) (i : StmtOption) (x : Option ExprTree) (u : StmtOption) (b : StmtTree) (i' : TypedStmtOption) (c' : Option TypedExprTree)
-    → walk_part ret l (inside s) i ≡ Ok i' → walk_optional (after_option (inside s) i) p x ≡ Ok c'
-    → Fails f (walk_part ret l (after_option (inside s) i) u) → Fails f (walk ret l s (tree.for_ p i x u b))
-for_fails_next f ret l s p i x u b i' c' first test h =
-    let within = after_option (inside s) i in
-    fails_next f (walk_part ret l (inside s) i) i' (begins_with ret l p within x u b) first
-    (fails_next f (walk_optional within p x) c' (goes_on ret l p within u b i') test
-    (fails_then f (walk_part ret l within u) (ends ret p within u b i' c') h))
-
-pub for_fails_body : (f : TypeFault) (ret : Ty) (l : Bool) (s : Scope) (p : Place) (i : StmtOption) (x : Option ExprTree) (u : StmtOption) (b : StmtTree)
-    (i' : TypedStmtOption) (c' : Option TypedExprTree) (u' : TypedStmtOption)
-    → walk_part ret l (inside s) i ≡ Ok i' → walk_optional (after_option (inside s) i) p x ≡ Ok c' → walk_part ret l (after_option (inside s) i) u ≡ Ok u'
-    → Fails f (walk ret true (past_option (after_option (inside s) i) u) b) → Fails f (walk ret l s (tree.for_ p i x u b))
-for_fails_body f ret l s p i x u b i' c' u' first test next h =
-    let within = after_option (inside s) i in
-    fails_next f (walk_part ret l (inside s) i) i' (begins_with ret l p within x u b) first
-    (fails_next f (walk_optional within p x) c' (goes_on ret l p within u b i') test
-    (fails_next f (walk_part ret l within u) u' (ends ret p within u b i' c') next
-    (fails_then f (walk ret true (past_option within u) b) (λ a'. Ok (for_ p i' c' u' a')) h)))

@@ -1,19 +1,15 @@
 -- Statements with parts, from what is found of their parts.
-use Rattle.std.proofs.Common.{◌≡◌, ℕ, ◌+◌, Bool, true, List, [], ◌∷◌, ◌++◌, length, set, Option, Some, None, Result, Ok, Err, refl, ap, sym, subst, ◌∙◌}
+use Rattle.std.proofs.Common.{◌≡◌, ℕ, ◌+◌, Bool, true, List, [], ◌∷◌, ◌++◌, length, set, Option, Some, None, Result, Ok, ap, ◌∙◌}
 use Rattle.cas_base.specs.declared.kind.Ty.{Ty}
 use Rattle.cas_base.specs.declared.place.Place.{Place}
 use Rattle.cas_syntax.specs.Tree as tree
 use Rattle.cas_syntax.specs.Tree.{ExprTree, StmtTree, StmtOption, StmtList}
-use Rattle.cas_type.specs.Answer.{Fails}
-use Rattle.cas_type.specs.Rows.{Adds, StmtWalks, PartWalks, ListWalks}
-use Rattle.cas_type.specs.declared.fault.TypeFault.{TypeFault}
-use Rattle.cas_type.proofs.By_parts.{fails_then}
+use Rattle.cas_type.specs.Rows.{StmtWalks, PartWalks, ListWalks}
 use Rattle.cas_type.proofs.Added_rows.{Adds-none, while_row, do_row, block_row, if_row}
 use Rattle.cas_typed.specs.Faults.{Fault, then_}
-use Rattle.cas_typed.specs.Numbered.{optional_expr_tree}
-use Rattle.cas_typed.specs.Resolved.{TypedExprTree, typed_expr_tree, TypedStmtTree, block, if_, while_, do_, TypedStmtOption, absent, present}
-use Rattle.cas_typed.specs.Scopes.{Scope, inside, past, past_option, after_option}
-use Rattle.cas_typed.specs.Walk.{walk, walk_part, walk_list, walk_test, walk_optional}
+use Rattle.cas_typed.specs.Resolved.{typed_expr_tree, block, if_, while_, do_, absent, present}
+use Rattle.cas_typed.specs.Scopes.{Scope, inside, past}
+use Rattle.cas_typed.specs.Walk.{walk, walk_part, walk_list, walk_test}
 use Rattle.cas_typed.specs.declared.rows.StmtRow.{StmtRow}
 use Rattle.cas_typed.specs.declared.rows.StmtRowForm.{StmtRowForm}
 use Rattle.cas_typed.specs.declared.rows.StmtRowForm.TheVariants as row
@@ -23,10 +19,6 @@ use Rattle.cas_typed.specs.declared.tree.TypedExpr.{TypedExpr}
 pub then_found : {A B : Type 0} (walked : Result A Fault) (a : A) (next : A → Result B Fault) → walked ≡ Ok a → then_ walked next ≡ next a
 then_found walked a next is = ap (λ w. then_ w next) is
 
--- a fault of what comes next
-pub fails_next : {A B : Type 0} (f : TypeFault) (walked : Result A Fault) (a : A) (next : A → Result B Fault) → walked ≡ Ok a → Fails f (next a) → Fails f (then_ walked next)
-fails_next f walked a next is h = subst (λ w. Fails f (then_ w next)) (sym is) h
-
 -- a block
 
 pub block_walks : (ret : Ty) (l : Bool) (s : Scope) (p : Place) (bs : StmtList) (old begun made new : List StmtRow) (n : ℕ) (ns : List ℕ) (begins : StmtRowForm)
@@ -35,9 +27,6 @@ pub block_walks : (ret : Ty) (l : Bool) (s : Scope) (p : Place) (bs : StmtList) 
 block_walks ret l s p bs old begun made new n ns begins number is parts becomes =
     let stands = block_row old begun made new n ns p begins parts.0 number is parts.2 parts.3 becomes in
     (block p parts.0, then_found (walk_list ret l (inside s) bs) parts.0 (λ rs. Ok (block p rs)) parts.1, stands.0, stands.1)
-
-pub block_fails : (f : TypeFault) (ret : Ty) (l : Bool) (s : Scope) (p : Place) (bs : StmtList) → Fails f (walk_list ret l (inside s) bs) → Fails f (walk ret l s (tree.block p bs))
-block_fails f ret l s p bs h = fails_then f (walk_list ret l (inside s) bs) (λ rs. Ok (block p rs)) h
 
 -- `while`
 
@@ -54,15 +43,6 @@ while_walks ret l s p x b old begun made new n i begins c test number is part be
       stands.1,
     )
 
-pub while_fails_test : (f : TypeFault) (ret : Ty) (l : Bool) (s : Scope) (p : Place) (x : ExprTree) (b : StmtTree) → Fails f (walk_test s p x) → Fails f (walk ret l s (tree.while_ p x b))
-while_fails_test f ret l s p x b h = fails_then f (walk_test s p x) (λ c'. then_ (walk ret true s b) (λ a'. Ok (while_ p c' a'))) h
-
-pub while_fails_body : (f : TypeFault) (ret : Ty) (l : Bool) (s : Scope) (p : Place) (x : ExprTree) (b : StmtTree) (c : TypedExprTree)
-    → walk_test s p x ≡ Ok c → Fails f (walk ret true s b) → Fails f (walk ret l s (tree.while_ p x b))
-while_fails_body f ret l s p x b c test h =
-    fails_next f (walk_test s p x) c (λ c'. then_ (walk ret true s b) (λ a'. Ok (while_ p c' a'))) test
-    (fails_then f (walk ret true s b) (λ a'. Ok (while_ p c a')) h)
-
 -- `do`
 
 pub do_walks : (ret : Ty) (l : Bool) (s : Scope) (p : Place) (b : StmtTree) (x : ExprTree) (old begun made new : List StmtRow) (n i : ℕ) (begins : StmtRowForm) (c : TypedExpr)
@@ -77,15 +57,6 @@ do_walks ret l s p b x old begun made new n i begins c number is part test becom
       stands.0,
       stands.1,
     )
-
-pub do_fails_body : (f : TypeFault) (ret : Ty) (l : Bool) (s : Scope) (p : Place) (b : StmtTree) (x : ExprTree) → Fails f (walk ret true s b) → Fails f (walk ret l s (tree.do_ p b x))
-do_fails_body f ret l s p b x h = fails_then f (walk ret true s b) (λ a'. then_ (walk_test s p x) (λ c'. Ok (do_ p a' c'))) h
-
-pub do_fails_test : (f : TypeFault) (ret : Ty) (l : Bool) (s : Scope) (p : Place) (b : StmtTree) (x : ExprTree) (a : TypedStmtTree)
-    → walk ret true s b ≡ Ok a → Fails f (walk_test s p x) → Fails f (walk ret l s (tree.do_ p b x))
-do_fails_test f ret l s p b x a body h =
-    fails_next f (walk ret true s b) a (λ a'. then_ (walk_test s p x) (λ c'. Ok (do_ p a' c'))) body
-    (fails_then f (walk_test s p x) (λ c'. Ok (do_ p a c')) h)
 
 -- `if`
 
@@ -102,23 +73,6 @@ if_walks ret l s p x b d old begun middle made new n i j begins c test number is
       stands.0,
       stands.1,
     )
-
-pub if_fails_test : (f : TypeFault) (ret : Ty) (l : Bool) (s : Scope) (p : Place) (x : ExprTree) (b : StmtTree) (d : StmtOption) → Fails f (walk_test s p x) → Fails f (walk ret l s (tree.if_ p x b d))
-if_fails_test f ret l s p x b d h =
-    fails_then f (walk_test s p x) (λ c'. then_ (walk ret l s b) (λ a'. then_ (walk_part ret l (past s b) d) (λ o'. Ok (if_ p c' a' o')))) h
-
-pub if_fails_first : (f : TypeFault) (ret : Ty) (l : Bool) (s : Scope) (p : Place) (x : ExprTree) (b : StmtTree) (d : StmtOption) (c : TypedExprTree)
-    → walk_test s p x ≡ Ok c → Fails f (walk ret l s b) → Fails f (walk ret l s (tree.if_ p x b d))
-if_fails_first f ret l s p x b d c test h =
-    fails_next f (walk_test s p x) c (λ c'. then_ (walk ret l s b) (λ a'. then_ (walk_part ret l (past s b) d) (λ o'. Ok (if_ p c' a' o')))) test
-    (fails_then f (walk ret l s b) (λ a'. then_ (walk_part ret l (past s b) d) (λ o'. Ok (if_ p c a' o'))) h)
-
-pub if_fails_second : (f : TypeFault) (ret : Ty) (l : Bool) (s : Scope) (p : Place) (x : ExprTree) (b : StmtTree) (d : StmtOption) (c : TypedExprTree) (a : TypedStmtTree)
-    → walk_test s p x ≡ Ok c → walk ret l s b ≡ Ok a → Fails f (walk_part ret l (past s b) d) → Fails f (walk ret l s (tree.if_ p x b d))
-if_fails_second f ret l s p x b d c a test first h =
-    fails_next f (walk_test s p x) c (λ c'. then_ (walk ret l s b) (λ a'. then_ (walk_part ret l (past s b) d) (λ o'. Ok (if_ p c' a' o')))) test
-    (fails_next f (walk ret l s b) a (λ a'. then_ (walk_part ret l (past s b) d) (λ o'. Ok (if_ p c a' o'))) first
-    (fails_then f (walk_part ret l (past s b) d) (λ o'. Ok (if_ p c a o')) h))
 
 -- parts that may be missing
 

@@ -1,9 +1,10 @@
 -- What the typer's values stand for.
-use Rattle.std.specs.Prelude.{◌≡◌, ⊤, ℕ, ◌+◌, ◌-◌, Bool, false, if◌then◌else◌, List, [], ◌∷◌, length, map, take, drop, Option, Some, None}
+use Rattle.std.specs.Prelude.{Box, ◌≡◌, ⊤, ℕ, ◌+◌, ◌-◌, Bool, false, if◌then◌else◌, List, [], ◌∷◌, length, map, take, drop, Option, Some, None}
 use Rattle.std.specs.List.{list_any}
 use Rattle.std.specs.Borrow.{Bor}
 use Rattle.std.specs.Map.{lookup}
 use Rattle.std.specs.Str.{bytes_eq}
+use Rattle.std.specs.declared.alloc.Global.{Global}
 use Rattle.cas_base.specs.Decl.{definitions, is_named}
 use Rattle.cas_base.specs.declared.decl.Decl.{Decl}
 use Rattle.cas_base.specs.declared.kind.Ty.TheVariants.{Int, Ptr}
@@ -27,22 +28,27 @@ use Rattle.cas_typed.specs.Scopes as s
 -- what was found of an expression
 abbrev pub found_of : Found → r.Found
 found_of Unfit = r.unfit
-found_of (Word e k) = r.fits (typed_expr_tree e) (Int k)
-found_of (Pointer e k) = r.fits (typed_expr_tree e) (Ptr k)
+found_of (Word e k) = r.fits (typed_expr_tree e.value) (Int k)
+found_of (Pointer e k) = r.fits (typed_expr_tree e.value) (Ptr k)
+
+-- an expression behind a pointer, which may be missing
+abbrev pub boxed_tree : Option (Box TypedExpr Global) → Option TypedExprTree
+boxed_tree None = None
+boxed_tree (Some e) = Some (typed_expr_tree e.value)
 
 -- what was found of the left one of two operands that fit
 abbrev pub left_of : Operands → r.Found
-left_of (Words a j b k) = r.fits (typed_expr_tree a) (Int j)
-left_of (PointerAndWord a j b k) = r.fits (typed_expr_tree a) (Ptr j)
-left_of (WordAndPointer a j b k) = r.fits (typed_expr_tree a) (Int j)
-left_of (Pointers a j b k) = r.fits (typed_expr_tree a) (Ptr j)
+left_of (Words a j b k) = r.fits (typed_expr_tree a.value) (Int j)
+left_of (PointerAndWord a j b k) = r.fits (typed_expr_tree a.value) (Ptr j)
+left_of (WordAndPointer a j b k) = r.fits (typed_expr_tree a.value) (Int j)
+left_of (Pointers a j b k) = r.fits (typed_expr_tree a.value) (Ptr j)
 
 -- what was found of the right one
 abbrev pub right_of : Operands → r.Found
-right_of (Words a j b k) = r.fits (typed_expr_tree b) (Int k)
-right_of (PointerAndWord a j b k) = r.fits (typed_expr_tree b) (Int k)
-right_of (WordAndPointer a j b k) = r.fits (typed_expr_tree b) (Ptr k)
-right_of (Pointers a j b k) = r.fits (typed_expr_tree b) (Ptr k)
+right_of (Words a j b k) = r.fits (typed_expr_tree b.value) (Int k)
+right_of (PointerAndWord a j b k) = r.fits (typed_expr_tree b.value) (Int k)
+right_of (WordAndPointer a j b k) = r.fits (typed_expr_tree b.value) (Ptr k)
+right_of (Pointers a j b k) = r.fits (typed_expr_tree b.value) (Ptr k)
 
 -- what a name means
 abbrev pub meaning_of : Meaning → s.Meaning
@@ -92,11 +98,11 @@ IsIndex decls entries =
 -- what was found of a target
 abbrev pub written_of : Option Written → r.Written
 written_of None = r.unwritable
-written_of (Some w) = r.written (typed_target_tree w.target) w.ty
+written_of (Some w) = r.written (typed_target_tree w.target.value) w.ty
 
 -- an assignment at its place
 abbrev pub assignment_tree : Place → Assignment → TypedStmtTree
-assignment_tree p a = assign p (typed_target_tree a.target) (typed_expr_tree a.value)
+assignment_tree p a = assign p (typed_target_tree a.target.value) (typed_expr_tree a.value.value)
 
 -- values, if there are any
 abbrev pub values_tree : Option (List TypedExpr) → Option (List TypedExprTree)

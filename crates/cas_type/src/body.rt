@@ -7,9 +7,10 @@ ghost use Rattle.cas_type.specs.Rows.{StmtWalks, PartWalks, ListWalks, BodyWalks
 ghost use Rattle.cas_typed.specs.Scopes as s;
 ghost use Rattle.cas_typed.specs.Walk as w;
 
+use crate::alone::{assign, call, give_back, leave, lock, print, unlock};
 use crate::declare::declaration;
 use crate::fault::TypeFault;
-use crate::plain::{assignment, call_of, leaving, lock_of, print_of, return_of, unlock_of};
+use crate::plain::unboxed;
 use crate::rows::Made;
 use crate::scope::Scopes;
 use crate::values;
@@ -52,25 +53,15 @@ pub fn statement<'a>(
     ensures locals { OnOk result (made.new.locals.items ≡ made.old.locals.items ++ s.locals_of (stmt_tree stmt.now)) }
     ensures scope { OnOk result (scopes.new ≡ s.after scopes.old (stmt_tree stmt.now)) }
 {
-    let alloc = made.alloc;
     let place = stmt.place;
     match &stmt.form {
         StmtForm::Skip => made.plain(place, Ok(StmtRowForm::Skip)),
         StmtForm::Declare(ty, ident, init) => local(scopes, made, place, *ty, ident, init),
         StmtForm::Assign(target, operator, expr) => {
-            let form = assignment(alloc, scopes, place, target, *operator, expr);
-            made.plain(place, form)
+            assign(scopes, made, place, target, *operator, expr)
         }
         StmtForm::Call(keeper, ident, args) => {
-            let form = call_of(
-                alloc,
-                scopes,
-                place,
-                keeper.as_ref(),
-                ident,
-                args.as_slice(),
-            );
-            made.plain(place, form)
+            call(scopes, made, place, keeper.as_ref(), ident, args.as_slice())
         }
         StmtForm::Block(stmts) => block(scopes, made, within, place, stmts),
         StmtForm::If(test, first, second) => {
@@ -81,30 +72,12 @@ pub fn statement<'a>(
         StmtForm::For(first, test, next, body) => for_loop(
             scopes, made, within, place, first, test, next, body,
         ),
-        StmtForm::Break => {
-            let form = leaving(within.in_loop, place, StmtRowForm::Break);
-            made.plain(place, form)
-        }
-        StmtForm::Continue => {
-            let form = leaving(within.in_loop, place, StmtRowForm::Continue);
-            made.plain(place, form)
-        }
-        StmtForm::Return(expr) => {
-            let form = return_of(alloc, scopes, place, within.ret, expr);
-            made.plain(place, form)
-        }
-        StmtForm::Lock(ident) => {
-            let form = lock_of(alloc, scopes, place, ident);
-            made.plain(place, form)
-        }
-        StmtForm::Unlock(ident) => {
-            let form = unlock_of(alloc, scopes, place, ident);
-            made.plain(place, form)
-        }
-        StmtForm::Print(expr) => {
-            let form = print_of(alloc, scopes, place, expr);
-            made.plain(place, form)
-        }
+        StmtForm::Break => leave(made, within.in_loop, place, StmtRowForm::Break),
+        StmtForm::Continue => leave(made, within.in_loop, place, StmtRowForm::Continue),
+        StmtForm::Return(expr) => give_back(scopes, made, place, within.ret, expr),
+        StmtForm::Lock(ident) => lock(scopes, made, place, ident),
+        StmtForm::Unlock(ident) => unlock(scopes, made, place, ident),
+        StmtForm::Print(expr) => print(scopes, made, place, expr),
     }
 }
 
@@ -245,6 +218,7 @@ fn branches<'a>(
     let number = made.push(place, StmtRowForm::Skip)?;
     let first = part(scopes, made, within, first)?;
     let second = optional_part(scopes, made, within, second)?;
+    let test = Box::into_inner(test);
     made.set(number, place, StmtRowForm::If(test, first, second));
     Ok(number)
 }
@@ -268,6 +242,7 @@ fn while_loop<'a>(
     let test = values::test(made.alloc, scopes, place, test)?;
     let number = made.push(place, StmtRowForm::Skip)?;
     let body = part(scopes, made, within.looped(), body)?;
+    let test = Box::into_inner(test);
     made.set(number, place, StmtRowForm::While(test, body));
     Ok(number)
 }
@@ -292,7 +267,7 @@ fn do_loop<'a>(
     let test = values::test(made.alloc, scopes, place, test);
     let number = made.push(place, StmtRowForm::Skip)?;
     let body = part(scopes, made, within.looped(), body)?;
-    let test = test?;
+    let test = Box::into_inner(test?);
     made.set(number, place, StmtRowForm::Do(body, test));
     Ok(number)
 }
@@ -323,7 +298,8 @@ fn for_loop<'a>(
     let next = optional_part(scopes, made, within, next)?;
     let body = part(scopes, made, within.looped(), body)?;
     scopes.leave(mark);
-    made.set(number, place, StmtRowForm::For(first, test, next, body));
+    let form = StmtRowForm::For(first, unboxed(test), next, body);
+    made.set(number, place, form);
     Ok(number)
 }
 

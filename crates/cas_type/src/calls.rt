@@ -119,7 +119,7 @@ pub fn arguments(
         match types.split_first() {
             Some((ty, others_types)) => match value_of(alloc, scopes, arg, *ty)? {
                 Some(value) => {
-                    values.push(value)?;
+                    values.push(Box::into_inner(value))?;
                     types = others_types;
                 }
                 None => return Ok(None),

@@ -1,13 +1,11 @@
 //! What is found of an expression that isn't a binary operator's, by what is found of its parts.
 
 ghost use Rattle.std.specs.Prelude.{◌≡◌, IfOk, Some};
-ghost use Rattle.cas_type.specs.View.{found_of, left_of, right_of};
-ghost use Rattle.cas_typed.specs.Numbered.{optional_expr_tree};
-ghost use Rattle.cas_typed.specs.Resolved as t;
+ghost use Rattle.cas_type.specs.View.{boxed_tree, found_of, left_of, right_of};
 ghost use Rattle.cas_typed.specs.Resolved.{typed_expr_tree};
 ghost use Rattle.cas_typed.specs.Resolving as r;
 
-use crate::found::{Found, Operands, boxes, pair};
+use crate::found::{Found, Operands, null, pair, pointer, word};
 use crate::kinds::{common_kind, promoted_kind, signedness};
 use cas_base::{Kind, NoMemory, Ty};
 use cas_syntax::{BinaryOperator, UnaryOperator};
@@ -15,15 +13,16 @@ use cas_typed::TypedExpr;
 use std::alloc::Global;
 
 /// As a condition: an integer is true where it isn't 0, a pointer where it isn't null.
-pub fn tested(alloc: Global, found: Found) -> Result<Option<TypedExpr>, NoMemory>
-    ensures { IfOk result (λ test. optional_expr_tree test ≡ r.tested (found_of found)) }
+pub fn tested(alloc: Global, found: Found) -> Result<Option<Box<TypedExpr>>, NoMemory>
+    ensures { IfOk result (λ test. boxed_tree test ≡ r.tested (found_of found)) }
 {
     match found {
         Found::Unfit => Ok(None),
         Found::Word(e, _) => Ok(Some(e)),
         Found::Pointer(p, _) => {
-            let (pointer, null) = boxes(alloc, p, TypedExpr::Null)?;
-            Ok(Some(TypedExpr::Compare(BinaryOperator::Ne, pointer, null)))
+            let null = null(alloc)?;
+            let expr = TypedExpr::Compare(BinaryOperator::Ne, p, null);
+            Ok(Some(Box::new(alloc, expr)?))
         }
     }
 }
@@ -33,23 +32,17 @@ pub fn signed(alloc: Global, operator: UnaryOperator, found: Found) -> Result<Fo
     ensures { IfOk result (λ whole. found_of whole ≡ r.signed operator (found_of found)) }
 {
     match found {
-        Found::Word(a, k) => {
-            let expr = TypedExpr::Unary(operator, Box::new(alloc, a)?);
-            Ok(Found::Word(expr, promoted_kind(k)))
-        }
+        Found::Word(a, k) => word(alloc, TypedExpr::Unary(operator, a), promoted_kind(k)),
         Found::Unfit | Found::Pointer(..) => Ok(Found::Unfit),
     }
 }
 
 /// Of `!a`.
-pub fn negated(alloc: Global, test: Option<TypedExpr>) -> Result<Found, NoMemory>
-    ensures { IfOk result (λ whole. found_of whole ≡ r.negated (optional_expr_tree test)) }
+pub fn negated(alloc: Global, test: Option<Box<TypedExpr>>) -> Result<Found, NoMemory>
+    ensures { IfOk result (λ whole. found_of whole ≡ r.negated (boxed_tree test)) }
 {
     match test {
-        Some(test) => {
-            let expr = TypedExpr::Unary(UnaryOperator::Not, Box::new(alloc, test)?);
-            Ok(Found::Word(expr, Kind::I32))
-        }
+        Some(test) => word(alloc, TypedExpr::Unary(UnaryOperator::Not, test), Kind::I32),
         None => Ok(Found::Unfit),
     }
 }
@@ -74,10 +67,7 @@ pub fn converted(alloc: Global, kind: Kind, found: Found) -> Result<Found, NoMem
     ensures { IfOk result (λ whole. found_of whole ≡ r.converted kind (found_of found)) }
 {
     match found {
-        Found::Word(a, _) => {
-            let expr = TypedExpr::Narrow(kind, Box::new(alloc, a)?);
-            Ok(Found::Word(expr, kind))
-        }
+        Found::Word(a, _) => word(alloc, TypedExpr::Narrow(kind, a), kind),
         Found::Unfit | Found::Pointer(..) => Ok(Found::Unfit),
     }
 }
@@ -87,10 +77,7 @@ pub fn cell_behind(alloc: Global, found: Found) -> Result<Found, NoMemory>
     ensures { IfOk result (λ whole. found_of whole ≡ r.cell_behind (found_of found)) }
 {
     match found {
-        Found::Pointer(p, k) => {
-            let expr = TypedExpr::Behind(k, Box::new(alloc, p)?);
-            Ok(Found::Word(expr, k))
-        }
+        Found::Pointer(p, k) => word(alloc, TypedExpr::Behind(k, p), k),
         Found::Unfit | Found::Word(..) => Ok(Found::Unfit),
     }
 }
@@ -101,9 +88,8 @@ pub fn pointer_to_element(alloc: Global, array: Found, index: Found) -> Result<F
 {
     match pair(array, index) {
         Some(Operands::PointerAndWord(p, k, e, j)) => {
-            let (pointer, number) = boxes(alloc, p, e)?;
-            let expr = TypedExpr::PointerPlus(signedness(j), pointer, number);
-            Ok(Found::Pointer(expr, k))
+            let expr = TypedExpr::PointerPlus(signedness(j), p, e);
+            pointer(alloc, expr, k)
         }
         Some(Operands::Words(..))
         | Some(Operands::WordAndPointer(..))
@@ -124,17 +110,14 @@ pub fn element_behind(alloc: Global, array: Found, index: Found) -> Result<Found
 /// Of `a && b`.
 pub fn both(
     alloc: Global,
-    left: Option<TypedExpr>,
-    right: Option<TypedExpr>,
+    left: Option<Box<TypedExpr>>,
+    right: Option<Box<TypedExpr>>,
 ) -> Result<Found, NoMemory>
-    ensures { IfOk result (λ whole. found_of whole ≡ r.both (optional_expr_tree left) (optional_expr_tree right)) }
+    ensures { IfOk result (λ whole. found_of whole ≡ r.both (boxed_tree left) (boxed_tree right)) }
 {
     match left {
         Some(a) => match right {
-            Some(b) => {
-                let (left, right) = boxes(alloc, a, b)?;
-                Ok(Found::Word(TypedExpr::And(left, right), Kind::I32))
-            }
+            Some(b) => word(alloc, TypedExpr::And(a, b), Kind::I32),
             None => Ok(Found::Unfit),
         },
         None => Ok(Found::Unfit),
@@ -144,17 +127,14 @@ pub fn both(
 /// Of `a || b`.
 pub fn either(
     alloc: Global,
-    left: Option<TypedExpr>,
-    right: Option<TypedExpr>,
+    left: Option<Box<TypedExpr>>,
+    right: Option<Box<TypedExpr>>,
 ) -> Result<Found, NoMemory>
-    ensures { IfOk result (λ whole. found_of whole ≡ r.either (optional_expr_tree left) (optional_expr_tree right)) }
+    ensures { IfOk result (λ whole. found_of whole ≡ r.either (boxed_tree left) (boxed_tree right)) }
 {
     match left {
         Some(a) => match right {
-            Some(b) => {
-                let (left, right) = boxes(alloc, a, b)?;
-                Ok(Found::Word(TypedExpr::Or(left, right), Kind::I32))
-            }
+            Some(b) => word(alloc, TypedExpr::Or(a, b), Kind::I32),
             None => Ok(Found::Unfit),
         },
         None => Ok(Found::Unfit),
@@ -167,17 +147,23 @@ pub fn given(
     ty: Ty,
     is_zero: bool,
     found: Found,
-) -> Result<Option<TypedExpr>, NoMemory>
-    ensures { IfOk result (λ value. optional_expr_tree value ≡ r.given ty is_zero (found_of found)) }
+) -> Result<Option<Box<TypedExpr>>, NoMemory>
+    ensures { IfOk result (λ value. boxed_tree value ≡ r.given ty is_zero (found_of found)) }
 {
     match ty {
         Ty::Int(k) => match found {
-            Found::Word(e, _) => Ok(Some(TypedExpr::Narrow(k, Box::new(alloc, e)?))),
+            Found::Word(e, _) => Ok(Some(Box::new(alloc, TypedExpr::Narrow(k, e))?)),
             Found::Unfit | Found::Pointer(..) => Ok(None),
         },
         Ty::Ptr(k) => match found {
             Found::Pointer(p, j) => Ok(if j.same(k) { Some(p) } else { None }),
-            Found::Word(..) => Ok(if is_zero { Some(TypedExpr::Null) } else { None }),
+            Found::Word(..) => {
+                if is_zero {
+                    Ok(Some(null(alloc)?))
+                } else {
+                    Ok(None)
+                }
+            }
             Found::Unfit => Ok(None),
         },
         Ty::Void | Ty::Array(..) => Ok(None),
@@ -187,13 +173,13 @@ pub fn given(
 /// Of `c ? a : b`; whether `a` and `b` are the literal 0 is told.
 pub fn choice(
     alloc: Global,
-    test: Option<TypedExpr>,
+    test: Option<Box<TypedExpr>>,
     left_null: bool,
     right_null: bool,
     left: Found,
     right: Found,
 ) -> Result<Found, NoMemory>
-    ensures { IfOk result (λ whole. found_of whole ≡ r.choice (optional_expr_tree test) left_null right_null (found_of left) (found_of right)) }
+    ensures { IfOk result (λ whole. found_of whole ≡ r.choice (boxed_tree test) left_null right_null (found_of left) (found_of right)) }
 {
     match test {
         Some(test) => match pair(left, right) {
@@ -207,49 +193,36 @@ pub fn choice(
 // Of a choice between operands that fit.
 fn chosen(
     alloc: Global,
-    test: TypedExpr,
+    test: Box<TypedExpr>,
     left_null: bool,
     right_null: bool,
     operands: Operands,
 ) -> Result<Found, NoMemory>
-    ensures { IfOk result (λ whole. found_of whole ≡ r.choice (Some (typed_expr_tree test)) left_null right_null (left_of operands) (right_of operands)) }
+    ensures { IfOk result (λ whole. found_of whole ≡ r.choice (Some (typed_expr_tree test.value)) left_null right_null (left_of operands) (right_of operands)) }
 {
     match operands {
-        Operands::Words(a, j, b, k) => Ok(Found::Word(
-            choose(alloc, test, a, b)?,
-            common_kind(j, k),
-        )),
+        Operands::Words(a, j, b, k) => {
+            word(alloc, TypedExpr::Choose(test, a, b), common_kind(j, k))
+        }
         Operands::Pointers(p, j, q, k) => {
             if !j.same(k) {
                 return Ok(Found::Unfit);
             }
-            Ok(Found::Pointer(choose(alloc, test, p, q)?, j))
+            pointer(alloc, TypedExpr::Choose(test, p, q), j)
         }
         Operands::PointerAndWord(p, k, _, _) => {
             if !right_null {
                 return Ok(Found::Unfit);
             }
-            Ok(Found::Pointer(choose(alloc, test, p, TypedExpr::Null)?, k))
+            let null = null(alloc)?;
+            pointer(alloc, TypedExpr::Choose(test, p, null), k)
         }
         Operands::WordAndPointer(_, _, q, k) => {
             if !left_null {
                 return Ok(Found::Unfit);
             }
-            Ok(Found::Pointer(choose(alloc, test, TypedExpr::Null, q)?, k))
+            let null = null(alloc)?;
+            pointer(alloc, TypedExpr::Choose(test, null, q), k)
         }
     }
-}
-
-// The choice itself.
-fn choose(
-    alloc: Global,
-    test: TypedExpr,
-    left: TypedExpr,
-    right: TypedExpr,
-) -> Result<TypedExpr, NoMemory>
-    ensures { IfOk result (λ e. typed_expr_tree e ≡ t.choose (typed_expr_tree test) (typed_expr_tree left) (typed_expr_tree right)) }
-{
-    let test = Box::new(alloc, test)?;
-    let (left, right) = boxes(alloc, left, right)?;
-    Ok(TypedExpr::Choose(test, left, right))
 }

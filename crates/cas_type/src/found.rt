@@ -1,7 +1,11 @@
-//! What is found of an expression, and of two operands.
+//! What is found of an expression, and of two operands. Expressions stand behind pointers: few values then stand where a
+//! function may stop early, and what the prover has to follow stays small.
 
 ghost use Rattle.std.specs.Prelude.{◌≡◌, ◌⊎◌, IfOk, MatchOption};
+ghost use Rattle.cas_base.specs.declared.kind.Ty.TheVariants.{Int, Ptr};
 ghost use Rattle.cas_type.specs.View.{found_of, left_of, right_of};
+ghost use Rattle.cas_typed.specs.Resolved as t;
+ghost use Rattle.cas_typed.specs.Resolved.{typed_expr_tree};
 ghost use Rattle.cas_typed.specs.Resolving as r;
 
 use cas_base::{Kind, NoMemory};
@@ -14,18 +18,42 @@ pub enum Found {
     /// Its types don't fit.
     Unfit,
     /// An integer of this kind.
-    Word(TypedExpr, Kind),
+    Word(Box<TypedExpr>, Kind),
     /// A pointer to a cell of this kind.
-    Pointer(TypedExpr, Kind),
+    Pointer(Box<TypedExpr>, Kind),
 }
 
 /// Two operands that fit, with their kinds.
 #[derive(Drop)]
 pub enum Operands {
-    Words(TypedExpr, Kind, TypedExpr, Kind),
-    PointerAndWord(TypedExpr, Kind, TypedExpr, Kind),
-    WordAndPointer(TypedExpr, Kind, TypedExpr, Kind),
-    Pointers(TypedExpr, Kind, TypedExpr, Kind),
+    Words(Box<TypedExpr>, Kind, Box<TypedExpr>, Kind),
+    PointerAndWord(Box<TypedExpr>, Kind, Box<TypedExpr>, Kind),
+    WordAndPointer(Box<TypedExpr>, Kind, Box<TypedExpr>, Kind),
+    Pointers(Box<TypedExpr>, Kind, Box<TypedExpr>, Kind),
+}
+
+/// The integer of this kind that an expression is.
+pub fn word(alloc: Global, expr: TypedExpr, kind: Kind) -> Result<Found, NoMemory>
+    ensures { IfOk result (λ found. found_of found ≡ r.fits (typed_expr_tree expr) (Int kind)) }
+{
+    let expr = Box::new(alloc, expr)?;
+    Ok(Found::Word(expr, kind))
+}
+
+/// The pointer to a cell of this kind that an expression is.
+pub fn pointer(alloc: Global, expr: TypedExpr, kind: Kind) -> Result<Found, NoMemory>
+    ensures { IfOk result (λ found. found_of found ≡ r.fits (typed_expr_tree expr) (Ptr kind)) }
+{
+    let expr = Box::new(alloc, expr)?;
+    Ok(Found::Pointer(expr, kind))
+}
+
+/// The null pointer.
+pub fn null(alloc: Global) -> Result<Box<TypedExpr>, NoMemory>
+    ensures { IfOk result (λ expr. typed_expr_tree expr.value ≡ t.null) }
+{
+    let expr = Box::new(alloc, TypedExpr::Null)?;
+    Ok(expr)
 }
 
 /// Both operands, where both fit.
@@ -45,17 +73,4 @@ pub fn pair(left: Found, right: Found) -> Option<Operands>
             Found::Pointer(b, k) => Some(Operands::Pointers(a, j, b, k)),
         },
     }
-}
-
-/// Two expressions behind pointers.
-pub fn boxes(
-    alloc: Global,
-    left: TypedExpr,
-    right: TypedExpr,
-) -> Result<(Box<TypedExpr>, Box<TypedExpr>), NoMemory>
-    ensures { IfOk result (λ both. (both.0.value ≡ left) × (both.1.value ≡ right)) }
-{
-    let first = Box::new(alloc, left)?;
-    let second = Box::new(alloc, right)?;
-    Ok((first, second))
 }

@@ -97,15 +97,22 @@ fn check_new<'a>(alloc: Global, seen: &mut Seen<'a>, named: &Named<'a>) -> Resul
     Ok(())
 }
 
+// The first of these names that was met before, or stands twice.
+fn check_all<'a>(alloc: Global, seen: &mut Seen<'a>, names: &[Named<'a>]) -> Result<(), TypeFault>
+    ensures { Passes result (at_found (m.repeated seen.old (map ident_of names.now)) (at_name T2)) }
+{
+    for named in names {
+        check_new(alloc, seen, named)?;
+    }
+    Ok(())
+}
+
 /// The first of these names that stands twice.
 pub fn check_once(alloc: Global, names: &[Named<'_>]) -> Result<(), TypeFault>
     ensures { Passes result (at_found (m.repeated [] (map ident_of names.now)) (at_name T2)) }
 {
     let mut seen = Seen::new(alloc);
-    for named in names {
-        check_new(alloc, &mut seen, named)?;
-    }
-    Ok(())
+    check_all(alloc, &mut seen, names)
 }
 
 // Whether what a name means is a lock.

@@ -8,12 +8,13 @@ ghost use Rattle.cas_type.specs.Parts as p;
 ghost use Rattle.cas_type.specs.Parts.{ident_of, capped};
 ghost use Rattle.cas_type.specs.View.{meaning_of};
 ghost use Rattle.cas_typed.specs.Counts as c;
-ghost use Rattle.cas_typed.specs.Faults.{fault};
+ghost use Rattle.cas_typed.specs.Faults.{at_name, fault};
 ghost use Rattle.cas_typed.specs.declared.fault.TypeCode.TheVariants.{T2};
 ghost use Rattle.cas_typed.specs.Modules as m;
 ghost use Rattle.cas_typed.specs.Scopes.{item_named};
 ghost use Rattle.cas_typed.specs.Types.{variable_type};
 ghost use Rattle.cas_typed.specs.Walk as w;
+ghost use Rattle.cas_typed.specs.Walk.{at_found};
 
 use crate::counts::{MOST_FUNCTIONS, MOST_PARAMETERS, MOST_WORDS, Totals, check_count};
 use crate::fault::{TypeFault, refusal_of};
@@ -179,8 +180,35 @@ fn check_fit(
     check_counts(decl, place, totals)
 }
 
-// The first fault of an item by its parts.
+// The first of these parameters whose name stands twice.
+fn check_parameters(alloc: Global, params: &[Ident]) -> Result<(), TypeFault>
+    ensures { Passes result (at_found (m.repeated [] params.now) (at_name T2)) }
+{
+    let names = parameter_names(alloc, params)?;
+    check_once(alloc, &names)
+}
+
+// The first fault of an item by its parts, of which `held` are the names in its `holds`.
 #[tactic(auto, using(crate::proofs::By_parts::refuses_sooner))]
+fn check_holding(
+    alloc: Global,
+    items: &Items<'_>,
+    totals: Totals,
+    parts: Parts<'_>,
+    held: &[Named<'_>],
+) -> Result<(), TypeFault>
+    requires functions { totals.functions ≡ capped (c.function_count items.now) }
+    requires words { totals.words ≡ capped (c.word_count items.now) }
+    ensures { Passes result (p.parts_fault items.now parts.entry.decl.now parts.entry.values.now parts.entry.params.now (map ident_of held.now) parts.entry.place) }
+{
+    check_held(alloc, items, held)?;
+    check_defined_once(alloc, items, parts.decl, parts.place)?;
+    check_parameters(alloc, parts.params)?;
+    check_once(alloc, held)?;
+    check_fit(alloc, items, totals, parts, held)
+}
+
+// The first fault of an item by its parts.
 fn check_parts(
     alloc: Global,
     items: &Items<'_>,
@@ -192,15 +220,9 @@ fn check_parts(
     ensures { Passes result (p.parts_fault items.now parts.entry.decl.now parts.entry.values.now parts.entry.params.now
         (m.placed parts.entry.place (m.held_by parts.entry.decl.now.form) parts.entry.held.now) parts.entry.place) }
 {
-    let decl = parts.decl;
-    let place = parts.place;
-    let held = held_names(alloc, held_by(&decl.form), parts.held, place)?;
-    check_held(alloc, items, &held)?;
-    check_defined_once(alloc, items, decl, place)?;
-    let params = parameter_names(alloc, parts.params)?;
-    check_once(alloc, &params)?;
-    check_once(alloc, &held)?;
-    check_fit(alloc, items, totals, parts, &held)
+    let names = held_by(&parts.decl.form);
+    let held = held_names(alloc, names, parts.held, parts.place)?;
+    check_holding(alloc, items, totals, parts, &held)
 }
 
 /// The first fault of an item behind these declarations, which have these totals; but for a function's body.

@@ -9,6 +9,7 @@
 //! of memory says nothing. It stands on `cas_base`, `cas_syntax`, `cas_typed` and `indexmap`.
 #![tactic(auto)]
 
+mod alone;
 mod body;
 mod calls;
 mod counts;

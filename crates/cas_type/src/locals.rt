@@ -166,6 +166,3 @@ impl<'a> Locals<'a> {
         }
     }
 }
-
-#[cfg(test)]
-mod tests;

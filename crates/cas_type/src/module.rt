@@ -15,9 +15,6 @@ ghost use Rattle.cas_typed.specs.Typed_as.{IsTypedAs};
 ghost use Rattle.cas_typed.specs.Types as y;
 ghost use Rattle.cas_typed.specs.Walk as w;
 
-#[cfg(test)]
-mod tests;
-
 use crate::counts::Totals;
 use crate::fault::TypeFault;
 use crate::function::function;

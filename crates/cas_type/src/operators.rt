@@ -7,7 +7,7 @@ ghost use Rattle.cas_base.specs.declared.kind.Ty.TheVariants.{Int};
 ghost use Rattle.cas_typed.specs.Resolved.{compare, typed_expr_tree};
 ghost use Rattle.cas_typed.specs.Resolving as r;
 
-use crate::found::{Found, Operands, boxes, pair};
+use crate::found::{Found, Operands, null, pair, pointer, word};
 use crate::kinds::{common_kind, promoted_kind, signedness};
 use cas_base::{Kind, NoMemory};
 use cas_syntax::BinaryOperator;
@@ -25,9 +25,8 @@ pub fn arithmetic(
     match operands {
         Operands::Words(a, j, b, k) => {
             let kind = common_kind(j, k);
-            let (left, right) = boxes(alloc, a, b)?;
-            let expr = TypedExpr::Binary(operator, signedness(kind), left, right);
-            Ok(Found::Word(expr, kind))
+            let expr = TypedExpr::Binary(operator, signedness(kind), a, b);
+            word(alloc, expr, kind)
         }
         Operands::PointerAndWord(..) | Operands::WordAndPointer(..) | Operands::Pointers(..) => {
             Ok(Found::Unfit)
@@ -42,14 +41,12 @@ pub fn sum(alloc: Global, operands: Operands) -> Result<Found, NoMemory>
     match operands {
         Operands::Words(..) => arithmetic(alloc, BinaryOperator::Add, operands),
         Operands::PointerAndWord(p, k, e, j) => {
-            let (pointer, number) = boxes(alloc, p, e)?;
-            let expr = TypedExpr::PointerPlus(signedness(j), pointer, number);
-            Ok(Found::Pointer(expr, k))
+            let expr = TypedExpr::PointerPlus(signedness(j), p, e);
+            pointer(alloc, expr, k)
         }
         Operands::WordAndPointer(e, j, p, k) => {
-            let (number, pointer) = boxes(alloc, e, p)?;
-            let expr = TypedExpr::PlusPointer(signedness(j), number, pointer);
-            Ok(Found::Pointer(expr, k))
+            let expr = TypedExpr::PlusPointer(signedness(j), e, p);
+            pointer(alloc, expr, k)
         }
         Operands::Pointers(..) => Ok(Found::Unfit),
     }
@@ -62,17 +59,15 @@ pub fn difference(alloc: Global, operands: Operands) -> Result<Found, NoMemory>
     match operands {
         Operands::Words(..) => arithmetic(alloc, BinaryOperator::Sub, operands),
         Operands::PointerAndWord(p, k, e, j) => {
-            let (pointer, number) = boxes(alloc, p, e)?;
-            let expr = TypedExpr::PointerMinus(signedness(j), pointer, number);
-            Ok(Found::Pointer(expr, k))
+            let expr = TypedExpr::PointerMinus(signedness(j), p, e);
+            pointer(alloc, expr, k)
         }
         Operands::WordAndPointer(..) => Ok(Found::Unfit),
         Operands::Pointers(p, j, q, k) => {
             if !j.same(k) {
                 return Ok(Found::Unfit);
             }
-            let (left, right) = boxes(alloc, p, q)?;
-            Ok(Found::Word(TypedExpr::PointerDifference(left, right), Kind::I32))
+            word(alloc, TypedExpr::PointerDifference(p, q), Kind::I32)
         }
     }
 }
@@ -83,9 +78,8 @@ pub fn shift(alloc: Global, operator: BinaryOperator, operands: Operands) -> Res
 {
     match operands {
         Operands::Words(a, j, b, _) => {
-            let (left, right) = boxes(alloc, a, b)?;
-            let expr = TypedExpr::Binary(operator, signedness(j), left, right);
-            Ok(Found::Word(expr, promoted_kind(j)))
+            let expr = TypedExpr::Binary(operator, signedness(j), a, b);
+            word(alloc, expr, promoted_kind(j))
         }
         Operands::PointerAndWord(..) | Operands::WordAndPointer(..) | Operands::Pointers(..) => {
             Ok(Found::Unfit)
@@ -99,10 +93,9 @@ pub fn order(alloc: Global, operator: BinaryOperator, operands: Operands) -> Res
 {
     match operands {
         Operands::Words(a, j, b, k) => {
-            let (left, right) = boxes(alloc, a, b)?;
             let signs = signedness(common_kind(j, k));
-            let expr = TypedExpr::Binary(operator, signs, left, right);
-            Ok(Found::Word(expr, Kind::I32))
+            let expr = TypedExpr::Binary(operator, signs, a, b);
+            word(alloc, expr, Kind::I32)
         }
         Operands::Pointers(p, j, q, k) => {
             if !j.same(k) {
@@ -118,13 +111,12 @@ pub fn order(alloc: Global, operator: BinaryOperator, operands: Operands) -> Res
 fn compared(
     alloc: Global,
     operator: BinaryOperator,
-    left: TypedExpr,
-    right: TypedExpr,
+    left: Box<TypedExpr>,
+    right: Box<TypedExpr>,
 ) -> Result<Found, NoMemory>
-    ensures { IfOk result (λ found. found_of found ≡ r.fits (compare operator (typed_expr_tree left) (typed_expr_tree right)) (Int I32)) }
+    ensures { IfOk result (λ found. found_of found ≡ r.fits (compare operator (typed_expr_tree left.value) (typed_expr_tree right.value)) (Int I32)) }
 {
-    let (left, right) = boxes(alloc, left, right)?;
-    Ok(Found::Word(TypedExpr::Compare(operator, left, right), Kind::I32))
+    word(alloc, TypedExpr::Compare(operator, left, right), Kind::I32)
 }
 
 /// Of `==` or `!=`: the literal 0 on one side stands for the null pointer where a pointer is on the other.
@@ -142,13 +134,13 @@ pub fn equality(
             if !right_null {
                 return Ok(Found::Unfit);
             }
-            compared(alloc, operator, p, TypedExpr::Null)
+            compared(alloc, operator, p, null(alloc)?)
         }
         Operands::WordAndPointer(_, _, q, _) => {
             if !left_null {
                 return Ok(Found::Unfit);
             }
-            compared(alloc, operator, TypedExpr::Null, q)
+            compared(alloc, operator, null(alloc)?, q)
         }
         Operands::Words(..) | Operands::Pointers(..) => order(alloc, operator, operands),
     }

@@ -4,9 +4,11 @@ ghost use Rattle.std.specs.Prelude.{◌≡◌, Ok, Some, map};
 ghost use Rattle.std.specs.Option.{option_copied};
 ghost use Rattle.cas_syntax.specs.Tree.{expr_tree, optional_tree, target_tree};
 ghost use Rattle.cas_type.specs.Rows.{AnswersPlain, plain_tree};
+ghost use Rattle.cas_type.specs.View.{boxed_tree};
 ghost use Rattle.cas_base.specs.declared.kind.Kind.TheVariants.{I32};
 ghost use Rattle.cas_base.specs.declared.kind.Ty.TheVariants.{Int};
 ghost use Rattle.cas_typed.specs.Faults.{then_};
+ghost use Rattle.cas_typed.specs.Numbered.{optional_expr_tree};
 ghost use Rattle.cas_typed.specs.Resolved as t;
 ghost use Rattle.cas_typed.specs.Resolved.{TypedStmtTree};
 ghost use Rattle.cas_typed.specs.Scopes as s;
@@ -18,8 +20,18 @@ use crate::scope::Scopes;
 use crate::values::{assigned, lock, returned, value};
 use cas_base::{Kind, Place, Ty};
 use cas_syntax::{BinaryOperator, Expr, Ident, LValue};
-use cas_typed::{StmtRowForm, TypeCode};
+use cas_typed::{StmtRowForm, TypeCode, TypedExpr};
 use std::alloc::Global;
+
+/// An expression that may be missing, from behind its pointer.
+pub fn unboxed(expr: Option<Box<TypedExpr>>) -> Option<TypedExpr>
+    ensures { optional_expr_tree result ≡ boxed_tree expr }
+{
+    match expr {
+        Some(expr) => Some(Box::into_inner(expr)),
+        None => None,
+    }
+}
 
 /// An assignment.
 pub fn assignment(
@@ -33,7 +45,10 @@ pub fn assignment(
     ensures { AnswersPlain place result (w.walk_assign scopes.now place (target_tree target.now) operator (expr_tree expr.now)) }
 {
     let assignment = assigned(alloc, scopes, place, target, operator, expr)?;
-    Ok(StmtRowForm::Assign(assignment.target, assignment.value))
+    Ok(StmtRowForm::Assign(
+        Box::into_inner(assignment.target),
+        Box::into_inner(assignment.value),
+    ))
 }
 
 /// A call, whose result is kept or not.
@@ -73,7 +88,7 @@ pub fn return_of(
     ensures { AnswersPlain place result (w.walk_return scopes.now place ret (optional_tree expr.now)) }
 {
     let value = returned(alloc, scopes, place, ret, expr)?;
-    Ok(StmtRowForm::Return(value))
+    Ok(StmtRowForm::Return(unboxed(value)))
 }
 
 /// `print`, of a value that is converted to `int`.
@@ -86,7 +101,7 @@ pub fn print_of(
     ensures { AnswersPlain place result (then_ (w.walk_value scopes.now place (expr_tree expr.now) (Int I32)) (λ e. Ok (t.print place e))) }
 {
     let value = value(alloc, scopes, place, expr, Ty::Int(Kind::I32))?;
-    Ok(StmtRowForm::Print(value))
+    Ok(StmtRowForm::Print(Box::into_inner(value)))
 }
 
 /// `lock`.

@@ -2,16 +2,15 @@
 
 ghost use Rattle.std.specs.Prelude.{◌≡◌, IfOk};
 ghost use Rattle.cas_syntax.specs.Tree.{expr_tree};
-ghost use Rattle.cas_type.specs.View.{found_of, meaning_of};
+ghost use Rattle.cas_type.specs.View.{boxed_tree, found_of, meaning_of};
 ghost use Rattle.cas_typed.specs.Types.{is_null};
-ghost use Rattle.cas_typed.specs.Numbered.{optional_expr_tree};
 ghost use Rattle.cas_typed.specs.Resolving as r;
 
 use crate::forms::{
     both, cell_behind, choice, converted, either, element_behind, given, pointer_to_element,
     tested, unary,
 };
-use crate::found::Found;
+use crate::found::{Found, pointer, word};
 use crate::kinds::signedness;
 use crate::operators::binary;
 use crate::scope::{Meaning, Scopes, variable_ty};
@@ -44,20 +43,20 @@ pub fn is_zero(expr: &Expr) -> bool
 }
 
 /// Of a name alone.
-pub fn named(ident: &Ident, meaning: Meaning<'_>) -> Found
-    ensures { found_of result ≡ r.named ident.now (meaning_of meaning.entry) }
+pub fn named(alloc: Global, ident: &Ident, meaning: Meaning<'_>) -> Result<Found, NoMemory>
+    ensures { IfOk result (λ found. found_of found ≡ r.named ident.now (meaning_of meaning.entry)) }
 {
     match meaning {
-        Meaning::Undeclared => Found::Unfit,
+        Meaning::Undeclared => Ok(Found::Unfit),
         Meaning::Variable(n, ty) => match ty {
-            Ty::Int(k) => Found::Word(TypedExpr::Local(n), k),
-            Ty::Ptr(k) => Found::Pointer(TypedExpr::Local(n), k),
-            Ty::Array(k, _) => Found::Pointer(TypedExpr::PlaceOf(n), k),
-            Ty::Void => Found::Unfit,
+            Ty::Int(k) => word(alloc, TypedExpr::Local(n), k),
+            Ty::Ptr(k) => pointer(alloc, TypedExpr::Local(n), k),
+            Ty::Array(k, _) => pointer(alloc, TypedExpr::PlaceOf(n), k),
+            Ty::Void => Ok(Found::Unfit),
         },
         Meaning::Item(g, form) => match variable_ty(form) {
-            Some(Ty::Int(k)) => Found::Word(TypedExpr::Global(g, ident.place), k),
-            Some(Ty::Void) | Some(Ty::Ptr(_)) | Some(Ty::Array(..)) | None => Found::Unfit,
+            Some(Ty::Int(k)) => word(alloc, TypedExpr::Global(g, ident.place), k),
+            Some(Ty::Void) | Some(Ty::Ptr(_)) | Some(Ty::Array(..)) | None => Ok(Found::Unfit),
         },
     }
 }
@@ -75,30 +74,29 @@ pub fn indexed(
         Meaning::Item(g, form) => match variable_ty(form) {
             Some(Ty::Array(k, _)) => match index {
                 Found::Word(e, j) => {
-                    let index = Box::new(alloc, e)?;
-                    let expr = TypedExpr::Element(g, ident.place, signedness(j), index);
-                    Ok(Found::Word(expr, k))
+                    let expr = TypedExpr::Element(g, ident.place, signedness(j), e);
+                    word(alloc, expr, k)
                 }
                 Found::Unfit | Found::Pointer(..) => Ok(Found::Unfit),
             },
             Some(Ty::Void) | Some(Ty::Int(_)) | Some(Ty::Ptr(_)) | None => Ok(Found::Unfit),
         },
         Meaning::Undeclared | Meaning::Variable(..) => {
-            element_behind(alloc, named(ident, meaning), index)
+            element_behind(alloc, named(alloc, ident, meaning)?, index)
         }
     }
 }
 
 /// Of `&x`.
-pub fn pointer_to(meaning: Meaning<'_>) -> Found
-    ensures { found_of result ≡ r.pointer_to (meaning_of meaning.entry) }
+pub fn pointer_to(alloc: Global, meaning: Meaning<'_>) -> Result<Found, NoMemory>
+    ensures { IfOk result (λ found. found_of found ≡ r.pointer_to (meaning_of meaning.entry)) }
 {
     match meaning {
         Meaning::Variable(n, ty) => match ty {
-            Ty::Int(k) => Found::Pointer(TypedExpr::PlaceOf(n), k),
-            Ty::Void | Ty::Ptr(_) | Ty::Array(..) => Found::Unfit,
+            Ty::Int(k) => pointer(alloc, TypedExpr::PlaceOf(n), k),
+            Ty::Void | Ty::Ptr(_) | Ty::Array(..) => Ok(Found::Unfit),
         },
-        Meaning::Undeclared | Meaning::Item(..) => Found::Unfit,
+        Meaning::Undeclared | Meaning::Item(..) => Ok(Found::Unfit),
     }
 }
 
@@ -107,17 +105,18 @@ pub fn resolve(alloc: Global, scopes: &Scopes<'_>, expr: &Expr) -> Result<Found,
     ensures { IfOk result (λ found. found_of found ≡ r.resolved scopes.now (expr_tree expr.now)) }
 {
     match expr {
-        Expr::Lit(value, kind) => Ok(Found::Word(TypedExpr::Literal(*value), *kind)),
-        Expr::Name(ident) => Ok(named(ident, scopes.meaning(ident))),
+        Expr::Lit(value, kind) => word(alloc, TypedExpr::Literal(*value), *kind),
+        Expr::Name(ident) => named(alloc, ident, scopes.meaning(ident)),
         Expr::Index(ident, index) => {
             let index = resolve(alloc, scopes, index)?;
             indexed(alloc, ident, scopes.meaning(ident), index)
         }
         Expr::Deref(pointer) => cell_behind(alloc, resolve(alloc, scopes, pointer)?),
-        Expr::Addr(ident) => Ok(pointer_to(scopes.meaning(ident))),
+        Expr::Addr(ident) => pointer_to(alloc, scopes.meaning(ident)),
         Expr::AddrIndex(ident, index) => {
             let index = resolve(alloc, scopes, index)?;
-            pointer_to_element(alloc, named(ident, scopes.meaning(ident)), index)
+            let array = named(alloc, ident, scopes.meaning(ident))?;
+            pointer_to_element(alloc, array, index)
         }
         Expr::Unary(operator, a) => unary(alloc, *operator, resolve(alloc, scopes, a)?),
         Expr::Cast(kind, a) => converted(alloc, *kind, resolve(alloc, scopes, a)?),
@@ -151,8 +150,8 @@ pub fn value_of(
     scopes: &Scopes<'_>,
     expr: &Expr,
     ty: Ty,
-) -> Result<Option<TypedExpr>, NoMemory>
-    ensures { IfOk result (λ value. optional_expr_tree value ≡ r.value_of scopes.now (expr_tree expr.now) ty) }
+) -> Result<Option<Box<TypedExpr>>, NoMemory>
+    ensures { IfOk result (λ value. boxed_tree value ≡ r.value_of scopes.now (expr_tree expr.now) ty) }
 {
     given(alloc, ty, is_zero(expr), resolve(alloc, scopes, expr)?)
 }

@@ -3,21 +3,23 @@
 ghost use Rattle.std.specs.Prelude.{◌≡◌, IfOk};
 ghost use Rattle.cas_syntax.specs.Tree.{expr_tree, target_tree};
 ghost use Rattle.cas_type.specs.Answer.{Passes};
-ghost use Rattle.cas_type.specs.View.{found_of, meaning_of, written_of};
-ghost use Rattle.cas_typed.specs.Numbered.{optional_expr_tree};
+ghost use Rattle.cas_type.specs.View.{boxed_tree, found_of, meaning_of, written_of};
+ghost use Rattle.cas_base.specs.declared.kind.Ty.TheVariants.{Int};
+ghost use Rattle.cas_typed.specs.Resolved as t;
+ghost use Rattle.cas_typed.specs.Resolved.{typed_expr_tree, typed_target_tree};
 ghost use Rattle.cas_typed.specs.Resolving as r;
 ghost use Rattle.cas_typed.specs.Typing.{assigned, cell_of};
 ghost use Rattle.cas_typed.specs.Walk as w;
 
 use crate::fault::TypeFault;
 use crate::forms::{cell_behind, given};
-use crate::found::{Found, Operands, boxes, pair};
+use crate::found::{Found, Operands, pair};
 use crate::kinds::signedness;
 use crate::names::{check_alone, check_declared, check_names};
 use crate::operators::binary;
 use crate::resolve::{indexed, is_zero, named, resolve, value_of};
 use crate::scope::{Meaning, Scopes};
-use cas_base::{Form, NoMemory, Ty};
+use cas_base::{Form, Kind, NoMemory, Ty};
 use cas_syntax::{BinaryOperator, Expr, Ident, LValue};
 use cas_typed::{TypedExpr, TypedTarget};
 use std::alloc::Global;
@@ -25,7 +27,7 @@ use std::alloc::Global;
 /// A cell that may be written, with its type.
 #[derive(Drop)]
 pub struct Written {
-    pub target: TypedTarget,
+    pub target: Box<TypedTarget>,
     pub ty: Ty,
 }
 
@@ -44,42 +46,53 @@ pub fn check_target(alloc: Global, scopes: &Scopes<'_>, target: &LValue) -> Resu
     }
 }
 
+// The cell of this type that a target is.
+fn writable(alloc: Global, target: TypedTarget, ty: Ty) -> Result<Option<Written>, NoMemory>
+    ensures { IfOk result (λ whole. written_of whole ≡ r.written (typed_target_tree target) ty) }
+{
+    let target = Box::new(alloc, target)?;
+    Ok(Some(Written { target, ty }))
+}
+
 /// Of a name: a local integer or pointer, or a shared integer.
-pub fn write_named(ident: &Ident, meaning: Meaning<'_>) -> Option<Written>
-    ensures { written_of result ≡ r.write_named ident.now (meaning_of meaning.entry) }
+pub fn write_named(
+    alloc: Global,
+    ident: &Ident,
+    meaning: Meaning<'_>,
+) -> Result<Option<Written>, NoMemory>
+    ensures { IfOk result (λ whole. written_of whole ≡ r.write_named ident.now (meaning_of meaning.entry)) }
 {
     match meaning {
-        Meaning::Undeclared => None,
+        Meaning::Undeclared => Ok(None),
         Meaning::Variable(n, ty) => match ty {
-            Ty::Int(_) | Ty::Ptr(_) => Some(Written {
-                target: TypedTarget::Local(n),
-                ty,
-            }),
-            Ty::Void | Ty::Array(..) => None,
+            Ty::Int(_) | Ty::Ptr(_) => writable(alloc, TypedTarget::Local(n), ty),
+            Ty::Void | Ty::Array(..) => Ok(None),
         },
         Meaning::Item(g, form) => match form {
             Form::Shared { ty, .. } => match *ty {
-                Ty::Int(k) => Some(Written {
-                    target: TypedTarget::Global(g, ident.place),
-                    ty: Ty::Int(k),
-                }),
-                Ty::Void | Ty::Ptr(_) | Ty::Array(..) => None,
+                Ty::Int(k) => writable(alloc, TypedTarget::Global(g, ident.place), Ty::Int(k)),
+                Ty::Void | Ty::Ptr(_) | Ty::Array(..) => Ok(None),
             },
-            Form::Lock | Form::Table { .. } | Form::Function { .. } => None,
+            Form::Lock | Form::Table { .. } | Form::Function { .. } => Ok(None),
         },
     }
 }
 
+// The cell of this kind behind a pointer.
+fn cell_at(alloc: Global, kind: Kind, pointer: Box<TypedExpr>) -> Result<Option<Written>, NoMemory>
+    ensures { IfOk result (λ whole. written_of whole ≡ r.written (t.to_behind kind (typed_expr_tree pointer.value)) (Int kind)) }
+{
+    let target = TypedTarget::Behind(kind, Box::into_inner(pointer));
+    writable(alloc, target, Ty::Int(kind))
+}
+
 /// Of `*p`, by `p`.
-pub fn write_behind(found: Found) -> Option<Written>
-    ensures { written_of result ≡ r.write_behind (found_of found) }
+pub fn write_behind(alloc: Global, found: Found) -> Result<Option<Written>, NoMemory>
+    ensures { IfOk result (λ whole. written_of whole ≡ r.write_behind (found_of found)) }
 {
     match found {
-        Found::Pointer(p, k) => Some(Written {
-            target: TypedTarget::Behind(k, p),
-            ty: Ty::Int(k),
-        }),
-        Found::Unfit | Found::Word(..) => None,
+        Found::Pointer(p, k) => cell_at(alloc, k, p),
+        Found::Unfit | Found::Word(..) => Ok(None),
     }
 }
 
@@ -93,12 +106,8 @@ pub fn write_element_behind(
 {
     match pair(array, index) {
         Some(Operands::PointerAndWord(p, k, e, j)) => {
-            let (pointer, number) = boxes(alloc, p, e)?;
-            let expr = TypedExpr::PointerPlus(signedness(j), pointer, number);
-            Ok(Some(Written {
-                target: TypedTarget::Behind(k, expr),
-                ty: Ty::Int(k),
-            }))
+            let expr = TypedExpr::PointerPlus(signedness(j), p, e);
+            writable(alloc, TypedTarget::Behind(k, expr), Ty::Int(k))
         }
         Some(Operands::Words(..))
         | Some(Operands::WordAndPointer(..))
@@ -120,10 +129,11 @@ pub fn write_indexed(
         Meaning::Item(g, form) => match form {
             Form::Shared { ty, .. } => match *ty {
                 Ty::Array(k, _) => match index {
-                    Found::Word(e, j) => Ok(Some(Written {
-                        target: TypedTarget::Element(g, ident.place, signedness(j), e),
-                        ty: Ty::Int(k),
-                    })),
+                    Found::Word(e, j) => {
+                        let index = Box::into_inner(e);
+                        let target = TypedTarget::Element(g, ident.place, signedness(j), index);
+                        writable(alloc, target, Ty::Int(k))
+                    }
                     Found::Unfit | Found::Pointer(..) => Ok(None),
                 },
                 Ty::Void | Ty::Int(_) | Ty::Ptr(_) => Ok(None),
@@ -131,7 +141,7 @@ pub fn write_indexed(
             Form::Lock | Form::Table { .. } | Form::Function { .. } => Ok(None),
         },
         Meaning::Undeclared | Meaning::Variable(..) => {
-            write_element_behind(alloc, named(ident, meaning), index)
+            write_element_behind(alloc, named(alloc, ident, meaning)?, index)
         }
     }
 }
@@ -145,12 +155,12 @@ pub fn target_of(
     ensures { IfOk result (λ whole. written_of whole ≡ r.target_of scopes.now (target_tree target.now)) }
 {
     match target {
-        LValue::Name(ident) => Ok(write_named(ident, scopes.meaning(ident))),
+        LValue::Name(ident) => write_named(alloc, ident, scopes.meaning(ident)),
         LValue::Index(ident, index) => {
             let index = resolve(alloc, scopes, index)?;
             write_indexed(alloc, ident, scopes.meaning(ident), index)
         }
-        LValue::Deref(pointer) => Ok(write_behind(resolve(alloc, scopes, pointer)?)),
+        LValue::Deref(pointer) => write_behind(alloc, resolve(alloc, scopes, pointer)?),
     }
 }
 
@@ -159,7 +169,7 @@ fn cell(alloc: Global, scopes: &Scopes<'_>, target: &LValue) -> Result<Found, No
     ensures { IfOk result (λ found. found_of found ≡ r.resolved scopes.now (cell_of (target_tree target.now))) }
 {
     match target {
-        LValue::Name(ident) => Ok(named(ident, scopes.meaning(ident))),
+        LValue::Name(ident) => named(alloc, ident, scopes.meaning(ident)),
         LValue::Index(ident, index) => {
             let index = resolve(alloc, scopes, index)?;
             indexed(alloc, ident, scopes.meaning(ident), index)
@@ -177,8 +187,8 @@ pub fn assigned_value(
     operator: Option<BinaryOperator>,
     expr: &Expr,
     ty: Ty,
-) -> Result<Option<TypedExpr>, NoMemory>
-    ensures { IfOk result (λ value. optional_expr_tree value ≡ r.value_of scopes.now (assigned (target_tree target.now) operator (expr_tree expr.now)) ty) }
+) -> Result<Option<Box<TypedExpr>>, NoMemory>
+    ensures { IfOk result (λ value. boxed_tree value ≡ r.value_of scopes.now (assigned (target_tree target.now) operator (expr_tree expr.now)) ty) }
 {
     match operator {
         None => value_of(alloc, scopes, expr, ty),

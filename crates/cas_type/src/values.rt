@@ -3,8 +3,7 @@
 ghost use Rattle.cas_syntax.specs.Tree.{expr_tree, optional_tree, target_tree};
 ghost use Rattle.cas_type.specs.Answer.{Answers};
 ghost use Rattle.std.specs.Prelude.{◌≡◌, IfOk};
-ghost use Rattle.cas_type.specs.View.{assignment_tree};
-ghost use Rattle.cas_typed.specs.Numbered.{optional_expr_tree};
+ghost use Rattle.cas_type.specs.View.{assignment_tree, boxed_tree};
 ghost use Rattle.cas_typed.specs.Resolved as t;
 ghost use Rattle.cas_typed.specs.Resolved.{typed_expr_tree};
 ghost use Rattle.cas_typed.specs.Scopes as s;
@@ -13,6 +12,7 @@ ghost use Rattle.cas_typed.specs.Walk as w;
 
 use crate::fault::{TypeFault, misfit, refusal};
 use crate::forms::tested;
+use crate::found::null;
 use crate::names::check_names;
 use crate::resolve::{resolve, value_of};
 use crate::scope::{Meaning, Scopes};
@@ -25,8 +25,8 @@ use std::alloc::Global;
 /// An assignment: what is written, and the value.
 #[derive(Drop)]
 pub struct Assignment {
-    pub target: TypedTarget,
-    pub value: TypedExpr,
+    pub target: Box<TypedTarget>,
+    pub value: Box<TypedExpr>,
 }
 
 /// A condition of the statement at a place.
@@ -36,8 +36,8 @@ pub fn test(
     scopes: &Scopes<'_>,
     place: Place,
     expr: &Expr,
-) -> Result<TypedExpr, TypeFault>
-    ensures { Answers typed_expr_tree result (w.walk_test scopes.now place (expr_tree expr.now)) }
+) -> Result<Box<TypedExpr>, TypeFault>
+    ensures { Answers (λ test. typed_expr_tree test.value) result (w.walk_test scopes.now place (expr_tree expr.now)) }
 {
     check_names(alloc, scopes, expr)?;
     match tested(alloc, resolve(alloc, scopes, expr)?)? {
@@ -54,8 +54,8 @@ pub fn value(
     place: Place,
     expr: &Expr,
     ty: Ty,
-) -> Result<TypedExpr, TypeFault>
-    ensures { Answers typed_expr_tree result (w.walk_value scopes.now place (expr_tree expr.now) ty) }
+) -> Result<Box<TypedExpr>, TypeFault>
+    ensures { Answers (λ value. typed_expr_tree value.value) result (w.walk_value scopes.now place (expr_tree expr.now) ty) }
 {
     check_names(alloc, scopes, expr)?;
     match value_of(alloc, scopes, expr, ty)? {
@@ -70,8 +70,8 @@ pub fn condition(
     scopes: &Scopes<'_>,
     place: Place,
     expr: &Option<Expr>,
-) -> Result<Option<TypedExpr>, TypeFault>
-    ensures { Answers optional_expr_tree result (w.walk_optional scopes.now place (optional_tree expr.now)) }
+) -> Result<Option<Box<TypedExpr>>, TypeFault>
+    ensures { Answers boxed_tree result (w.walk_optional scopes.now place (optional_tree expr.now)) }
 {
     match expr {
         Some(expr) => match test(alloc, scopes, place, expr) {
@@ -111,15 +111,15 @@ pub fn assigned(
 }
 
 /// What a function of this type returns where no value is given.
-pub fn no_value(alloc: Global, ret: Ty) -> Result<Option<TypedExpr>, NoMemory>
-    ensures { IfOk result (λ value. optional_expr_tree value ≡ y.no_value ret) }
+pub fn no_value(alloc: Global, ret: Ty) -> Result<Option<Box<TypedExpr>>, NoMemory>
+    ensures { IfOk result (λ value. boxed_tree value ≡ y.no_value ret) }
 {
     match ret {
         Ty::Int(k) => {
             let zero = Box::new(alloc, TypedExpr::Literal(0))?;
-            Ok(Some(TypedExpr::Narrow(k, zero)))
+            Ok(Some(Box::new(alloc, TypedExpr::Narrow(k, zero))?))
         }
-        Ty::Ptr(_) => Ok(Some(TypedExpr::Null)),
+        Ty::Ptr(_) => Ok(Some(null(alloc)?)),
         Ty::Void | Ty::Array(..) => Ok(None),
     }
 }
@@ -131,8 +131,8 @@ pub fn returned(
     place: Place,
     ret: Ty,
     expr: &Option<Expr>,
-) -> Result<Option<TypedExpr>, TypeFault>
-    ensures { Answers (λ value. t.return_ place (optional_expr_tree value)) result (w.walk_return scopes.now place ret (optional_tree expr.now)) }
+) -> Result<Option<Box<TypedExpr>>, TypeFault>
+    ensures { Answers (λ value. t.return_ place (boxed_tree value)) result (w.walk_return scopes.now place ret (optional_tree expr.now)) }
 {
     match expr {
         Some(expr) => match value(alloc, scopes, place, expr, ret) {

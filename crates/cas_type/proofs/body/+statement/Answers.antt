@@ -17,6 +17,7 @@ use Rattle.cas_typed.specs.Resolved.{typed_expr_tree}
 use Rattle.cas_typed.specs.Scopes.{Scope, inside, past, past_option, after, after_option, locals_of, locals_of_option, locals_of_list}
 use Rattle.cas_typed.specs.Walk.{walk, walk_part, walk_list, walk_test, walk_optional}
 use Rattle.cas_typed.specs.declared.rows.StmtRowForm.TheVariants as row
+use Rattle.cas_typed.specs.declared.tree.TypedExpr.{TypedExpr}
 use Rattle.cas_type.proofs.body.+statement.Goals as goal
 
 pub part-returns-clause-scope : goal.part-returns-clause-scope
@@ -87,8 +88,9 @@ branches-returns-clause-rows t c =
     subst (λ s. PartWalks c.part.new.made.rows.items c.optional_part.new.made.rows.items (Ok c.in_ok-second.second) (walk_part ret l s d))
     c.in_ok-first.ensures.scope c.in_ok-second.ensures.rows in
     if_walks ret l c.args.scopes.now c.args.place (expr_tree c.args.test.now) b d c.args.made.now.rows.items c.push.new.self.rows.items c.part.new.made.rows.items
-    c.optional_part.new.made.rows.items c.set.new.self.rows.items c.in_ok-number.number c.in_ok-first.first c.in_ok-second.second row.Skip c.in_ok-test.test
-    c.in_ok-test.ensures c.in_ok-number.ensures.number c.in_ok-number.ensures.rows c.in_ok-first.ensures.rows second c.set.ensures.rows
+    c.optional_part.new.made.rows.items c.set.new.self.rows.items c.in_ok-number.number c.in_ok-first.first c.in_ok-second.second row.Skip c.into_inner-test.result
+    (c.in_ok-test.ensures ∙ ap (λ (e : TypedExpr). Ok (typed_expr_tree e)) (sym c.into_inner-test.ensures)) c.in_ok-number.ensures.number c.in_ok-number.ensures.rows
+    c.in_ok-first.ensures.rows second c.set.ensures.rows
 
 pub while_loop-returns-clause-rows : goal.while_loop-returns-clause-rows
 while_loop-returns-clause-rows t c =
@@ -97,8 +99,9 @@ while_loop-returns-clause-rows t c =
     subst (λ w. StmtWalks c.push.new.self.rows.items c.part.new.made.rows.items (Ok c.in_ok-body.body) (walk w.ret w.in_loop c.args.scopes.now b))
     c.looped.ensures c.in_ok-body.ensures.rows in
     while_walks c.args.within.ret c.args.within.in_loop c.args.scopes.now c.args.place (expr_tree c.args.test.now) b c.args.made.now.rows.items c.push.new.self.rows.items
-    c.part.new.made.rows.items c.set.new.self.rows.items c.in_ok-number.number c.in_ok-body.body row.Skip c.in_ok-test.test
-    c.in_ok-test.ensures c.in_ok-number.ensures.number c.in_ok-number.ensures.rows body c.set.ensures.rows
+    c.part.new.made.rows.items c.set.new.self.rows.items c.in_ok-number.number c.in_ok-body.body row.Skip c.into_inner-test.result
+    (c.in_ok-test.ensures ∙ ap (λ (e : TypedExpr). Ok (typed_expr_tree e)) (sym c.into_inner-test.ensures)) c.in_ok-number.ensures.number c.in_ok-number.ensures.rows body
+    c.set.ensures.rows
 
 pub do_loop-returns-clause-rows : goal.do_loop-returns-clause-rows
 do_loop-returns-clause-rows t c =
@@ -107,8 +110,9 @@ do_loop-returns-clause-rows t c =
     subst (λ w. StmtWalks c.push.new.self.rows.items c.part.new.made.rows.items (Ok c.in_ok-body.body) (walk w.ret w.in_loop c.args.scopes.now b))
     c.looped.ensures c.in_ok-body.ensures.rows in
     do_walks c.args.within.ret c.args.within.in_loop c.args.scopes.now c.args.place b (expr_tree c.args.test.now) c.args.made.now.rows.items c.push.new.self.rows.items
-    c.part.new.made.rows.items c.set.new.self.rows.items c.in_ok-number.number c.in_ok-body.body row.Skip c.in_ok-test.test
-    c.in_ok-number.ensures.number c.in_ok-number.ensures.rows body c.in_ok-test.ensures c.set.ensures.rows
+    c.part.new.made.rows.items c.set.new.self.rows.items c.in_ok-number.number c.in_ok-body.body row.Skip c.into_inner-test.result
+    c.in_ok-number.ensures.number c.in_ok-number.ensures.rows body
+    (c.in_ok-test.ensures ∙ ap (λ (e : TypedExpr). Ok (typed_expr_tree e)) (sym c.into_inner-test.ensures)) c.set.ensures.rows
 
 pub for_loop-returns-clause-rows : goal.for_loop-returns-clause-rows
 for_loop-returns-clause-rows t c =
@@ -127,8 +131,10 @@ for_loop-returns-clause-rows t c =
     let behind : c.optional_part.new.scopes ≡ past_option (after_option (inside s) i) u = c.in_ok-next.ensures.scope ∙ ap (λ start. past_option start u) within in
     let first : PartWalks begun first_made (Ok c.in_ok-first.first) (walk_part ret l (inside s) i) =
     subst (λ start. PartWalks begun first_made (Ok c.in_ok-first.first) (walk_part ret l start i)) c.enter-mark.ensures.inner c.in_ok-first.ensures.rows in
-    let test : walk_optional (after_option (inside s) i) c.args.place x ≡ Ok (optional_expr_tree c.in_ok-test.test) =
-    subst (λ start. walk_optional start c.args.place x ≡ Ok (optional_expr_tree c.in_ok-test.test)) within c.in_ok-test.ensures in
+    let found : walk_optional c.first_part.new.scopes c.args.place x ≡ Ok (optional_expr_tree c.unboxed.result) =
+    c.in_ok-test.ensures ∙ ap Ok (sym c.unboxed.ensures) in
+    let test : walk_optional (after_option (inside s) i) c.args.place x ≡ Ok (optional_expr_tree c.unboxed.result) =
+    subst (λ start. walk_optional start c.args.place x ≡ Ok (optional_expr_tree c.unboxed.result)) within found in
     let next : PartWalks first_made next_made (Ok c.in_ok-next.next) (walk_part ret l (after_option (inside s) i) u) =
     subst (λ start. PartWalks first_made next_made (Ok c.in_ok-next.next) (walk_part ret l start u)) within c.in_ok-next.ensures.rows in
     let looped : StmtWalks next_made body_made (Ok c.in_ok-body.body) (walk ret true c.optional_part.new.scopes b) =
@@ -136,7 +142,7 @@ for_loop-returns-clause-rows t c =
     let body : StmtWalks next_made body_made (Ok c.in_ok-body.body) (walk ret true (past_option (after_option (inside s) i) u) b) =
     subst (λ start. StmtWalks next_made body_made (Ok c.in_ok-body.body) (walk ret true start b)) behind looped in
     for_walks ret l s c.args.place i x u b c.args.made.now.rows.items begun first_made next_made body_made c.set.new.self.rows.items
-    c.in_ok-number.number c.in_ok-body.body c.in_ok-first.first c.in_ok-next.next row.Skip c.in_ok-test.test
+    c.in_ok-number.number c.in_ok-body.body c.in_ok-first.first c.in_ok-next.next row.Skip c.unboxed.result
     c.in_ok-number.ensures.number c.in_ok-number.ensures.rows first test next body c.set.ensures.rows
 
 pub for_loop-returns-clause-scope : goal.for_loop-returns-clause-scope
