@@ -1,6 +1,6 @@
 -- A shelf that tells its texts tells one of each name, so a command comes to one thing.
 use Rattle.std.proofs.Common.{◌≡◌, ◌<◌, ◌≤◌, ℕ, true, false, List, [], ◌∷◌, length, Option, Some, None, refl, sym, ◌∙◌, ap, subst, inl, inr, arith}
-use Rattle.cas_outside.specs.Shelf.{Texts, text_of}
+use Rattle.cas_outside.specs.Shelf.{Texts, TellsLonger, text_of}
 use Rattle.cas_top.specs.Answer.{IsRead, AreRead, IsFirstLong}
 use Rattle.cas_parse.proofs.Texts.{one_module, no_module_and_fault}
 use Rattle.cas_command.specs.Words.{Command, Run, World, Wanted, run, check, world}
@@ -49,6 +49,18 @@ read_and_long held (w ∷ ws) [] name h k = absurd h
 read_and_long held (w ∷ ws) (x ∷ xs) name h (inl k) =
     within_and_longer w.limit x k.1.0 (one_text (text_of held w.name) x k.1.0 h.0.tells k.1.1) h.0.within k.1.2
 read_and_long held (w ∷ ws) (x ∷ xs) name h (inr k) = read_and_long held ws xs name h.1 k.2
+
+-- a text that is read is within its limit
+read_longer : (held : Texts) (w : Wanted) (x : List ℕ) → TellsLonger (Some held) w.name w.limit → IsRead (Some held) w x → ⊥
+read_longer held w x long read = within_and_longer w.limit x long.0 (one_text (text_of held w.name) x long.0 read.tells long.1) read.within long.2
+
+-- the first text that is too long is one
+pub one_long : (held : Texts) (ws : List Wanted) (name other : List ℕ) → IsFirstLong (Some held) ws name → IsFirstLong (Some held) ws other → name ≡ other
+one_long held [] name other h k = absurd h
+one_long held (w ∷ ws) name other (inl h) (inl k) = h.0 ∙ sym k.0
+one_long held (w ∷ ws) name other (inl h) (inr k) = absurd (read_longer held w k.0 h.1 k.1)
+one_long held (w ∷ ws) name other (inr h) (inl k) = absurd (read_longer held w h.0 k.1 h.1)
+one_long held (w ∷ ws) name other (inr h) (inr k) = one_long held ws name other h.2 k.2
 
 -- a typed module has no fault of typing
 pub typed_and_faulty : (m n : ModuleTree) (r : TypedModuleTree) (f : Fault) → m ≡ n → IsTyped m r → HasTypeFault n f → ⊥

@@ -21,7 +21,7 @@ use Rattle.cas_top.specs.Worlds.{link_fault_line, turned, world_lines, PrintsWor
 use Rattle.cas_top.specs.declared.machine.End.{End}
 use Rattle.cas_top.specs.declared.machine.Instr.{Instr}
 use Rattle.cas_top.specs.declared.machine.Instr.TheVariants.{MovEax, AddEax, OutEax, Ret}
-use Rattle.cas_top.proofs.Excluding.{one_list, read_and_long, one_resolved, typed_and_faulty, one_checked, checked_and_refused, modules_checked, one_modules, checked_and_first, one_plan}
+use Rattle.cas_top.proofs.Excluding.{one_list, one_long, read_and_long, one_resolved, typed_and_faulty, one_checked, checked_and_refused, modules_checked, one_modules, checked_and_first, one_plan}
 use Rattle.cas_top.proofs.RunLaws.{report_of, one_end}
 
 -- what is printed
@@ -154,4 +154,5 @@ causes_exclude held c = record {
       one_refusal c p.texts s t line other p.plan (subst P (one_list held (wanted_texts c) r.texts p.texts r.read p.read) r.plan);
   printed_long = λ s text name p l. read_and_long held (wanted_texts c) p.texts name p.read l;
   refused_long = λ s line name r l. read_and_long held (wanted_texts c) r.texts name r.read l;
+  long_once = λ name other l k. one_long held (wanted_texts c) name other l k;
 }

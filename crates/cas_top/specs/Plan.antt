@@ -43,7 +43,7 @@ pub record IsFinished (resolved : TypedModuleTree) (thread : List ℕ) (report :
   pub generated : IsItemsCode resolved.module_tree.items code
   pub machine : RunsTo code report
   pub done : AreDone report.ends
-  -- of the program, which is race-free, and of an interleaving of it: it has the output, and in it exactly those threads have ended
+  -- of the program, which is race-free: an interleaving of it puts out the report's output, and there exactly the threads have ended
   -- that are done
   pub program : IsProgram (resolved ∷ []) (thread ∷ [])
   pub race_free : IsRaceFree (env_of (resolved ∷ [])) (program_world (resolved ∷ []) (thread ∷ []))

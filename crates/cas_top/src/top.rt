@@ -44,8 +44,8 @@ pub fn cascc<R: Threads + Sync, S: Shelf, O: Sink, E: Sink, G: Gate>(
     _gate: &G,
 ) -> u8
     // The text that `out` took: of `check`, a line for each module; of `run`, that of an ended run of the machine on
-    // the code that is generated for the module, and of an interleaving of the module in which the thread has ended; of
-    // `world`, that of the world that the turns come to, of a program that is race-free.
+    // the code that is generated for the module, and of an interleaving of its program, which is race-free, in which the
+    // thread has ended; of `world`, that of the world that the turns come to, of a program that is race-free.
     ensures printed { IsPrinting result →
         IsPrinted (S.texts shelf.old) (command_of words.now) result (O.taken out.old) (O.taken out.new) }
 

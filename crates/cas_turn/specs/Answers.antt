@@ -29,8 +29,8 @@ abbrev pub BeginsCall : List Activation → Type 0
 BeginsCall [] = ⊥
 BeginsCall (a ∷ older) = Begins IsCall a.todo
 
--- a turn of a thread with these activations may take memory: it may take its next step, which begins a call or puts a word out.
--- A thread whose next step is Bad, or waits for a lock, takes none, and neither does one that has ended
+-- a turn takes memory only where the thread may take its next step, and that begins a call or puts a word out; no turn does of a
+-- thread whose next step is Bad or waits for a lock, or that has ended
 abbrev pub TakesMemory : List Activation → State → Type 0
 TakesMemory activations (running s) = BeginsCall activations ⊎ ((n : ℕ) × (s.act ≡ act.Out n))
 TakesMemory activations _ = ⊥
