@@ -2,14 +2,14 @@
 #![tactic(auto)]
 
 use cas_base::Text;
-use cas_outside::{FileShelf, OpenGate, Sink, StdSink};
+use cas_outside::{FileShelf, OpenGate, StdSink};
 use cas_top::cascc;
 use std::env;
 use std::env::Env;
 use std::io::{self, ErrorKind};
 use std::process::ExitCode;
 
-// The status where there is no memory to collect the words. Its line is tried once, whatever becomes of it.
+// The status where there is no memory to collect the words. No line is put then.
 const OUT_OF_MEMORY: u8 = 9;
 
 // The words after the program's name. A word that isn't UTF-8 is an error of kind `InvalidData`.
@@ -30,7 +30,6 @@ fn main(rt: HostRuntime) -> ExitCode {
         Ok(words) => words,
         Err(error) => {
             if error.kind() == ErrorKind::OutOfMemory {
-                let _ = err.put(b"cascc: memory\n");
                 return ExitCode::from(OUT_OF_MEMORY);
             }
             Vec::new(alloc)
