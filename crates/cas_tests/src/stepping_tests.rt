@@ -5,7 +5,7 @@ use cas_base::{Name, Place, Why};
 use cas_check::check_module;
 use cas_own::Checked;
 use cas_read::read_module;
-use cas_turn::{ThreadState, World, WorldAnswer, join};
+use cas_turn::{Item, ThreadState, World, WorldAnswer, join};
 use cas_type::type_module;
 use std::alloc::Global;
 use std::process::Abort;
@@ -100,6 +100,26 @@ fn turns_are_taken_one_by_one(rt: HostRuntime) -> Result<(), Fail> {
         assert_eq!(rt; take_turn(&mut world, thread), answer_at(state));
     }
     assert_eq!(rt; world.state(2), ThreadState::Ended);
+    assert_eq!(rt; world.out(), [(0, 5), (1, 0)].as_slice());
+    Ok(())
+}
+
+// The same turns as a schedule, and then rounds, in which nothing changes.
+#[test]
+fn turns_are_taken_in_a_row(rt: HostRuntime) -> Result<(), Fail> {
+    let mut world = first_world(rt.alloc())?;
+    let first = Item {
+        thread: 0,
+        count: 9,
+    };
+    let second = Item {
+        thread: 1,
+        count: 9,
+    };
+    assert!(rt; world.schedule(&[first, second]).is_ok());
+    assert!(rt; world.rounds(2).is_ok());
+    assert_eq!(rt; world.state(0), ThreadState::Ended);
+    assert_eq!(rt; world.state(1), BAD);
     assert_eq!(rt; world.out(), [(0, 5), (1, 0)].as_slice());
     Ok(())
 }

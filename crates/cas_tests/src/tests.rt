@@ -157,6 +157,16 @@ fn one_word_away_is_refused(rt: HostRuntime) -> Result<(), Fail> {
         words[place] = word;
         assert_usage(&rt, alloc, &words)?;
     }
+    for place in 0..RUN.len() {
+        let mut fewer = Vec::from_slice(alloc, &RUN)?;
+        fewer.remove(place);
+        assert_usage(&rt, alloc, fewer.as_slice())?;
+    }
+    for place in 0..=RUN.len() {
+        let mut more = Vec::from_slice(alloc, &RUN)?;
+        more.insert(place, "w")?;
+        assert_usage(&rt, alloc, more.as_slice())?;
+    }
     Ok(())
 }
 
