@@ -82,7 +82,10 @@ fn has_rows(text: &str, count: usize) -> bool
 fn first_row(rows: &str, text: &str) -> Option<usize>
     ensures { IsFirstRow (rows_of rows.now) text.now result }
 {
-    rows.split(' ').position(|row| row == text)
+    let wanted = text.as_bytes();
+    rows.as_bytes()
+        .split(|byte| *byte == b' ')
+        .position(|row| row == wanted)
 }
 
 // Whether no two rows of a text are equal.
