@@ -15,8 +15,6 @@ mod place;
 mod print;
 mod reg;
 mod seq;
-#[cfg(test)]
-mod tests;
 mod text;
 mod word;
 

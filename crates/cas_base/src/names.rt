@@ -160,6 +160,3 @@ macro_rules! cases {
         }
     };
 }
-
-#[cfg(test)]
-mod tests;

@@ -108,6 +108,3 @@ fn low_half(a: u32) -> u16
 {
     (a % 0x1_0000) as u16
 }
-
-#[cfg(test)]
-mod tests;

@@ -5,7 +5,11 @@
 #[cfg(test)]
 mod commands_tests;
 #[cfg(test)]
+mod declarations_tests;
+#[cfg(test)]
 mod lexing_tests;
+#[cfg(test)]
+mod names_tests;
 #[cfg(test)]
 mod printing_tests;
 #[cfg(test)]
@@ -14,3 +18,5 @@ mod programs_tests;
 mod reading_tests;
 #[cfg(test)]
 mod trial_tests;
+#[cfg(test)]
+mod words_tests;

@@ -1,7 +1,8 @@
+//! Tables of names.
+
 ghost use Rattle.std.specs.Prelude.{◌<◌};
 
-use super::Names;
-use crate::cases;
+use cas_base::{Names, cases};
 use std::process::Abort;
 
 // Mnemonics of IA-32, in the order of their rows.

@@ -1,4 +1,6 @@
-use crate::{Decl, Form, Global, Kind, Name, Seq, Text, Ty};
+//! Names, and declarations and their copies.
+
+use cas_base::{Decl, Form, Global, Kind, Name, NameFault, Seq, Text, Ty};
 use std::alloc;
 use std::process::Abort;
 use std::test::Fail;
@@ -70,4 +72,42 @@ fn lists_and_texts_hold_what_they_are_given(rt: HostRuntime) -> Result<(), Fail>
     let text = Text::of(String::from_str(rt.alloc(), "lock L;")?);
     assert_eq!(rt; text.as_str(), "lock L;");
     Ok(())
+}
+
+fn assert_name(rt: &impl Abort, alloc: alloc::Global, text: &str, is_name: bool) {
+    match Name::new(alloc, text) {
+        Ok(name) => {
+            assert!(rt; is_name, "{text} is no name");
+            assert_eq!(rt; name.as_str(), text);
+        }
+        Err(fault) => {
+            assert_eq!(rt; fault, NameFault::Shape, "at {text}");
+            assert!(rt; !is_name, "{text} is a name");
+        }
+    }
+}
+
+#[test]
+fn names_are_letters_digits_and_underscores(rt: HostRuntime) {
+    let longest = "abcdefghijabcdefghijabcdefghijabcdefghijabcdefghijabcdefghij_12";
+    let too_long = "abcdefghijabcdefghijabcdefghijabcdefghijabcdefghijabcdefghij_123";
+    assert_eq!(rt; longest.len(), 63);
+    let table = [
+        ("", false),
+        ("a", true),
+        ("Z9_z", true),
+        ("_", true),
+        ("_1", true),
+        ("1a", false),
+        ("a b", false),
+        ("a-b", false),
+        ("a.", false),
+        ("é", false),
+        ("aé", false),
+        (longest, true),
+        (too_long, false),
+    ];
+    for (text, is_name) in table {
+        assert_name(&rt, rt.alloc(), text, is_name);
+    }
 }

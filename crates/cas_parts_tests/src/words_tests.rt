@@ -1,5 +1,9 @@
-// Worked values from C's rules. A negative number is its word: -1 is 4294967295, -2147483648 is 2147483648.
-use super::*;
+//! Operators on words, by values worked from C's rules. A negative number is its word: -1 is 4294967295, -2147483648 is
+//! 2147483648.
+
+use cas_base::{
+    Kind, add, div_signed, div_unsigned, mul, narrow, rem_signed, rem_unsigned, sar, shl, shr, sub,
+};
 
 #[derive(Clone, Copy, Debug)]
 enum Operator {
