@@ -106,6 +106,26 @@ fn texts_have_a_limit(rt: HostRuntime) -> Result<(), Fail> {
     Ok(())
 }
 
+// The line of faulty words, and of a text that is too long, can fail to be put.
+#[test]
+fn refusals_whose_put_fails_are_told(rt: HostRuntime) -> Result<(), Fail> {
+    let alloc = rt.alloc();
+    let too_long = repeated(alloc, " ", 1_048_577)?;
+    let texts = [("m.c", too_long.as_str()), LOCK];
+    let unread = Given {
+        words: &["run", "m.c"],
+        ..run_of(SUM_TEXTS)
+    };
+    for given in [unread, run_of(&texts)] {
+        let given = Given {
+            errs: &[1],
+            ..given
+        };
+        assert_answer(&rt, alloc, given, wanted(4, "", ""))?;
+    }
+    Ok(())
+}
+
 fn assert_usage<R: Abort + Threads + Sync>(
     rt: &R,
     alloc: Global,

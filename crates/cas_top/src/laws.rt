@@ -3,7 +3,7 @@
 ghost use Rattle.cas_top.specs.Exclusion.{CausesExclude};
 
 /// Where a shelf tells its texts, the causes of the statuses of printing, of a refusal by the texts and of a text
-/// that is too long exclude each other, and there is one text to print, or one line of a refusal. (The cause of faulty words
+/// that is too long exclude each other, and there is at most one text to print, and at most one line of a refusal. (The cause of faulty words
 /// excludes them, since there is no command then.)
 pub fn causes_exclude()
     ensures { CausesExclude }

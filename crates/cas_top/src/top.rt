@@ -32,8 +32,8 @@ use std::thread::Threads;
 /// | 12 | a text is longer than its limit |
 ///
 /// The causes of 0, 1, 2, 5 and 12 exclude each other where the shelf tells its texts (`laws::causes_exclude`), and
-/// no other status comes but 3, 4 and 9: so each of them comes exactly where its cause holds, but for a read or a
-/// put that failed and for want of memory.
+/// no other status comes but 3, 4 and 9: so each of these five comes exactly where its cause holds, but for a read or
+/// a put that failed and for want of memory.
 pub fn cascc<R: Threads + Sync, S: Shelf, O: Sink, E: Sink, G: Gate>(
     _rt: &R,
     alloc: Global,

@@ -14,7 +14,7 @@ use Rattle.cas_thread.specs.Deeds.{Begins, IsCall}
 use Rattle.cas_thread.specs.Thread.{Goes, IsThread, Stands, lock_of}
 use Rattle.cas_thread.specs.declared.config.Config.{Config}
 use Rattle.cas_base.specs.declared.place.Place.{Place}
-use Rattle.cas_turn.specs.Answers.{Answers, BeginsCall, IsRunning, TakesMemory, free_shown, state_shown}
+use Rattle.cas_turn.specs.Answers.{Answers, BeginsCall, IsRunning, MayWantMemory, free_shown, state_shown}
 use Rattle.cas_turn.specs.declared.answer.WorldAnswer.{WorldAnswer}
 use Rattle.cas_turn.specs.declared.answer.WorldAnswer.TheVariants as answer
 use Rattle.cas_turn.specs.Standing.{ForThread, IsThere, MayTurn, holder_in, state_in}
@@ -160,18 +160,18 @@ pub begins_call : (activations : List Activation) → activations ≢ [] → ((a
 begins_call [] goes_on calls = absurd (goes_on refl)
 begins_call (a ∷ older) goes_on calls = calls a older refl
 
-takes_call : (hs : List (Option ℕ)) (s : Step) (a : Act) (activations : List Activation) → a ≡ act.Quiet → BeginsCall activations → TakesMemory activations (at_step hs s a)
-takes_call hs s a activations is begins = let P : State → Type 0 = TakesMemory activations in subst P (sym (ap (at_step hs s) is)) (inl begins)
+takes_call : (hs : List (Option ℕ)) (s : Step) (a : Act) (activations : List Activation) → a ≡ act.Quiet → BeginsCall activations → MayWantMemory activations (at_step hs s a)
+takes_call hs s a activations is begins = let P : State → Type 0 = MayWantMemory activations in subst P (sym (ap (at_step hs s) is)) (inl begins)
 
-takes_out : (hs : List (Option ℕ)) (s : Step) (a : Act) (activations : List Activation) (n : ℕ) → s.act ≡ act.Out n → a ≡ act.Out n → TakesMemory activations (at_step hs s a)
-takes_out hs s a activations n out is = let P : State → Type 0 = TakesMemory activations in subst P (sym (ap (at_step hs s) is)) (inr (n, out))
+takes_out : (hs : List (Option ℕ)) (s : Step) (a : Act) (activations : List Activation) (n : ℕ) → s.act ≡ act.Out n → a ≡ act.Out n → MayWantMemory activations (at_step hs s a)
+takes_out hs s a activations n out is = let P : State → Type 0 = MayWantMemory activations in subst P (sym (ap (at_step hs s) is)) (inr (n, out))
 
 module _ (ws : List ℕ) (hs : List (Option ℕ)) (ms : List TypedModuleTree) (c : step.Config) (s : Step) (is : step.step (env_of ms) ws c ≡ Some s) where
-  pub call_there : s.act ≡ act.Quiet → BeginsCall c.activations → TakesMemory c.activations (state_in ws hs ms c)
-  call_there quiet begins = let P : State → Type 0 = TakesMemory c.activations in subst P (sym (at_its_step ws hs ms c s is)) (takes_call hs s s.act c.activations quiet begins)
+  pub call_there : s.act ≡ act.Quiet → BeginsCall c.activations → MayWantMemory c.activations (state_in ws hs ms c)
+  call_there quiet begins = let P : State → Type 0 = MayWantMemory c.activations in subst P (sym (at_its_step ws hs ms c s is)) (takes_call hs s s.act c.activations quiet begins)
 
-  pub out_there : (n : ℕ) → s.act ≡ act.Out n → TakesMemory c.activations (state_in ws hs ms c)
-  out_there n out = let P : State → Type 0 = TakesMemory c.activations in subst P (sym (at_its_step ws hs ms c s is)) (takes_out hs s s.act c.activations n out out)
+  pub out_there : (n : ℕ) → s.act ≡ act.Out n → MayWantMemory c.activations (state_in ws hs ms c)
+  out_there n out = let P : State → Type 0 = MayWantMemory c.activations in subst P (sym (at_its_step ws hs ms c s is)) (takes_out hs s s.act c.activations n out out)
 
 -- what is answered of a Bad step
 pub answers_bad : (activations : List Activation) (st : State) (a : WorldAnswer) (why : Why) (unit : ℕ) (place : Place) →

@@ -29,15 +29,15 @@ abbrev pub BeginsCall : List Activation → Type 0
 BeginsCall [] = ⊥
 BeginsCall (a ∷ older) = Begins IsCall a.todo
 
--- a turn takes memory only where the thread may take its next step, and that begins a call or puts a word out; no turn does of a
--- thread whose next step is Bad or waits for a lock, or that has ended
-abbrev pub TakesMemory : List Activation → State → Type 0
-TakesMemory activations (running s) = BeginsCall activations ⊎ ((n : ℕ) × (s.act ≡ act.Out n))
-TakesMemory activations _ = ⊥
+-- want of memory may be answered only where the thread may take its next step, and that begins a call or puts a word out; it is
+-- never the answer of a thread whose next step is Bad or waits for a lock, or that has ended
+abbrev pub MayWantMemory : List Activation → State → Type 0
+MayWantMemory activations (running s) = BeginsCall activations ⊎ ((n : ℕ) × (s.act ≡ act.Out n))
+MayWantMemory activations _ = ⊥
 
--- the answer is what the thread stands at; want of memory is answered where a turn may take some
+-- the answer is what the thread stands at, or want of memory where that may be answered
 abbrev pub Answers : List Activation → State → WorldAnswer → Type 0
-Answers activations state answer.Memory = TakesMemory activations state
+Answers activations state answer.Memory = MayWantMemory activations state
 Answers activations state (answer.Waits l holder) = state ≡ waits l holder
 Answers activations state answer.Ended = state ≡ ended
 Answers activations state (answer.Bad why unit p) = state ≡ bad why unit p
