@@ -1,24 +1,24 @@
 //! Statements without parts: each is walked through, and its row stands behind those before.
 
-ghost use Rattle.std.specs.Prelude.{◌≡◌, Ok, OnOk, Some, map};
+ghost use Rattle.std.specs.Prelude.{◌≡◌, Ok, OnOk, map};
 ghost use Rattle.std.specs.Option.{option_copied};
 ghost use Rattle.cas_base.specs.declared.kind.Kind.TheVariants.{I32};
 ghost use Rattle.cas_base.specs.declared.kind.Ty.TheVariants.{Int};
 ghost use Rattle.cas_syntax.specs.Tree.{expr_tree, optional_tree, target_tree};
-ghost use Rattle.cas_type.specs.Rows.{StmtWalks, plain_tree};
+ghost use Rattle.cas_type.specs.Rows.{StmtWalks};
 ghost use Rattle.cas_typed.specs.Faults.{then_};
 ghost use Rattle.cas_typed.specs.Resolved as t;
-ghost use Rattle.cas_typed.specs.Resolved.{TypedStmtTree};
 ghost use Rattle.cas_typed.specs.Scopes as s;
 ghost use Rattle.cas_typed.specs.Walk as w;
 
 use crate::fault::TypeFault;
-use crate::plain::{assignment, call_of, leaving, lock_of, print_of, return_of, unlock_of};
+use crate::plain::{
+    assignment, break_of, call_of, continue_of, lock_of, print_of, return_of, unlock_of,
+};
 use crate::rows::Made;
 use crate::scope::Scopes;
 use cas_base::{Place, Ty};
 use cas_syntax::{BinaryOperator, Expr, Ident, LValue};
-use cas_typed::StmtRowForm;
 
 /// An assignment.
 pub fn assign(
@@ -52,17 +52,20 @@ pub fn call(
     made.plain(place, form)
 }
 
-/// What may only stand in a loop.
-pub fn leave(
-    made: &mut Made,
-    in_loop: bool,
-    place: Place,
-    form: StmtRowForm,
-) -> Result<u32, TypeFault>
-    ensures rows { (a : TypedStmtTree) → plain_tree place form ≡ Some a → StmtWalks made.old.rows.items made.new.rows.items result (w.walk_leave in_loop place a) }
+/// `break`.
+pub fn break_off(made: &mut Made, in_loop: bool, place: Place) -> Result<u32, TypeFault>
+    ensures rows { StmtWalks made.old.rows.items made.new.rows.items result (w.walk_leave in_loop place (t.break_ place)) }
     ensures locals { OnOk result (made.new.locals.items ≡ made.old.locals.items) }
 {
-    made.plain(place, leaving(in_loop, place, form))
+    made.plain(place, break_of(in_loop, place))
+}
+
+/// `continue`.
+pub fn go_on(made: &mut Made, in_loop: bool, place: Place) -> Result<u32, TypeFault>
+    ensures rows { StmtWalks made.old.rows.items made.new.rows.items result (w.walk_leave in_loop place (t.continue_ place)) }
+    ensures locals { OnOk result (made.new.locals.items ≡ made.old.locals.items) }
+{
+    made.plain(place, continue_of(in_loop, place))
 }
 
 /// `return`, in a function of this type.

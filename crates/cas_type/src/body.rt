@@ -7,7 +7,7 @@ ghost use Rattle.cas_type.specs.Rows.{StmtWalks, PartWalks, ListWalks, BodyWalks
 ghost use Rattle.cas_typed.specs.Scopes as s;
 ghost use Rattle.cas_typed.specs.Walk as w;
 
-use crate::alone::{assign, call, give_back, leave, lock, print, unlock};
+use crate::alone::{assign, break_off, call, give_back, go_on, lock, print, unlock};
 use crate::declare::declaration;
 use crate::fault::TypeFault;
 use crate::plain::unboxed;
@@ -72,8 +72,8 @@ pub fn statement<'a>(
         StmtForm::For(first, test, next, body) => for_loop(
             scopes, made, within, place, first, test, next, body,
         ),
-        StmtForm::Break => leave(made, within.in_loop, place, StmtRowForm::Break),
-        StmtForm::Continue => leave(made, within.in_loop, place, StmtRowForm::Continue),
+        StmtForm::Break => break_off(made, within.in_loop, place),
+        StmtForm::Continue => go_on(made, within.in_loop, place),
         StmtForm::Return(expr) => give_back(scopes, made, place, within.ret, expr),
         StmtForm::Lock(ident) => lock(scopes, made, place, ident),
         StmtForm::Unlock(ident) => unlock(scopes, made, place, ident),

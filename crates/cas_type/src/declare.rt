@@ -52,7 +52,9 @@ pub fn declaration<'a>(
         }
         Init::Value(expr) => {
             let target = LValue::Name(ident.copy(alloc)?);
-            assignment(alloc, scopes, place, &target, None, expr)
+            let form = assignment(alloc, scopes, place, &target, None, expr);
+            drop(target);
+            form
         }
         Init::Call(called, args) => call_of(
             alloc,

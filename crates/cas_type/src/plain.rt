@@ -1,16 +1,15 @@
 //! Statements without parts: the forms of their rows.
 
-ghost use Rattle.std.specs.Prelude.{◌≡◌, Ok, Some, map};
+ghost use Rattle.std.specs.Prelude.{◌≡◌, Ok, map};
 ghost use Rattle.std.specs.Option.{option_copied};
 ghost use Rattle.cas_syntax.specs.Tree.{expr_tree, optional_tree, target_tree};
-ghost use Rattle.cas_type.specs.Rows.{AnswersPlain, plain_tree};
+ghost use Rattle.cas_type.specs.Rows.{AnswersPlain};
 ghost use Rattle.cas_type.specs.View.{boxed_tree};
 ghost use Rattle.cas_base.specs.declared.kind.Kind.TheVariants.{I32};
 ghost use Rattle.cas_base.specs.declared.kind.Ty.TheVariants.{Int};
 ghost use Rattle.cas_typed.specs.Faults.{then_};
 ghost use Rattle.cas_typed.specs.Numbered.{optional_expr_tree};
 ghost use Rattle.cas_typed.specs.Resolved as t;
-ghost use Rattle.cas_typed.specs.Resolved.{TypedStmtTree};
 ghost use Rattle.cas_typed.specs.Scopes as s;
 ghost use Rattle.cas_typed.specs.Walk as w;
 
@@ -66,12 +65,23 @@ pub fn call_of(
     Ok(StmtRowForm::Call(called.kept, called.item, ident.place, called.args))
 }
 
-/// What may only stand in a loop.
-pub fn leaving(in_loop: bool, place: Place, form: StmtRowForm) -> Result<StmtRowForm, TypeFault>
-    ensures { (a : TypedStmtTree) → plain_tree place form ≡ Some a → AnswersPlain place result (w.walk_leave in_loop place a) }
+/// `break`, which may only stand in a loop.
+pub fn break_of(in_loop: bool, place: Place) -> Result<StmtRowForm, TypeFault>
+    ensures { AnswersPlain place result (w.walk_leave in_loop place (t.break_ place)) }
 {
     if in_loop {
-        Ok(form)
+        Ok(StmtRowForm::Break)
+    } else {
+        Err(misfit(TypeCode::T7, place))
+    }
+}
+
+/// `continue`, which may only stand in a loop.
+pub fn continue_of(in_loop: bool, place: Place) -> Result<StmtRowForm, TypeFault>
+    ensures { AnswersPlain place result (w.walk_leave in_loop place (t.continue_ place)) }
+{
+    if in_loop {
+        Ok(StmtRowForm::Continue)
     } else {
         Err(misfit(TypeCode::T7, place))
     }

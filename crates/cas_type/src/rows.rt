@@ -1,5 +1,7 @@
 //! The rows of a body's statements while they are made, and the types of the locals that they declare. A statement's row
-//! stands before those of its parts: it is made first, and its form is set once the parts are walked through.
+//! stands before those of its parts: it is made first, and its form is set once the parts are walked through. No form is
+//! held where a function may stop early, and an old row goes by a call of `drop`: what is dropped in place the prover
+//! follows form by form.
 
 ghost use Rattle.std.specs.Prelude.{◌≡◌, ◌<◌, ◌++◌, [], ◌∷◌, length, IfOk, OnOk, Result, slice_set};
 ghost use Rattle.cas_type.specs.Rows.{AnswersPlain, StmtWalks};
@@ -10,6 +12,7 @@ use crate::fault::TypeFault;
 use cas_base::{NoMemory, Place, Ty};
 use cas_typed::{StmtRow, StmtRowForm};
 use std::alloc::Global;
+use std::mem;
 
 /// What the statements that are walked through so far come to.
 #[derive(Drop)]
@@ -40,12 +43,12 @@ impl Made {
         ensures rows { OnOk result (self.new.rows.items ≡ self.old.rows.items ++ record { place = place; form = form } ∷ []) }
         ensures locals { self.new.locals.items ≡ self.old.locals.items }
     {
-        let number = match u32::try_from(self.rows.len()) {
-            Ok(number) => number,
-            Err(_) => return Err(NoMemory),
-        };
+        let index = self.rows.len();
         self.rows.push(StmtRow { place, form })?;
-        Ok(number)
+        match u32::try_from(index) {
+            Ok(number) => Ok(number),
+            Err(_) => Err(NoMemory),
+        }
     }
 
     /// The row with this number becomes so.
@@ -54,7 +57,8 @@ impl Made {
         ensures rows { self.new.rows.items ≡ slice_set self.old.rows.items number (record { place = place; form = form }) }
         ensures locals { self.new.locals.items ≡ self.old.locals.items }
     {
-        self.rows[number as usize] = StmtRow { place, form };
+        let row = StmtRow { place, form };
+        drop(mem::replace(&mut self.rows[number as usize], row));
     }
 
     /// The row of a statement without parts, whose form was found.
