@@ -3,11 +3,11 @@ use Rattle.std.proofs.Common.{◌≡◌, ℕ, ◌+◌, Bool, true, false, cond, 
 use Rattle.std.proofs.lemmas.Cmp.{nat_list_eq_equiv}
 use Rattle.std.proofs.lemmas.Slice.Eq.{bytes_eq-Decides}
 use Rattle.std.specs.Str.{bytes_eq}
-use Rattle.cas_base.specs.Decl.{is_named}
+use Rattle.cas_base.specs.Decl.{is_lock, is_named}
 use Rattle.cas_base.specs.declared.decl.Decl.{Decl}
 use Rattle.cas_base.specs.declared.decl.Form.{Form}
 use Rattle.cas_base.specs.declared.decl.Form.TheVariants.{Lock, Shared, Table, Function}
-use Rattle.cas_check.specs.View.{is_lock_form, known}
+use Rattle.cas_check.specs.View.{known}
 use Rattle.cas_typed.specs.Scopes.{Meaning, undeclared, variable, item, item_named}
 
 -- what a name means, or else another
@@ -63,20 +63,20 @@ abbrev lock_if : Bool → ℕ → Option ℕ
 lock_if true n = Some n
 lock_if false n = None
 
-known_form : (n : ℕ) (form : Form) → known (item n form) ≡ Some (lock_if (is_lock_form form) n)
+known_form : (n : ℕ) (form : Form) → known (item n form) ≡ Some (lock_if (is_lock form) n)
 known_form n Lock = refl
 known_form n (Shared ty lock) = refl
 known_form n (Table ty) = refl
 known_form n (Function ret params holds) = refl
 
 -- a name that is new means the lock that is declared, if one is
-pub known_new : (ds : List Decl) (d : Decl) → known (item_named 0 ds d.name) ≡ None → known (item_named 0 (ds ++ d ∷ []) d.name) ≡ Some (lock_if (is_lock_form d.form) (length ds))
+pub known_new : (ds : List Decl) (d : Decl) → known (item_named 0 ds d.name) ≡ None → known (item_named 0 (ds ++ d ∷ []) d.name) ≡ Some (lock_if (is_lock d.form) (length ds))
 known_new ds d h = ap known (at_end ds d ∙ unknown_before (item_named 0 ds d.name) (item (length ds) d.form) h) ∙ known_form (length ds) d.form
 
-pub known_lock : (ds : List Decl) (d : Decl) → known (item_named 0 ds d.name) ≡ None → is_lock_form d.form ≡ true → Some (Some (length ds)) ≡ known (item_named 0 (ds ++ d ∷ []) d.name)
+pub known_lock : (ds : List Decl) (d : Decl) → known (item_named 0 ds d.name) ≡ None → is_lock d.form ≡ true → Some (Some (length ds)) ≡ known (item_named 0 (ds ++ d ∷ []) d.name)
 known_lock ds d h is = sym (known_new ds d h ∙ ap (λ b. Some (lock_if b (length ds))) is)
 
-pub known_other : (ds : List Decl) (d : Decl) → known (item_named 0 ds d.name) ≡ None → is_lock_form d.form ≡ false → Some None ≡ known (item_named 0 (ds ++ d ∷ []) d.name)
+pub known_other : (ds : List Decl) (d : Decl) → known (item_named 0 ds d.name) ≡ None → is_lock d.form ≡ false → Some None ≡ known (item_named 0 (ds ++ d ∷ []) d.name)
 known_other ds d h is = sym (known_new ds d h ∙ ap (λ b. Some (lock_if b (length ds))) is)
 
 -- the table has a declaration's name

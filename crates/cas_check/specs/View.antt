@@ -1,11 +1,9 @@
 -- How the code holds sets of locks, what a module's declarations say of locks, and what a walk comes to.
-use Rattle.std.specs.Prelude.{◌≡◌, ⊤, ℕ, ◌+◌, ◌≤◌, ◌<◌, Bool, true, false, List, [], ◌∷◌, length, Option, Some, None, Result, Ok, Err, slice_get, All}
+use Rattle.std.specs.Prelude.{◌≡◌, ⊤, ℕ, ◌+◌, ◌≤◌, ◌<◌, List, [], ◌∷◌, length, Option, Some, None, Result, Ok, Err, slice_get, All}
 use Rattle.std.specs.Borrow.{Bor}
 use Rattle.std.specs.Map.{lookup}
 use Rattle.std.specs.Str.{bytes_eq}
 use Rattle.cas_base.specs.declared.decl.Decl.{Decl}
-use Rattle.cas_base.specs.declared.decl.Form.{Form}
-use Rattle.cas_base.specs.declared.decl.Form.TheVariants.{Lock}
 use Rattle.cas_own.specs.Flow as f
 use Rattle.cas_own.specs.Locks.{Locks, having, lock_meant}
 use Rattle.cas_check.specs.declared.flow.Halt.{Halt}
@@ -35,10 +33,6 @@ adding [] s = s
 adding (l ∷ ls) s = having (adding ls s) l
 
 -- declarations
-
-abbrev pub is_lock_form : Form → Bool
-is_lock_form Lock = true
-is_lock_form _ = false
 
 -- what is known of a name: nothing, or the lock that it means, if it means one
 abbrev pub known : Meaning → Option (Option ℕ)

@@ -9,6 +9,7 @@ ghost use Rattle.cas_typed.specs.Modules.{decl_of};
 use crate::named::Named;
 use cas_base::{Decl, Form, Name, NoMemory, Seq};
 use cas_syntax::Item;
+use cas_typed::declared;
 use std::alloc::Global;
 use std::marker::Model;
 
@@ -36,17 +37,6 @@ impl<'a> Model for Table<'a> {
         × (t.holds.items ≡ map (λ d. holds_of_form t.named d.form) t.named) };
 }
 
-// What an item declares.
-fn decl_of(item: &Item) -> &Decl
-    ensures { result.now ≡ decl_of (item_tree item.now) }
-{
-    match item {
-        Item::Global { decl, .. } => decl,
-        Item::Prototype { decl, .. } => decl,
-        Item::Define(fun) => &fun.decl,
-    }
-}
-
 // The declarations of items, and the locks that their names mean.
 fn named<'a>(alloc: Global, items: &'a [Item]) -> Result<Named<'a>, NoMemory>
     ensures { IfOk result (λ named. named ≡ map decl_of (map item_tree items.now)) }
@@ -54,7 +44,7 @@ fn named<'a>(alloc: Global, items: &'a [Item]) -> Result<Named<'a>, NoMemory>
     let mut named = Named::none(alloc);
     let mut rest = items;
     'each: while let Some((item, others)) = rest.split_first() {
-        named.declare(decl_of(item))?;
+        named.declare(declared(item))?;
         rest = others;
     }
     Ok(named)

@@ -2,10 +2,10 @@
 
 ghost use Rattle.std.specs.Prelude.{map, length, OnOk, ◌≡◌, [], ◌∷◌, ◌++◌, Some};
 ghost use Rattle.cas_own.specs.Locks.{lock_named};
-ghost use Rattle.cas_check.specs.View.{is_lock_form, known};
+ghost use Rattle.cas_check.specs.View.{known};
 ghost use Rattle.cas_typed.specs.Scopes.{item_named};
 
-use cas_base::{Decl, Form, Name, NoMemory};
+use cas_base::{Decl, Name, NoMemory};
 use indexmap::IndexMap;
 use std::alloc::Global;
 use std::marker::Model;
@@ -28,16 +28,6 @@ impl<'a> Model for Named<'a> {
     ghost view = { λ n. map (λ decl. decl.now) n.decls.items };
 
     ghost invariant = { λ n. (length n.decls.items < 2 ^ 32) × IsIndex (map (λ decl. decl.now) n.decls.items) n.locks.entries };
-}
-
-// Whether a lock is declared.
-fn is_lock(form: &Form) -> bool
-    ensures { result ≡ is_lock_form form.now }
-{
-    match form {
-        Form::Lock => true,
-        Form::Shared { .. } | Form::Table { .. } | Form::Function { .. } => false,
-    }
 }
 
 impl<'a> Named<'a> {
@@ -80,7 +70,7 @@ impl<'a> Named<'a> {
         match self.meant(decl.name.as_str()) {
             Some(lock) => lock,
             None => {
-                if is_lock(&decl.form) {
+                if decl.form.is_lock() {
                     Some(self.len())
                 } else {
                     None

@@ -17,13 +17,13 @@ ghost use Rattle.cas_typed.specs.declared.fault.TypeCount.TheVariants.{Cells, No
 use crate::body::{Walked, body};
 use crate::counts::{MOST_CELLS, MOST_NODES, check_count, count_cells, count_stmts};
 use crate::fault::TypeFault;
-use crate::item::{parameter_types, return_type};
+use crate::item::parameter_types;
 use crate::marks::{all_types, locals, marks};
 use crate::pointers::of_rows;
 use crate::scope::Scopes;
 use cas_base::{NoMemory, Seq, Ty};
 use cas_syntax::Fun;
-use cas_typed::{Local, StmtRow, TypeCount, TypedFun};
+use cas_typed::{Local, StmtRow, TypeCount, TypedFun, return_type};
 use std::alloc::Global;
 
 // The counts of a function that has locals of these types.

@@ -57,16 +57,6 @@ pub fn parameter_types(form: &Form) -> &[Ty]
     }
 }
 
-/// What a function returns.
-pub fn return_type(form: &Form) -> Ty
-    ensures { result ≡ m.return_type form.now }
-{
-    match form {
-        Form::Function { ret, .. } => *ret,
-        Form::Lock | Form::Shared { .. } | Form::Table { .. } => Ty::Void,
-    }
-}
-
 // Whether a definition's name is defined before.
 fn is_defined_again(items: &Items<'_>, decl: &Decl) -> bool
     ensures { result ≡ m.is_defined_again items.now decl.now }

@@ -22,19 +22,8 @@ use crate::item::check_item;
 use crate::scope::{Scopes, variable_ty};
 use cas_base::{Decl, NoMemory, Seq};
 use cas_syntax::{Item, Module};
-use cas_typed::{Typed, TypedFun};
+use cas_typed::{Typed, TypedFun, declared};
 use std::alloc::Global;
-
-// What an item declares.
-fn decl_of(item: &Item) -> &Decl
-    ensures { result.now ≡ m.decl_of (item_tree item.now) }
-{
-    match item {
-        Item::Global { decl, .. } => decl,
-        Item::Prototype { decl, .. } => decl,
-        Item::Define(fun) => &fun.decl,
-    }
-}
 
 // The function that an item has, which is declared here.
 fn walk_one<'a>(
@@ -98,7 +87,7 @@ fn walk(alloc: Global, items: &[Item]) -> Result<Seq<TypedFun>, TypeFault>
     for item in items {
         let function = walk_step(alloc, &mut scopes, totals, item)?;
         add(&mut functions, function)?;
-        totals = totals.with(decl_of(item));
+        totals = totals.with(declared(item));
     }
     Ok(Seq::of(functions))
 }

@@ -9,12 +9,14 @@
 //! `cas_syntax`.
 #![tactic(auto)]
 
+mod declaration;
 mod fault;
 pub mod laws;
 mod rows;
 mod tree;
 mod typed;
 
+pub use declaration::{declared, return_type};
 pub use fault::{TypeCode, TypeCount};
 pub use rows::{Local, StmtRow, StmtRowForm, TypedFun};
 pub use tree::{Destination, Signedness, TypedExpr, TypedTarget};

@@ -14,7 +14,8 @@ use Rattle.cas_typed.specs.Resolved.{TypedFunTree, TypedModuleTree}
 use Rattle.cas_typed.specs.Typed_as.{IsTypedAs}
 use Rattle.cas_typed.specs.declared.typed.Typed.{Typed}
 use Rattle.cas_typed.proofs.Typed_once.{typed_once}
-use Rattle.cas_program.specs.Program.{decls_of, units_of}
+use Rattle.cas_own.specs.Checked.{decls_of}
+use Rattle.cas_program.specs.Program.{units_of}
 use Rattle.cas_whole.specs.Names.{decls_in, units_in, HaveFewFunctions}
 use Rattle.cas_whole.specs.Whole.{AreTyped}
 

@@ -1,15 +1,14 @@
 //! Functions with bodies, as steps need them.
 
 ghost use Rattle.std.specs.Prelude.{◌≡◌, Some, IfSome, IsSome, slice_get};
-ghost use Rattle.cas_typed.specs.Modules.{return_type};
 ghost use Rattle.cas_typed.specs.Resolved.{TypedFunTree, TypedModuleTree};
 ghost use Rattle.cas_typed.specs.Typed_as.{IsTypedAs};
 ghost use Rattle.std.specs.Option.{option_map};
 ghost use Rattle.cas_whole.specs.Bodies.{IsBodyIn, body_of, told};
 
-use cas_base::{Form, Place, Ty};
+use cas_base::{Place, Ty};
 use cas_syntax::Item;
-use cas_typed::{Typed, TypedFun};
+use cas_typed::{Typed, TypedFun, return_type};
 
 /// A function with a body.
 #[derive(Clone, Copy)]
@@ -22,16 +21,6 @@ pub struct Body<'a> {
     pub closing: Place,
 }
 
-// What a function returns; what isn't one returns nothing.
-fn return_ty(form: &Form) -> Ty
-    ensures { result ≡ return_type form.now }
-{
-    match form {
-        Form::Function { ret, .. } => *ret,
-        Form::Lock | Form::Shared { .. } | Form::Table { .. } => Ty::Void,
-    }
-}
-
 // A function with the item that it is, if that has a body.
 fn body_at<'a>(typed: &'a TypedFun, items: &'a [Item]) -> Option<Body<'a>>
     ensures { option_map told result ≡ body_of typed.now (slice_get items.now typed.now.item) }
@@ -39,7 +28,7 @@ fn body_at<'a>(typed: &'a TypedFun, items: &'a [Item]) -> Option<Body<'a>>
     match items.get(typed.item as usize) {
         Some(Item::Define(fun)) => Some(Body {
             typed,
-            ret: return_ty(&fun.decl.form),
+            ret: return_type(&fun.decl.form),
             closing: fun.closing,
         }),
         _ => None,

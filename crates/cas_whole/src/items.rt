@@ -9,12 +9,11 @@ ghost use Rattle.cas_whole.specs.Names.{HaveFewFunctions, decls_of_items, meant,
 ghost use Rattle.cas_whole.specs.Whole.{entity_at};
 
 use crate::names::{cells_by_name, functions_by_name};
-use crate::roster::declared;
 use cas_base::{Decl, Form, NoMemory, Seq};
 use cas_memory::Entity;
 use cas_settle::CellRow;
 use cas_syntax::Item;
-use cas_typed::Typed;
+use cas_typed::{Typed, declared};
 use indexmap::IndexMap;
 use std::alloc::Global;
 

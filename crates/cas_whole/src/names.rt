@@ -10,12 +10,11 @@ ghost use Rattle.cas_memory.specs.Entities.{entity_of};
 ghost use Rattle.cas_program.specs.Program.{entity_of_cell, function_entity};
 ghost use Rattle.cas_whole.specs.Names.{HaveFewFunctions, decls_of_items, named, units_in};
 
-use crate::roster::declared;
 use cas_base::{Decl, NoMemory};
 use cas_memory::Entity;
 use cas_settle::CellRow;
 use cas_syntax::Item;
-use cas_typed::Typed;
+use cas_typed::{Typed, declared};
 use indexmap::IndexMap;
 use std::alloc::Global;
 

@@ -7,21 +7,11 @@ ghost use Rattle.cas_syntax.specs.Tree.{item_tree};
 ghost use Rattle.cas_typed.specs.Modules.{decl_of};
 ghost use Rattle.cas_whole.specs.Names.{decls_of_items, units_in};
 
-use cas_base::{Decl, NoMemory};
+use cas_base::NoMemory;
 use cas_settle::Roster;
 use cas_syntax::Item;
-use cas_typed::Typed;
+use cas_typed::{Typed, declared};
 use std::alloc::Global;
-
-/// What an item declares.
-pub(crate) fn declared(item: &Item) -> &Decl
-    ensures { result.now ≡ decl_of (item_tree item.now) }
-{
-    match item {
-        Item::Global { decl, .. } | Item::Prototype { decl, .. } => decl,
-        Item::Define(fun) => &fun.decl,
-    }
-}
 
 // The declaration of an item at the end of the last unit.
 fn add_item(units: &mut Roster, item: &Item) -> Result<(), NoMemory>

@@ -27,7 +27,7 @@ loop-item-preserved c =
     let decls = c.loop-item.scopes.decls in
     let so = next_item (map item_tree items) items k item decls c.loop-item.functions.items c.loop-item.totals c.loop-item-test.true c.item-item.is c.loop-item.invariant in
     let declared = c.in_ok-function.ensures.decls in
-    let now = ap (λ d. decls ++ d ∷ []) c.decl_of.ensures ∙ sym declared in
+    let now = ap (λ d. decls ++ d ∷ []) c.declared.ensures ∙ sym declared in
     gone_on (map item_tree items) (item_tree item) (map item_tree (drop (k + 1) items)) decls c.walk_step.new.scopes.decls
     c.loop-item.functions.items c.add.new.functions.items (option_to_list c.in_ok-function.function) c.loop-item.totals c.with-totals.result
     so c.in_ok-function.ensures.walked declared c.in_ok-add.ensures
