@@ -15,8 +15,9 @@ use Rattle.cas_step.specs.Env.{FunctionAt, Entity, function, shared, lock}
 use Rattle.cas_step.specs.Fits.{IsAt}
 use Rattle.cas_typed.specs.Modules.{decl_of, held_by}
 use Rattle.cas_typed.specs.Resolved.{TypedFunTree, TypedModuleTree}
+use Rattle.cas_own.specs.Checked.{decls_of}
 use Rattle.cas_program.specs.Laws.{Declares, DeclarationsAgree, HoldsWord, AreSameFunctions, FunctionsAgree, GuardsAgree}
-use Rattle.cas_program.specs.Program.{IsProgram, decls_of, units_of, cell_entity, entity_of_cell, cell_named, function_entity, stands_for, env_of}
+use Rattle.cas_program.specs.Program.{IsProgram, units_of, cell_entity, entity_of_cell, cell_named, function_entity, stands_for, env_of}
 use Rattle.cas_program.proofs.Agreeing.{AreAlike, AreSameNames, alike_back, alike_through, alike_agrees, alike_functions, IsIn, in_at}
 use Rattle.cas_program.proofs.Locking.{holds_lock, lock_named_is}
 use Rattle.cas_program.proofs.Meanings.{unmapped, declared_is, is_declared, definition_is, module_typed, IsFound, found_at, found_is_at, stands_alike}

@@ -21,8 +21,9 @@ use Rattle.cas_step.specs.Fits.{IsAt, HasSignature, AreEntries}
 use Rattle.cas_typed.specs.Counts.{parameter_types}
 use Rattle.cas_typed.specs.Modules.{decl_of, return_type}
 use Rattle.cas_typed.specs.Resolved.{TypedFunTree, TypedModuleTree}
+use Rattle.cas_own.specs.Checked.{decls_of}
 use Rattle.cas_program.specs.Laws.{AreInOrder, EntriesAreInOrder, EntriesAreEntered, EntriesHoldNone}
-use Rattle.cas_program.specs.Program.{IsProgram, decls_of, units_of, env_of, entries_of}
+use Rattle.cas_program.specs.Program.{IsProgram, units_of, env_of, entries_of}
 use Rattle.cas_program.proofs.Agreeing.{both_true, same_ty_is, same_tys_are}
 use Rattle.cas_program.proofs.Meanings.{IsFound, found_at, found_is_at}
 use Rattle.cas_program.proofs.Meanings as meant

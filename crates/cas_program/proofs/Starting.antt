@@ -24,8 +24,9 @@ use Rattle.cas_typed.specs.Modules.{decl_of, elements_of}
 use Rattle.cas_typed.specs.Resolved.{TypedModuleTree}
 use Rattle.cas_typed.specs.Types.{variable_type}
 use Rattle.cas_typed.proofs.Filled.{IsTyped-enough}
+use Rattle.cas_own.specs.Checked.{decls_of}
 use Rattle.cas_program.specs.Laws.{InitialWordsFit, GuardsAreWords}
-use Rattle.cas_program.specs.Program.{IsProgram, decls_of, units_of, kinds_of_form, first_words, item_words, initial_words, env_of}
+use Rattle.cas_program.specs.Program.{IsProgram, units_of, kinds_of_form, first_words, item_words, initial_words, env_of}
 use Rattle.cas_program.proofs.Laid_out.{kinds_in, kinds_at, lock_begins}
 use Rattle.cas_program.proofs.Locking.{shared_is}
 use Rattle.cas_program.proofs.Meanings.{module_typed, module_formed}

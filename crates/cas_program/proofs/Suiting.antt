@@ -20,8 +20,9 @@ use Rattle.cas_typed.proofs.Sorted.{IsTyped-sorted}
 use Rattle.cas_settle.specs.Settle.{cell_of, place_of as place_named}
 use Rattle.cas_step.specs.Env.{FunctionAt, Entity, function, shared, table, lock}
 use Rattle.cas_step.specs.Fits.{IsAt, IsFunctionOf, HasSignature, kind_of, StandsFor, HasWord, Suits}
+use Rattle.cas_own.specs.Checked.{decls_of}
 use Rattle.cas_program.specs.Laws.{Declares, ProgramsSuit}
-use Rattle.cas_program.specs.Program.{IsProgram, decls_of, units_of, body_item, function_with, function_of, function_in, entity_of_cell, function_entity, kinds_of_form, stands_for, env_of}
+use Rattle.cas_program.specs.Program.{IsProgram, units_of, body_item, function_with, function_of, function_in, entity_of_cell, function_entity, kinds_of_form, stands_for, env_of}
 use Rattle.cas_program.proofs.Agreeing.{AreAlike, alike_functions, HasDefinition}
 use Rattle.cas_program.proofs.Laid_out.{Begins, begin_apart, kinds_at}
 use Rattle.cas_program.proofs.Meanings.{all_at, declared_is, is_declared, definition_is, cell_is, module_typed, module_formed, IsFound, found_at, found_is_at}

@@ -17,6 +17,7 @@ use Rattle.cas_typed.specs.Formed.{IsFunctionForm, ItemsAreFormed}
 use Rattle.cas_typed.specs.Modules.{decl_of}
 use Rattle.cas_typed.specs.Resolved.{TypedModuleTree}
 use Rattle.cas_typed.proofs.Filled.{IsTyped-enough}
+use Rattle.cas_own.specs.Checked.{decls_of}
 use Rattle.cas_program.proofs.Agreeing.{alike_functions, found_name}
 use Rattle.cas_program.proofs.Laid_out.{kinds_in, kinds_length, get_front, get_behind, Begins}
 use Rattle.cas_program.proofs.Locking.{no_function_form}
@@ -24,7 +25,7 @@ use Rattle.cas_program.proofs.Meanings.{is_declared, declared_is, definition_is,
 use Rattle.cas_program.proofs.Meanings as meant
 use Rattle.cas_program.proofs.Starting.{fit_length, fit_form, fit_items, AreFilled}
 use Rattle.cas_program.specs.Laws.{Declares, IsCell, HasValues, InitialValuesStand, LocksBeginFree}
-use Rattle.cas_program.specs.Program.{IsProgram, decls_of, units_of, entity_of_cell, stands_for, kinds_of_form, first_words, item_words, initial_words, env_of}
+use Rattle.cas_program.specs.Program.{IsProgram, units_of, entity_of_cell, stands_for, kinds_of_form, first_words, item_words, initial_words, env_of}
 
 -- among these words, of which the first has the number `first`, those from the word `at` on begin with these values
 record BeginWith (first : ℕ) (words : List ℕ) (at : ℕ) (values : List ℕ) : Type 0 where

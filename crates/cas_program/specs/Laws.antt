@@ -12,7 +12,8 @@ use Rattle.cas_step.specs.Env.{FunctionAt, Entity, function, shared, table, lock
 use Rattle.cas_step.specs.Fits.{IsAt, Suits, AreEntries, FitsWords, HasWord}
 use Rattle.cas_syntax.specs.Tree.{global}
 use Rattle.cas_typed.specs.Resolved.{TypedFunTree, TypedModuleTree}
-use Rattle.cas_program.specs.Program.{IsProgram, decls_of, units_of, env_of, entries_of, initial_words}
+use Rattle.cas_own.specs.Checked.{decls_of}
+use Rattle.cas_program.specs.Program.{IsProgram, units_of, env_of, entries_of, initial_words}
 
 -- in the module with this number, the item with this number declares this
 abbrev pub Declares : List TypedModuleTree → (unit item : ℕ) → Decl → Type 0

@@ -10,19 +10,17 @@ use Rattle.cas_base.specs.declared.decl.Form.{Form}
 use Rattle.cas_base.specs.declared.decl.Form.TheVariants.{Lock, Shared, Table, Function as AFunction}
 use Rattle.cas_base.specs.declared.kind.Kind.{Kind}
 use Rattle.cas_base.specs.declared.kind.Ty.TheVariants.{Void}
+use Rattle.cas_own.specs.Checked.{decls_of}
 use Rattle.cas_settle.specs.Settle.{IsSettled, all_decls, cells_of, place_of as place_named}
 use Rattle.cas_settle.specs.declared.link.CellRow.{CellRow}
 use Rattle.cas_step.specs.Env.{FunctionAt, Function, Entity, function, shared, table, lock, Env}
 use Rattle.cas_step.specs.Fits.{kind_of}
 use Rattle.cas_syntax.specs.Tree.{FunTree, ItemTree, global, prototype, define}
 use Rattle.cas_typed.specs.Formed.{IsFormed}
-use Rattle.cas_typed.specs.Modules.{IsTyped, decl_of, return_type}
+use Rattle.cas_typed.specs.Modules.{IsTyped, return_type}
 use Rattle.cas_typed.specs.Resolved.{TypedFunTree, TypedModuleTree, no_more}
 
--- the declarations of a module, and those of each of these modules
-abbrev pub decls_of : TypedModuleTree → List Decl
-decls_of m = map decl_of m.module_tree.items
-
+-- the declarations of each of these modules
 abbrev pub units_of : List TypedModuleTree → List (List Decl)
 units_of modules = map decls_of modules
 

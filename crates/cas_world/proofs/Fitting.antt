@@ -6,9 +6,10 @@ use Rattle.cas_base.specs.declared.act.Act.TheVariants as act
 use Rattle.cas_base.specs.declared.decl.Form.TheVariants.{Lock}
 use Rattle.cas_base.specs.declared.kind.Kind.{Kind}
 use Rattle.cas_own.proofs.Sets.{same_or_not}
+use Rattle.cas_own.specs.Checked.{decls_of}
 use Rattle.cas_program.proofs.Meanings.{unmapped}
 use Rattle.cas_program.specs.Laws.{ProgramsSuit, EntriesAreEntered, InitialWordsFit, LocksAreDeclared}
-use Rattle.cas_program.specs.Program.{IsProgram, decls_of, env_of, entries_of, initial_words}
+use Rattle.cas_program.specs.Program.{IsProgram, env_of, entries_of, initial_words}
 use Rattle.cas_step.specs.Answered.{Got, got, bad, stuck, value_at, answered}
 use Rattle.cas_step.specs.Asks.{Value, word}
 use Rattle.cas_step.specs.Env.{FunctionAt, Entity, function, outside, shared, table, lock, Env}

@@ -10,14 +10,14 @@ use Rattle.cas_base.specs.declared.decl.Form.{Form}
 use Rattle.cas_base.specs.declared.decl.Form.TheVariants.{Lock, Shared, Table, Function as AFunction}
 use Rattle.cas_base.specs.declared.kind.Ty.{Ty}
 use Rattle.cas_base.specs.declared.place.Place.{Place}
-use Rattle.cas_own.specs.Checked.{OwnFaultTree, IsChecked, first, fault_of, guard_fault, global_fault, held_set, function_fault, items_fault}
+use Rattle.cas_own.specs.Checked.{decls_of, OwnFaultTree, IsChecked, first, fault_of, guard_fault, global_fault, held_set, function_fault, items_fault}
 use Rattle.cas_own.specs.Flow.{Flow, on, fault, same, with_set, flow_all, body_flow}
 use Rattle.cas_own.specs.Locks.{Locks, has, set_of, lock_named, lock_and, locks_named, of_declared, guard_of_form, guard_of, holds_of_form, holds_of}
 use Rattle.cas_own.proofs.Names.{contained}
 use Rattle.cas_own.proofs.Sets.{same_or_not, set_ascends, sets_are_of_locks}
 use Rattle.cas_own.specs.declared.fault.OwnCode.TheVariants.{O5}
 use Rattle.cas_program.specs.Laws.{HoldsWord, SharedAreDeclared, GuardsAreLocks, LocksAreByName, FunctionsAgree}
-use Rattle.cas_program.specs.Program.{IsProgram, decls_of, units_of, env_of}
+use Rattle.cas_program.specs.Program.{IsProgram, units_of, env_of}
 use Rattle.cas_program.proofs.Locking.{lock_there, lock_further}
 use Rattle.cas_program.proofs.Meanings.{all_at, unmapped}
 use Rattle.cas_step.specs.Env.{FunctionAt, function, shared, lock, Env}

@@ -6,9 +6,9 @@
 -- Sets are over the items of a module; what is compared between modules is the words of their locks.
 use Rattle.std.specs.Prelude.{◌≡◌, ⊤, ℕ, ◌+◌, ◌-◌, ◌≤◌, ◌==◌, Bool, true, false, List, [], ◌∷◌, Option, Some, None, slice_get, All}
 use Rattle.cas_base.specs.declared.decl.Decl.{Decl}
-use Rattle.cas_own.specs.Checked.{IsChecked, held_set}
+use Rattle.cas_own.specs.Checked.{decls_of, IsChecked, held_set}
 use Rattle.cas_own.specs.Locks.{Locks}
-use Rattle.cas_program.specs.Program.{IsProgram, decls_of, env_of}
+use Rattle.cas_program.specs.Program.{IsProgram, env_of}
 use Rattle.cas_step.specs.Env.{FunctionAt, Entity, lock, Env}
 use Rattle.cas_step.specs.Step.{Activation, Config, Step}
 use Rattle.cas_typed.specs.Resolved.{TypedFunTree, TypedModuleTree}
