@@ -26,6 +26,13 @@ fn form_is_copied(alloc: alloc::Global, form: Form) -> bool {
     }
 }
 
+fn decl_is_copied(alloc: alloc::Global, decl: &Decl) -> bool {
+    match decl.copy(alloc) {
+        Ok(copied) => copied == *decl,
+        Err(_) => false,
+    }
+}
+
 fn global_is_copied(alloc: alloc::Global, global: Global) -> bool {
     match global.copy(alloc) {
         Ok(copied) => copied == global,
@@ -55,7 +62,10 @@ fn always_want_of_memory(rt: HostRuntime) -> Result<(), Fail> {
     assert_eq!(rt; name.copy(alloc)?.as_str(), "g");
     let values = Seq::of(vec![in alloc; 7u32, 8]?);
     assert_eq!(rt; values.copy(alloc)?.as_slice(), [7, 8].as_slice());
-    assert!(rt; global_is_copied(alloc, table(name, values)));
+    let table = table(name, values);
+    assert!(rt; decl_is_copied(alloc, &table.decl));
+    assert_eq!(rt; table.decl.print(alloc)?.as_str(), "const g int[2]");
+    assert!(rt; global_is_copied(alloc, table));
     assert!(rt; form_is_copied(alloc, Form::Lock));
     assert!(rt; form_is_copied(alloc, function(alloc)?));
     let lock = Name::new(alloc, "L")?;
