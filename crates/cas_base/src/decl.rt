@@ -1,3 +1,6 @@
+//! Declarations, as they stand in the modules of every language of the compiler: what they declare, when two of one name
+//! agree, and modules as their declarations, data and functions.
+
 ghost use Rattle.std.specs.Prelude.{◌≡◌, IfOk};
 ghost use Rattle.std.specs.Cmp.Lexicographic.{pointwise};
 ghost use Rattle.std.specs.List.{list_any};
@@ -14,20 +17,27 @@ use std::alloc;
 /// What a declaration declares.
 #[derive(Debug, Drop, PartialEq, Eq)]
 pub enum Form {
+    /// A lock.
     Lock,
     /// A shared global, touched only under its lock.
     Shared {
+        /// A word or an array of words.
         ty: Ty,
+        /// The lock that guards it.
         lock: Name,
     },
     /// A table of constants.
     Table {
+        /// A word or an array of words.
         ty: Ty,
     },
     /// A function, called only where the locks that it `holds` are held.
     Function {
+        /// The type of what it returns.
         ret: Ty,
+        /// The types of its parameters, in order.
         params: Seq<Ty>,
+        /// The locks that its caller holds, in the order of the text.
         holds: Seq<Name>,
     },
 }
@@ -35,15 +45,20 @@ pub enum Form {
 /// A declaration of a module. `defined` is false where the module says `extern`, or gives no body.
 #[derive(Debug, Drop, PartialEq, Eq)]
 pub struct Decl {
+    /// The name that it declares.
     pub name: Name,
+    /// What the name stands for.
     pub form: Form,
+    /// Whether the module itself has the words or the body.
     pub defined: bool,
 }
 
 /// A global that is defined, with its initial words.
 #[derive(Debug, Drop, PartialEq, Eq)]
 pub struct Global {
+    /// Its declaration.
     pub decl: Decl,
+    /// Its words' initial values, in order.
     pub values: Seq<u32>,
 }
 
@@ -51,12 +66,20 @@ pub struct Global {
 /// its data with values, and its functions.
 #[derive(Debug, Drop, PartialEq, Eq)]
 pub struct Unit<F> {
+    /// All its declarations, in order.
     pub decls: Seq<Decl>,
+    /// The globals that it defines, in order.
     pub globals: Seq<Global>,
+    /// The functions that it defines, in order.
     pub funs: Seq<F>,
 }
 
 impl Form {
+    /// The same form once more.
+    ///
+    /// # Errors
+    ///
+    /// `NoMemory` for want of memory.
     pub fn copy(&self, alloc: alloc::Global) -> Result<Form, NoMemory>
         ensures { IfOk result (λ form. form ≡ self.now) }
     {
@@ -194,6 +217,11 @@ fn names_copy(alloc: alloc::Global, names: &[Name]) -> Result<Seq<Name>, NoMemor
 }
 
 impl Decl {
+    /// The same declaration once more.
+    ///
+    /// # Errors
+    ///
+    /// `NoMemory` for want of memory.
     pub fn copy(&self, alloc: alloc::Global) -> Result<Decl, NoMemory>
         ensures { IfOk result (λ decl. decl ≡ self.now) }
     {
@@ -206,6 +234,11 @@ impl Decl {
 }
 
 impl Global {
+    /// The same global once more.
+    ///
+    /// # Errors
+    ///
+    /// `NoMemory` for want of memory.
     pub fn copy(&self, alloc: alloc::Global) -> Result<Global, NoMemory>
         ensures { IfOk result (λ copied. copied ≡ self.now) }
     {

@@ -2,7 +2,8 @@
 
 use std::alloc::{AllocError, AllocFailed};
 
-/// Want of memory. It is an answer of its own, and merged with no other.
+/// Want of memory, or of numbers to count what memory would have to hold: 2^32 items. It is an answer of its own, and no
+/// fault of a text is merged with it.
 #[derive(Clone, Copy, Debug, PartialEq, Eq, Hash)]
 pub struct NoMemory;
 

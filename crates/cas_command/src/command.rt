@@ -10,7 +10,9 @@ const SOURCE_LIMIT: u64 = 1_048_576;
 /// A text that a command reads: its name, and how many bytes it has at most.
 #[derive(Clone, Copy)]
 pub struct Wanted<'a> {
+    /// The name under which a shelf has it.
     pub name: &'a str,
+    /// In bytes.
     pub limit: u64,
 }
 
@@ -27,15 +29,20 @@ pub fn source_text(name: &str) -> Wanted<'_>
 /// What `run` is given: the names of the module's text and of the lock's text, and the thread's function.
 #[derive(Clone, Copy)]
 pub struct Run<'a> {
+    /// The name of the module's text.
     pub source: &'a str,
+    /// The name of the lock's text.
     pub lock: &'a str,
+    /// The function at which the thread begins.
     pub thread: &'a str,
 }
 
 /// An item of a schedule: the number of a thread, from 0, and how many turns it has there, one or more.
 #[derive(Clone, Copy)]
 pub struct Item {
+    /// The thread's number, from 0.
     pub thread: u32,
+    /// Its turns there, one or more.
     pub count: u32,
 }
 
@@ -51,16 +58,21 @@ pub enum Turns {
 /// What `world` is given: the names of the modules' texts, the function of each thread, and the turns.
 #[derive(Drop)]
 pub struct World<'a> {
+    /// The names of the modules' texts, in order.
     pub names: Vec<&'a str>,
+    /// The function at which each thread begins, in order of their numbers.
     pub threads: Vec<&'a str>,
+    /// The turns that the threads take.
     pub turns: Turns,
 }
 
 /// A command. It borrows from its words.
 #[derive(Drop)]
 pub enum Command<'a> {
+    /// Compile a module of the first form, and run it on one thread.
     Run(Run<'a>),
-    /// The names of the modules' texts.
+    /// Check the modules of these names.
     Check(Vec<&'a str>),
+    /// Join modules to a program, and let its threads take turns.
     World(World<'a>),
 }

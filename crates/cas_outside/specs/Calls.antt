@@ -1,3 +1,4 @@
+-- Which calls of a shelf or a sink in memory fail, by their number.
 use Rattle.std.specs.Prelude.{ℕ, ◌+◌, ◌<◌, List, Contains, min}
 
 -- the number of the last call that has one

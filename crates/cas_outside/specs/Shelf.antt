@@ -1,3 +1,4 @@
+-- Texts by their names: what a reading answers, and which names it leaves as failed.
 use Rattle.std.specs.Prelude.{ℕ, ◌≡◌, ◌<◌, List, [], ◌∷◌, ◌++◌, length, map, Option, Some, None, Result, Ok, Err, IfSome, if◌then◌else◌, string_bytes}
 use Rattle.std.specs.Str.{bytes_eq}
 use Rattle.std.specs.declared.string.String.{String}

@@ -1,3 +1,4 @@
+-- What a sink takes of the bytes that are put, and when its count of faults rises.
 use Rattle.std.specs.Prelude.{ℕ, ◌≡◌, ◌<◌, ◌+◌, List, ◌++◌, take, Option, Some, None, Result, Ok, Err}
 use Rattle.cas_outside.specs.declared.sink.SinkFault.{SinkFault}
 use Rattle.cas_outside.specs.declared.sink.SinkFault.TheVariants.{Failed, Memory}

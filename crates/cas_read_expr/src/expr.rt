@@ -125,7 +125,7 @@ fn prefixed(
     Ok((build::prefixed(alloc, prefix, operand)?, used, rest))
 }
 
-// What begins with a name, or with the address of what it names.
+/// What begins with a name, or with the address of what it names.
 #[cycle(expr)]
 pub fn named(
     alloc: Global,

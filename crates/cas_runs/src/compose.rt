@@ -1,3 +1,5 @@
+//! Laws of refinement: it composes, it is reflexive, and it keeps each run.
+
 ghost use Rattle.std.specs.Prelude.{◌≡◌, ℕ, ◌⊎◌, List, true};
 ghost use Rattle.cas_base.specs.declared.decl.Unit.{Unit as UnitOf};
 ghost use Rattle.cas_base.specs.declared.decl.Decl.{Decl};

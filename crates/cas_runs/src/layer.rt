@@ -1,3 +1,5 @@
+//! The layer of calls: passes that make a function of a function, and what they show of functions, units and threads.
+
 ghost use Rattle.std.specs.Prelude.{◌≡◌, ℕ, IfOk, List, true};
 ghost use Rattle.cas_base.specs.declared.decl.Decl.{Decl};
 ghost use Rattle.cas_base.specs.declared.kind.Kind.TheVariants.{U32};
@@ -19,30 +21,45 @@ use std::alloc::Global;
 /// functions that run together; its law `passes` has one case for each step of an activation of the target.
 /// What it makes then refines as a function, as a unit and as a thread.
 pub trait FunctionPass {
+    /// A function of the language that it takes.
     type Source;
 
+    /// A function of the language that it makes.
     type Target;
 
+    /// The states of one activation of the source.
     ghost source_activation: { Type 0 };
 
+    /// The states of one activation of the target.
     ghost target_activation: { Type 0 };
 
+    /// The language of the source, by the steps of its activations.
     ghost source: { Activations Self.Source source_activation };
 
+    /// The language of the target.
     ghost target: { Activations Self.Target target_activation };
 
+    /// The target's function is what the pass makes of the source's.
     ghost made: { Self.Target → Self.Source → Type 0 };
 
+    /// Where the target's blocks lie, by where those of the source lie, whose functions these are.
     ghost naming: { List Self.Source → Layout → Layout };
 
+    /// A value of the target is that of the source, where these functions run together.
     ghost same: { Setting → List Self.Target → List Self.Source → Value → Value → Type 0 };
 
+    /// What the target's thread holds is that of the source's, as far as the activations that match don't tell the rest.
     ghost alike: { Setting → List Self.Target → List Self.Source → Past → Holding → Past → Holding → Type 0 };
 
+    /// The same of all that both threads hold, where a call, a return or the outside follows.
     ghost settled: { Setting → List Self.Target → List Self.Source → Past → Holding → Past → Holding → Type 0 };
 
+    /// Between two moments, first of the target and then of the source, nothing touched what the activations with serial
+    /// numbers below this one have for themselves.
     ghost later: { Setting → List Self.Target → List Self.Source → ℕ → Holding → Holding → Holding → Holding → Type 0 };
 
+    /// Where the activations of these two functions and of this serial number stand, each with what its thread holds and its
+    /// block so far: from there on each step of the target is one that the source can follow.
     ghost matches: { Setting → List Self.Target → List Self.Source → Self.Target → Self.Source → ℕ → target_activation → Holding → Block → source_activation → Holding → Block → Type 0 };
 
     /// What the pass makes of the function.

@@ -1,3 +1,5 @@
+//! Passes, as relations of the states of two machines.
+
 ghost use Rattle.std.specs.Prelude.{IfOk, List};
 ghost use Rattle.cas_runs.specs.Label.{RunLabel};
 ghost use Rattle.cas_runs.specs.Machine.{Machine, Block};
@@ -13,24 +15,34 @@ use std::alloc::Global;
 /// what, and a relation between the states of the two machines, with the block so far of each; `simulates`
 /// shows that each step of the target keeps the relation.
 pub trait Pass {
+    /// What it takes.
     type Source;
 
+    /// What it makes.
     type Target;
 
+    /// The states of the source's machine.
     ghost source_state: { Type 0 };
 
+    /// The states of the target's machine.
     ghost target_state: { Type 0 };
 
+    /// The source's machine in a setting.
     ghost source: { Setting → Self.Source → Machine source_state };
 
+    /// The target's machine in a setting.
     ghost target: { Setting → Self.Target → Machine target_state };
 
+    /// Where the target's blocks lie, by where the source's lie.
     ghost naming: { Self.Source → Layout → Layout };
 
+    /// The settings for which the pass is shown.
     ghost fits: { Setting → Self.Source → Type 0 };
 
+    /// The target is what the pass makes of the source.
     ghost makes: { Self.Source → Self.Target → Type 0 };
 
+    /// Behind these labels, the states of target and source with the block so far of each, where they stand for one another.
     ghost related: { Setting → Self.Source → Self.Target → List RunLabel → target_state → Block → source_state → Block → Type 0 };
 
     /// What the pass makes of the source.

@@ -1,3 +1,5 @@
+//! Wrong translations in small, which don't refine.
+
 ghost use Rattle.std.specs.Prelude.{ℕ, List, [], ◌∷◌};
 ghost use Rattle.cas_runs.specs.Pointing.{edge, shows};
 ghost use Rattle.cas_runs.specs.Refines.{Refines};

@@ -1,3 +1,5 @@
+//! The rules of machines can be kept: by small ones, and by those of the layer of calls.
+
 ghost use Rattle.std.specs.Prelude.{◌≡◌, ℕ, ◌≤◌, List, [], ◌∷◌, Some, true};
 ghost use Rattle.std.specs.List.{AllByRecursion};
 ghost use Rattle.cas_base.specs.declared.decl.Decl.{Decl};

@@ -1,3 +1,5 @@
+//! The declarations of units, as `settle` takes them.
+
 ghost use Rattle.std.specs.Prelude.{◌≡◌, ◌<◌, [], ◌∷◌, ◌++◌, length, OnErr, OnOk};
 ghost use Rattle.cas_settle.specs.Roster.{add_to_last};
 

@@ -129,6 +129,7 @@ pub struct Stmt {
     pub form: StmtForm,
 }
 
+/// What a statement does.
 #[cycle(tree)]
 #[derive(Debug, Drop)]
 pub enum StmtForm {

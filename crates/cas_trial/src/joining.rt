@@ -1,3 +1,5 @@
+//! The pass that puts two variables into one block.
+
 ghost use Rattle.std.specs.Prelude.{IfOk, List, ℕ, true, ◌≡◌, ◌≤◌};
 ghost use Rattle.cas_base.specs.declared.decl.Decl.{Decl};
 ghost use Rattle.cas_base.specs.declared.kind.Kind.TheVariants.{U32};

@@ -1,3 +1,5 @@
+//! Laws of small units: that settings are there that they fit, what crosses, and passes that change the pace or add 0.
+
 ghost use Rattle.std.specs.Prelude.{List, [], ◌∷◌, ◌≡◌};
 ghost use Rattle.cas_base.specs.declared.decl.Unit.{Unit as UnitOf};
 ghost use Rattle.cas_runs.specs.Calls.{language};

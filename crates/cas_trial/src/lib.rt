@@ -12,4 +12,6 @@ pub use laws::{
     a_call_is_heard, a_unit_fits, apart_keeps_rules, pointer_comes_back, units_slow, units_sum,
 };
 pub use tailing::{Relayed, Relaying, TailCalls, relay, units_drop, units_relay};
-pub use threads::{a_thread_fits, a_thread_goes_on, another_word_refused};
+pub use threads::{
+    a_thread_fits, a_thread_goes_on, another_word_refused, edge_without_table_refused,
+};

@@ -1,3 +1,5 @@
+//! The passes that make tail calls.
+
 ghost use Rattle.std.specs.Prelude.{IfOk, List, true, ◌≡◌};
 ghost use Rattle.cas_base.specs.declared.decl.Decl.{Decl};
 ghost use Rattle.cas_base.specs.declared.decl.Unit.{Unit as UnitOf};

@@ -1,3 +1,5 @@
+//! Laws of small whole programs.
+
 ghost use Rattle.std.specs.Prelude.{◌≡◌, Some, slice_get};
 ghost use Rattle.cas_runs.specs.Access.{Stretch, Words};
 ghost use Rattle.cas_runs.specs.Calls.{language};
