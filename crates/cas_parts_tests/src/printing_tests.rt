@@ -25,6 +25,108 @@ const EXPRESSIONS: [(&str, &str); 9] = [
     ("*(p + 4u)", "* ( p + 4u )"),
 ];
 
+// Statements, each form of them, and as they are printed.
+const STATEMENTS: [(&str, &str); 13] = [
+    (";", ";"),
+    (
+        "{ ; { } }",
+        "{
+;
+{
+}
+}",
+    ),
+    (
+        "int a, *b, c[3], d = 1, *e = f(), g = f(1, 2);",
+        "int a ;
+int * b ;
+int c [ 3 ] ;
+int d = 1 ;
+int * e = f ( ) ;
+int g = f ( 1 , 2 ) ;",
+    ),
+    (
+        "x = 1; x[1] = 2; *x = 3; *(x + 1) = 4; x = f(x); f(); f(1, x[2]);",
+        "x = 1 ;
+x [ 1 ] = 2 ;
+* x = 3 ;
+* ( x + 1 ) = 4 ;
+x = f ( x ) ;
+f ( ) ;
+f ( 1 , x [ 2 ] ) ;",
+    ),
+    (
+        "x += 1; x -= 1; x *= 1; x /= 1; x %= 1; x <<= 1; x >>= 1; x &= 1; x |= 1; x ^= 1;",
+        "x += 1 ;
+x -= 1 ;
+x *= 1 ;
+x /= 1 ;
+x %= 1 ;
+x <<= 1 ;
+x >>= 1 ;
+x &= 1 ;
+x |= 1 ;
+x ^= 1 ;",
+    ),
+    (
+        "x++; ++x; x--; --x; x[1]++; ++x[1]; ++*x; --*(x + 1); *x++;",
+        "x += 1 ;
+x += 1 ;
+x -= 1 ;
+x -= 1 ;
+x [ 1 ] += 1 ;
+x [ 1 ] += 1 ;
+* x += 1 ;
+* ( x + 1 ) -= 1 ;
+* x += 1 ;",
+    ),
+    (
+        "if (x) y = 1; else if (z) y = 2; else { }",
+        "if ( x ) y = 1 ;
+else if ( z ) y = 2 ;
+else {
+}",
+    ),
+    (
+        "while (x) break; do continue; while (x);",
+        "while ( x ) break ;
+do continue ;
+while ( x ) ;",
+    ),
+    (
+        "for (;;) ; for (x = 1; x < 3; x++) ; for (int i = 0; i; f()) ;",
+        "for ( ; ; ) ;
+for ( x = 1 ; x < 3 ; x += 1 ) ;
+for ( int i = 0 ; i ; f ( ) ) ;",
+    ),
+    (
+        "return; return x; lock(L); unlock(L); print(x);",
+        "return ;
+return x ;
+lock ( L ) ;
+unlock ( L ) ;
+print ( x ) ;",
+    ),
+    (
+        "x = a ? b : c ? d : e; x = a || b && c | d ^ e & f == g != h;",
+        "x = a ? b : c ? d : e ;
+x = a || b && c | d ^ e & f == g != h ;",
+    ),
+    (
+        "x = a < b > c <= d >= e << f >> g + h - i * j / k % l;",
+        "x = a < b > c <= d >= e << f >> g + h - i * j / k % l ;",
+    ),
+    (
+        "x = -a + +b - ~c * !d; x = *p + *(p + 1); x = &y; x = &y[1]; x = (int) a + (unsigned short int) -b; x = (a);",
+        "x = - a + + b - ~ c * ! d ;
+x = * p + * ( p + 1 ) ;
+x = & y ;
+x = & y [ 1 ] ;
+x = ( int ) a + ( unsigned short ) - b ;
+x = a ;",
+    ),
+];
+
 // Modules, and as they are printed.
 const MODULES: [(&str, &str); 3] = [
     (
@@ -93,6 +195,11 @@ fn texts_are_canonical(rt: HostRuntime) -> Result<(), Fail> {
     for (text, wanted) in EXPRESSIONS {
         let text = format!(in alloc; "void w() {{ x = {text}; }}")?;
         let wanted = format!(in alloc; "void w ( void ) {{\nx = {wanted} ;\n}}\n")?;
+        assert_printed(&rt, alloc, text.as_str(), wanted.as_str())?;
+    }
+    for (text, wanted) in STATEMENTS {
+        let text = format!(in alloc; "void w() {{ {text} }}")?;
+        let wanted = format!(in alloc; "void w ( void ) {{\n{wanted}\n}}\n")?;
         assert_printed(&rt, alloc, text.as_str(), wanted.as_str())?;
     }
     for (text, wanted) in MODULES {

@@ -1,4 +1,4 @@
-//! Rows of texts, each with the number of its items or its first fault.
+//! Rows of texts, each with the number of its items or its first fault. (`printing_tests` has what statements are read as.)
 
 use cas_base::Place;
 use cas_read::{ReadFault, read_module};
@@ -32,7 +32,7 @@ fn assert_row(rt: &impl Abort, alloc: Global, text: &str, wanted: &str) -> Resul
 }
 
 #[test]
-fn each_form_is_read(rt: HostRuntime) -> Result<(), Fail> {
+fn each_item_is_read(rt: HostRuntime) -> Result<(), Fail> {
     let items = [
         ("", "0"),
         ("lock L; extern lock M;", "2"),
@@ -79,48 +79,6 @@ fn each_form_is_read(rt: HostRuntime) -> Result<(), Fail> {
     for (text, wanted) in items {
         assert_row(&rt, rt.alloc(), text, wanted)?;
     }
-    let statements = [
-        (";", "1"),
-        ("{ ; { } }", "1"),
-        ("int a, *b, c[3], d = 1, *e = f(), g = f(1, 2);", "1"),
-        (
-            "x = 1; x[1] = 2; *x = 3; *(x + 1) = 4; x = f(x); f(); f(1, x[2]);",
-            "1",
-        ),
-        (
-            "x += 1; x -= 1; x *= 1; x /= 1; x %= 1; x <<= 1; x >>= 1; x &= 1; x |= 1; x ^= 1;",
-            "1",
-        ),
-        (
-            "x++; ++x; x--; --x; x[1]++; ++x[1]; ++*x; --*(x + 1); *x++;",
-            "1",
-        ),
-        ("if (x) y = 1; else if (z) y = 2; else { }", "1"),
-        ("while (x) break; do continue; while (x);", "1"),
-        (
-            "for (;;) ; for (x = 1; x < 3; x++) ; for (int i = 0; i; f()) ;",
-            "1",
-        ),
-        ("return; return x; lock(L); unlock(L); print(x);", "1"),
-        (
-            "x = a ? b : c ? d : e; x = a || b && c | d ^ e & f == g != h;",
-            "1",
-        ),
-        (
-            "x = a < b > c <= d >= e << f >> g + h - i * j / k % l;",
-            "1",
-        ),
-        (
-            "x = -a + +b - ~c * !d; x = *p + *(p + 1); x = &y; x = &y[1]; x = (int) a + (unsigned short int) -b;",
-            "1",
-        ),
-        ("x = (a);", "1"),
-        ("x", "1:14 R5"),
-    ];
-    for (text, wanted) in statements {
-        let text = format!(in rt.alloc(); "void w() {{ {text} }}")?;
-        assert_row(&rt, rt.alloc(), text.as_str(), wanted)?;
-    }
     Ok(())
 }
 
@@ -141,6 +99,7 @@ fn each_fault_at_its_place(rt: HostRuntime) -> Result<(), Fail> {
         ("else ;", "1:12 R5"),
         ("while (x) int y;", "1:22 R5"),
         ("for (int a, b;;) ;", "1:22 R5"),
+        ("x", "1:14 R5"),
         ("x = ;", "1:16 R5"),
         ("x = 1", "1:18 R5"),
         ("x == 1;", "1:14 R5"),
