@@ -7,6 +7,7 @@ use Rattle.cas_lex.specs.declared.token.TokenKind.{TokenKind}
 use Rattle.cas_lex.specs.declared.token.TokenKind.TheVariants as k
 use Rattle.cas_lex.specs.declared.token.Sign.{Sign}
 use Rattle.cas_lex.specs.declared.token.Sign.TheVariants as sg
+use Rattle.cas_syntax.specs.declared.tree.UnaryOperator.TheVariants as u
 use Rattle.cas_syntax.specs.Operators.{Infix, always_both, logical_and, logical_or}
 use Rattle.cas_syntax.specs.Reading.{within}
 use Rattle.cas_syntax.specs.Tokens.{is_opening_paren}
@@ -66,6 +67,19 @@ abbrev pub prefix_shape : o'.Prefix → Prefix
 prefix_shape (pv.Operates op) = Operates op
 prefix_shape pv.Points = Points
 prefix_shape (pv.Casts kd) = Casts kd
+
+abbrev pub prefix_shapes : Option o'.Prefix → Option Prefix
+prefix_shapes None = None
+prefix_shapes (Some f) = Some (prefix_shape f)
+
+-- what a token is that stands alone before an operand, but for `&`
+abbrev pub prefix_of : TokenKind → Option Prefix
+prefix_of (k.Sign sg.Minus) = Some (Operates u.Neg)
+prefix_of (k.Sign sg.Plus) = Some (Operates u.Plus)
+prefix_of (k.Sign sg.Tilde) = Some (Operates u.BitNot)
+prefix_of (k.Sign sg.Not) = Some (Operates u.Not)
+prefix_of (k.Sign sg.Star) = Some Points
+prefix_of _ = None
 
 -- whether words are counted
 abbrev pub are_counted : Option ℕ → Bool

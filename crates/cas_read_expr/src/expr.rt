@@ -14,10 +14,12 @@ use crate::front::{ident, is_expected};
 use crate::keep::beside;
 use crate::kind::{begins_kind_at, kind};
 use crate::limit::count;
-use crate::operator::{Infix, Prefix, operator, right_level};
+use crate::operator::{
+    Infix, LOWEST_LEVEL, PREFIX_LEVEL, Prefix, operator, prefix_of, right_level,
+};
 use crate::stop::{Stop, fault, wrong};
 use cas_lex::{ReadCode, Sign, Token, TokenKind};
-use cas_syntax::{Expr, Ident, UnaryOperator};
+use cas_syntax::{Expr, Ident};
 use std::alloc::Global;
 
 /// An expression that stands in no other, with its tokens and what stands behind.
@@ -26,7 +28,7 @@ pub fn outermost(alloc: Global, tokens: &[Token]) -> Result<(Expr, usize, &[Toke
     ensures follows { (st : List Frame) → Follows result (verdict tokens.now WantOutermost st) (λ p. verdict p.2.now (Given p.1 (expr_tree p.0)) st) }
     ensures shorter { IfOk result (λ p. length p.2.now < length tokens.now) }
 {
-    expr(alloc, tokens, 0, 1)
+    expr(alloc, tokens, 0, LOWEST_LEVEL)
 }
 
 /// An expression of operators that bind as tightly as `least`, with the tokens that the outermost expression then has
@@ -79,32 +81,10 @@ fn operand(alloc: Global, tokens: &[Token], used: usize) -> Result<(Expr, usize,
             count(used, rest)?;
             address(alloc, rest, used + 1)
         }
-        TokenKind::Sign(Sign::Minus) => prefixed(
-            alloc,
-            rest,
-            used,
-            Prefix::Operates(UnaryOperator::Neg),
-        ),
-        TokenKind::Sign(Sign::Plus) => prefixed(
-            alloc,
-            rest,
-            used,
-            Prefix::Operates(UnaryOperator::Plus),
-        ),
-        TokenKind::Sign(Sign::Tilde) => prefixed(
-            alloc,
-            rest,
-            used,
-            Prefix::Operates(UnaryOperator::BitNot),
-        ),
-        TokenKind::Sign(Sign::Not) => prefixed(
-            alloc,
-            rest,
-            used,
-            Prefix::Operates(UnaryOperator::Not),
-        ),
-        TokenKind::Sign(Sign::Star) => prefixed(alloc, rest, used, Prefix::Points),
-        _ => Err(fault(wrong(&token.kind), tokens)),
+        kind => match prefix_of(kind) {
+            Some(prefix) => prefixed(alloc, rest, used, prefix),
+            None => Err(fault(wrong(kind), tokens)),
+        },
     }
 }
 
@@ -121,7 +101,7 @@ fn prefixed(
     ensures shorter { IfOk result (λ p. length p.2.now < length tokens.now) }
 {
     count(used, tokens)?;
-    let (operand, used, rest) = expr(alloc, tokens, used + 1, 12)?;
+    let (operand, used, rest) = expr(alloc, tokens, used + 1, PREFIX_LEVEL)?;
     Ok((build::prefixed(alloc, prefix, operand)?, used, rest))
 }
 
@@ -161,7 +141,7 @@ fn element(
     ensures shorter { IfOk result (λ p. length p.2.now < length tokens.now) }
 {
     count(used, tokens)?;
-    let (index, used, rest) = expr(alloc, tokens, used + 1, 1)?;
+    let (index, used, rest) = expr(alloc, tokens, used + 1, LOWEST_LEVEL)?;
     let rest = closed(rest, used, Sign::CloseBracket)?;
     Ok((
         build::element(alloc, addressed, name, index)?,
@@ -180,7 +160,7 @@ fn opened(alloc: Global, tokens: &[Token], used: usize) -> Result<(Expr, usize, 
     if begins_kind_at(tokens) {
         return cast(alloc, tokens, used);
     }
-    let (inner, used, rest) = expr(alloc, tokens, used, 1)?;
+    let (inner, used, rest) = expr(alloc, tokens, used, LOWEST_LEVEL)?;
     let rest = closed(rest, used, Sign::CloseParen)?;
     Ok((inner, used + 1, rest))
 }
@@ -195,7 +175,7 @@ fn cast(alloc: Global, tokens: &[Token], used: usize) -> Result<(Expr, usize, &[
     let (kind, used, rest) = kind(tokens, Some(used))?;
     let Some(used) = used else { unreachable!() };
     let rest = closed(rest, used, Sign::CloseParen)?;
-    let (operand, used, rest) = expr(alloc, rest, used + 1, 12)?;
+    let (operand, used, rest) = expr(alloc, rest, used + 1, PREFIX_LEVEL)?;
     Ok((
         build::prefixed(alloc, Prefix::Casts(kind), operand)?,
         used,
@@ -275,10 +255,10 @@ fn branches(
     ensures shorter { IfOk result (λ p. length p.3.now < length tokens.now) }
 {
     count(used, tokens)?;
-    let (chosen, used, rest) = expr(alloc, tokens, used + 1, 1)?;
+    let (chosen, used, rest) = expr(alloc, tokens, used + 1, LOWEST_LEVEL)?;
     let chosen = build::boxed(alloc, chosen)?;
     let rest = closed(rest, used, Sign::Colon)?;
-    let (other, used, rest) = expr(alloc, rest, used + 1, 1)?;
+    let (other, used, rest) = expr(alloc, rest, used + 1, LOWEST_LEVEL)?;
     let other = build::boxed(alloc, other)?;
     Ok((chosen, other, used, rest))
 }

@@ -6,11 +6,17 @@ ghost use Rattle.cas_syntax.specs.Reading.{within};
 ghost use Rattle.cas_syntax.specs.Tree.{ExprTree};
 ghost use Rattle.cas_parse.specs.Frames.{Frame, HaveExpr, Given};
 ghost use Rattle.cas_parse.specs.Machine as machine;
-ghost use Rattle.cas_read_expr.specs.Follow.{verdict, taken, infix_shape, infix_shapes};
+ghost use Rattle.cas_read_expr.specs.Follow.{verdict, taken, infix_shape, infix_shapes, prefix_of, prefix_shapes};
 
 use cas_base::Kind;
 use cas_lex::{Sign, Token, TokenKind};
 use cas_syntax::{BinaryOperator, UnaryOperator};
+
+/// How tightly `?` binds, which no operator does less: an expression of operators that bind so may be any.
+pub const LOWEST_LEVEL: u8 = 1;
+
+/// How tightly what stands before an operand binds: more than each operator between two operands.
+pub const PREFIX_LEVEL: u8 = 12;
 
 /// What stands before an operand.
 #[derive(Clone, Copy, Debug)]
@@ -27,6 +33,20 @@ pub enum Infix {
     Both(BinaryOperator),
     And,
     Or,
+}
+
+/// What a token is that stands alone before an operand, but for `&`, behind which a name has to stand.
+pub fn prefix_of(kind: &TokenKind) -> Option<Prefix>
+    ensures { prefix_shapes result ≡ prefix_of kind.now }
+{
+    match kind {
+        TokenKind::Sign(Sign::Minus) => Some(Prefix::Operates(UnaryOperator::Neg)),
+        TokenKind::Sign(Sign::Plus) => Some(Prefix::Operates(UnaryOperator::Plus)),
+        TokenKind::Sign(Sign::Tilde) => Some(Prefix::Operates(UnaryOperator::BitNot)),
+        TokenKind::Sign(Sign::Not) => Some(Prefix::Operates(UnaryOperator::Not)),
+        TokenKind::Sign(Sign::Star) => Some(Prefix::Points),
+        _ => None,
+    }
 }
 
 /// The operator between two operands that a token is.
@@ -60,7 +80,7 @@ pub fn infix_of(kind: &TokenKind) -> Option<Infix>
 /// How tightly an operator binds.
 pub fn level(operator: Infix) -> u8
     ensures value { result ≡ operators.level (infix_shape operator) }
-    ensures small { result < 12 }
+    ensures small { result < PREFIX_LEVEL }
 {
     match operator {
         Infix::Or => 2,
@@ -91,7 +111,7 @@ fn binding(between: Option<Infix>, kind: &TokenKind) -> u8
 {
     match (between, kind) {
         (Some(infix), _) => level(infix),
-        (None, TokenKind::Sign(Sign::Question)) => 1,
+        (None, TokenKind::Sign(Sign::Question)) => LOWEST_LEVEL,
         (None, _) => 0,
     }
 }
