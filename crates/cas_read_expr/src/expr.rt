@@ -1,10 +1,11 @@
 //! Expressions. Each function takes the number of tokens that the outermost expression had before, and gives it back.
 
-ghost use Rattle.std.specs.Prelude.{◌≡◌, ◌<◌, ◌≤◌, ◌+◌, ◌∷◌, ℕ, length, List, IfOk, Ok, Some, false, true};
+ghost use Rattle.std.specs.Prelude.{◌≡◌, ◌≢◌, ◌<◌, ◌≤◌, ◌+◌, ◌∷◌, ℕ, length, List, IfOk, IfErr, Ok, Some, false, true};
 ghost use Rattle.cas_lex.specs.declared.token.Sign.TheVariants as sg;
 ghost use Rattle.cas_syntax.specs.Operators as operators;
 ghost use Rattle.cas_syntax.specs.Reading.{within};
 ghost use Rattle.cas_syntax.specs.Tree.{expr_tree, ExprTree, conditional};
+ghost use Rattle.cas_read_expr.specs.declared.stop.Stop.TheVariants.{Memory};
 ghost use Rattle.cas_parse.specs.Frames.{Control, Frame, WantExpr, HaveExpr, Given, WantOutermost, Named, Opened, Taking, WantKind, CastKind, InParens, InBrackets, Before, Right, Then};
 ghost use Rattle.cas_parse.specs.Machine.{counted, risen};
 ghost use Rattle.cas_read_expr.specs.Follow.{Follows, taken, verdict, closes, infix_shapes, prefix_shape};
@@ -268,6 +269,7 @@ fn closed(tokens: &[Token], used: usize, sign: Sign) -> Result<&[Token], Stop>
     ensures follows { (c : Control) (st : List Frame) → Follows result (closes sign used tokens.now c st) (λ rest. verdict rest.now c st) }
     ensures below { IfOk result (λ rest. used < 1000) }
     ensures shorter { IfOk result (λ rest. length rest.now < length tokens.now) }
+    ensures faults { IfErr result (λ e. e ≢ Memory) }
 {
     let Some((token, rest)) = tokens.split_first() else {
         return Err(fault(ReadCode::R6, tokens));

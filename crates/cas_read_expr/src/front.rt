@@ -1,6 +1,6 @@
 //! What stands at the front of tokens.
 
-ghost use Rattle.std.specs.Prelude.{◌≡◌, ◌<◌, ◌∷◌, length, List, IfOk, IfErr, IfSome, IfNone, true, false};
+ghost use Rattle.std.specs.Prelude.{◌≡◌, ◌≢◌, ◌<◌, ◌∷◌, length, List, IfOk, IfErr, IfSome, IfNone, true, false};
 ghost use Rattle.cas_base.specs.declared.place.Place.{Place};
 ghost use Rattle.cas_lex.specs.declared.token.Word.TheVariants as w;
 ghost use Rattle.cas_syntax.specs.Tokens as spelled;
@@ -28,6 +28,7 @@ pub fn ident(alloc: Global, name: &Name, place: Place) -> Result<Ident, Stop>
 pub fn expect(tokens: &[Token], sign: Sign) -> Result<&[Token], Stop>
     ensures follows { (c : Control) (st : List Frame) → Follows result (verdict tokens.now (Expect true sign c) st) (λ rest. verdict rest.now c st) }
     ensures shorter { IfOk result (λ rest. length rest.now < length tokens.now) }
+    ensures faults { IfErr result (λ e. e ≢ Memory) }
 {
     let Some((token, rest)) = tokens.split_first() else {
         return Err(fault(ReadCode::R6, tokens));
@@ -43,6 +44,7 @@ pub fn expect(tokens: &[Token], sign: Sign) -> Result<&[Token], Stop>
 pub fn expect_outside(tokens: &[Token], sign: Sign) -> Result<&[Token], Stop>
     ensures follows { (c : Control) (st : List Frame) → Follows result (verdict tokens.now (Expect false sign c) st) (λ rest. verdict rest.now c st) }
     ensures shorter { IfOk result (λ rest. length rest.now < length tokens.now) }
+    ensures faults { IfErr result (λ e. e ≢ Memory) }
 {
     let Some((token, rest)) = tokens.split_first() else {
         return Err(fault(ReadCode::R6, tokens));

@@ -1,6 +1,7 @@
 //! What was read, and is kept while more is read. It is dropped here where reading stops.
 
-ghost use Rattle.std.specs.Prelude.{◌≡◌, ◌<◌, length, List, IfOk, true};
+ghost use Rattle.std.specs.Prelude.{◌≡◌, ◌≢◌, ◌<◌, length, List, IfOk, IfErr, true};
+ghost use Rattle.cas_read_expr.specs.declared.stop.Stop.TheVariants.{Memory};
 ghost use Rattle.cas_parse.specs.Frames.{Control, Frame, Expect};
 ghost use Rattle.cas_read_expr.specs.Follow.{Follows, kept, verdict};
 
@@ -23,6 +24,7 @@ pub fn followed<T: Drop>(value: T, tokens: &[Token], sign: Sign) -> Result<(T, &
     ensures follows { (c : Control) (st : List Frame) → Follows result (verdict tokens.now (Expect true sign c) st) (λ p. verdict p.1.now c st) }
     ensures same { IfOk result (λ p. p.0 ≡ value) }
     ensures shorter { IfOk result (λ p. length p.1.now < length tokens.now) }
+    ensures faults { IfErr result (λ e. e ≢ Memory) }
 {
     match expect(tokens, sign) {
         Ok(rest) => Ok((value, rest)),

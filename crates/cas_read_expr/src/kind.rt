@@ -1,6 +1,7 @@
 //! The words of kinds. Where they stand in an outermost expression, they count among its tokens.
 
-ghost use Rattle.std.specs.Prelude.{◌≡◌, ◌<◌, ◌≤◌, length, List, IfOk, Ok, false};
+ghost use Rattle.std.specs.Prelude.{◌≡◌, ◌≢◌, ◌<◌, ◌≤◌, length, List, IfOk, IfErr, Ok, false};
+ghost use Rattle.cas_read_expr.specs.declared.stop.Stop.TheVariants.{Memory};
 ghost use Rattle.cas_parse.specs.Frames.{Control, Frame, WantKind, HaveKind, MayEndInt, Signed, Unsigned};
 ghost use Rattle.cas_parse.specs.Machine as machine;
 ghost use Rattle.cas_syntax.specs.Reading.{within};
@@ -36,6 +37,7 @@ pub fn kind(tokens: &[Token], used: Option<usize>) -> Result<(Kind, Option<usize
     ensures follows { (st : List Frame) → Follows result (verdict tokens.now (WantKind used) st) (λ p. verdict p.2.now (HaveKind p.1 p.0) st) }
     ensures counts { IfOk result (λ p. are_counted p.1 ≡ are_counted used) }
     ensures shorter { IfOk result (λ p. length p.2.now < length tokens.now) }
+    ensures faults { IfErr result (λ e. e ≢ Memory) }
 {
     let Some((token, rest)) = tokens.split_first() else {
         return Err(fault(ReadCode::R6, tokens));
@@ -55,6 +57,7 @@ fn signed(tokens: &[Token], used: Option<usize>) -> Result<(Kind, Option<usize>,
     ensures follows { (st : List Frame) → Follows result (verdict tokens.now (Signed used) st) (λ p. verdict p.2.now (HaveKind p.1 p.0) st) }
     ensures counts { IfOk result (λ p. are_counted p.1 ≡ are_counted used) }
     ensures no_longer { IfOk result (λ p. length p.2.now ≤ length tokens.now) }
+    ensures faults { IfErr result (λ e. e ≢ Memory) }
 {
     let Some((token, rest)) = tokens.split_first() else {
         return Ok((Kind::I32, used, tokens));
@@ -72,6 +75,7 @@ fn unsigned(tokens: &[Token], used: Option<usize>) -> Result<(Kind, Option<usize
     ensures follows { (st : List Frame) → Follows result (verdict tokens.now (Unsigned used) st) (λ p. verdict p.2.now (HaveKind p.1 p.0) st) }
     ensures counts { IfOk result (λ p. are_counted p.1 ≡ are_counted used) }
     ensures no_longer { IfOk result (λ p. length p.2.now ≤ length tokens.now) }
+    ensures faults { IfErr result (λ e. e ≢ Memory) }
 {
     let Some((token, rest)) = tokens.split_first() else {
         return Ok((Kind::U32, used, tokens));
@@ -93,6 +97,7 @@ fn may_end_int(
     ensures follows { (st : List Frame) → Follows result (verdict tokens.now (MayEndInt used kind) st) (λ p. verdict p.2.now (HaveKind p.1 p.0) st) }
     ensures counts { IfOk result (λ p. are_counted p.1 ≡ are_counted used) }
     ensures no_longer { IfOk result (λ p. length p.2.now ≤ length tokens.now) }
+    ensures faults { IfErr result (λ e. e ≢ Memory) }
 {
     let Some((token, rest)) = tokens.split_first() else {
         return Ok((kind, used, tokens));
@@ -107,6 +112,7 @@ fn may_end_int(
 fn count_word(used: Option<usize>, rest: &[Token]) -> Result<Option<usize>, Stop>
     ensures follows { (c : Control) (st : List Frame) → Follows result (taken rest.now (machine.counted_in (within 0) false false used (Ok (c, st)))) (λ _. verdict rest.now c st) }
     ensures value { IfOk result (λ after. after ≡ machine.next used) }
+    ensures faults { IfErr result (λ e. e ≢ Memory) }
 {
     match used {
         Some(used) => {
