@@ -1,8 +1,9 @@
 //! Locals.
 
-ghost use Rattle.std.specs.Prelude.{◌≡◌, ◌<◌, ◌≤◌, ◌∷◌, ℕ, length, List, IfOk, true};
+ghost use Rattle.std.specs.Prelude.{◌≡◌, ◌≢◌, ◌<◌, ◌≤◌, ◌∷◌, ℕ, length, List, IfOk, IfErr, true};
 ghost use Rattle.cas_syntax.specs.Tree.{stmt_tree, stmt_trees};
 ghost use Rattle.cas_syntax.specs.Tree as tree;
+ghost use Rattle.cas_read_expr.specs.declared.stop.Stop.TheVariants.{Memory};
 ghost use Rattle.cas_parse.specs.Frames.{Frame, Begun, WantValue, WantLocal, LocalName, LocalStar, LocalPointer, LocalLength, HaveLocal, InList, Locals};
 ghost use Rattle.cas_read_expr.specs.Follow.{Follows, verdict, next_begins_kind};
 ghost use Rattle.cas_read_stmt.specs.FollowStmts.{begins_listed};
@@ -142,6 +143,7 @@ fn named_pointer(
 fn array(kind: Kind, name: Ident, tokens: &[Token]) -> Result<(Stmt, &[Token]), Stop>
     ensures follows { (st : List Frame) → Follows result (verdict tokens.now (LocalLength kind name) st) (λ p. verdict p.1.now (HaveLocal (stmt_tree p.0)) st) }
     ensures shorter { IfOk result (λ p. length p.1.now < length tokens.now) }
+    ensures faults { IfErr result (λ e. e ≢ Memory) }
 {
     let Some((token, rest)) = tokens.split_first() else {
         return Err(fault(ReadCode::R6, tokens));

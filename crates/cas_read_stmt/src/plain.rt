@@ -1,11 +1,12 @@
 //! Statements in which no other stands.
 
-ghost use Rattle.std.specs.Prelude.{◌≡◌, ◌<◌, ◌∷◌, length, List, IfOk, true, false};
+ghost use Rattle.std.specs.Prelude.{◌≡◌, ◌≢◌, ◌<◌, ◌∷◌, length, List, IfOk, IfErr, true, false};
 ghost use Rattle.cas_base.specs.declared.place.Place.{Place};
 ghost use Rattle.cas_lex.specs.declared.token.Sign.TheVariants as sg;
 ghost use Rattle.cas_syntax.specs.Reading.{within};
 ghost use Rattle.cas_syntax.specs.Tree.{stmt_tree, expr_tree};
 ghost use Rattle.cas_syntax.specs.Tree as tree;
+ghost use Rattle.cas_read_expr.specs.declared.stop.Stop.TheVariants.{Memory};
 ghost use Rattle.cas_parse.specs.Frames.{Frame, SimpleStmt, PrintValue, Given, Expect, WantOutermost, HaveStmt, LockName, UnlockName, AfterReturn};
 ghost use Rattle.cas_parse.specs.Machine as machine;
 ghost use Rattle.cas_read_expr.specs.Follow.{Follows, verdict};
@@ -42,7 +43,7 @@ pub fn opened(alloc: Global, tokens: &[Token]) -> Result<(Expr, usize, &[Token])
 
 /// A `print`, behind its word.
 #[tactic(auto, using(crate::proofs::StmtSteps::given_printed))]
-pub fn printed(alloc: Global, place: Place, tokens: &[Token]) -> Result<(Stmt, &[Token]), Stop>
+pub fn print_stmt(alloc: Global, place: Place, tokens: &[Token]) -> Result<(Stmt, &[Token]), Stop>
     ensures follows { (st : List Frame) → Follows result (verdict tokens.now (Expect true sg.OpenParen WantOutermost) (PrintValue place ∷ st)) (λ p. verdict p.1.now (HaveStmt (stmt_tree p.0)) st) }
     ensures shorter { IfOk result (λ p. length p.1.now < length tokens.now) }
 {
@@ -55,7 +56,7 @@ pub fn printed(alloc: Global, place: Place, tokens: &[Token]) -> Result<(Stmt, &
 
 /// A `return`, behind its word.
 #[tactic(auto, using(crate::proofs::StmtSteps::returns_value, crate::proofs::StmtSteps::given_returned))]
-pub fn returned(alloc: Global, place: Place, tokens: &[Token]) -> Result<(Stmt, &[Token]), Stop>
+pub fn return_stmt(alloc: Global, place: Place, tokens: &[Token]) -> Result<(Stmt, &[Token]), Stop>
     ensures follows { (st : List Frame) → Follows result (verdict tokens.now (AfterReturn place) st) (λ p. verdict p.1.now (HaveStmt (stmt_tree p.0)) st) }
     ensures shorter { IfOk result (λ p. length p.1.now < length tokens.now) }
 {
@@ -70,7 +71,7 @@ pub fn returned(alloc: Global, place: Place, tokens: &[Token]) -> Result<(Stmt, 
 }
 
 /// A `lock`, behind its word.
-pub fn locked(alloc: Global, place: Place, tokens: &[Token]) -> Result<(Stmt, &[Token]), Stop>
+pub fn lock_stmt(alloc: Global, place: Place, tokens: &[Token]) -> Result<(Stmt, &[Token]), Stop>
     ensures follows { (st : List Frame) → Follows result (verdict tokens.now (Expect true sg.OpenParen (LockName place)) st) (λ p. verdict p.1.now (HaveStmt (stmt_tree p.0)) st) }
     ensures shorter { IfOk result (λ p. length p.1.now < length tokens.now) }
 {
@@ -81,7 +82,7 @@ pub fn locked(alloc: Global, place: Place, tokens: &[Token]) -> Result<(Stmt, &[
 }
 
 /// An `unlock`, behind its word.
-pub fn unlocked(alloc: Global, place: Place, tokens: &[Token]) -> Result<(Stmt, &[Token]), Stop>
+pub fn unlock_stmt(alloc: Global, place: Place, tokens: &[Token]) -> Result<(Stmt, &[Token]), Stop>
     ensures follows { (st : List Frame) → Follows result (verdict tokens.now (Expect true sg.OpenParen (UnlockName place)) st) (λ p. verdict p.1.now (HaveStmt (stmt_tree p.0)) st) }
     ensures shorter { IfOk result (λ p. length p.1.now < length tokens.now) }
 {
@@ -110,9 +111,10 @@ fn lock_name(alloc: Global, tokens: &[Token]) -> Result<(Ident, &[Token]), Stop>
 }
 
 /// A `break`, behind its word.
-pub fn broken(place: Place, tokens: &[Token]) -> Result<(Stmt, &[Token]), Stop>
+pub fn break_stmt(place: Place, tokens: &[Token]) -> Result<(Stmt, &[Token]), Stop>
     ensures follows { (st : List Frame) → Follows result (verdict tokens.now (Expect true sg.Semicolon (HaveStmt (tree.break_ place))) st) (λ p. verdict p.1.now (HaveStmt (stmt_tree p.0)) st) }
     ensures shorter { IfOk result (λ p. length p.1.now < length tokens.now) }
+    ensures faults { IfErr result (λ e. e ≢ Memory) }
 {
     let rest = expect(tokens, Sign::Semicolon)?;
     let form = StmtForm::Break;
@@ -120,9 +122,10 @@ pub fn broken(place: Place, tokens: &[Token]) -> Result<(Stmt, &[Token]), Stop>
 }
 
 /// A `continue`, behind its word.
-pub fn continued(place: Place, tokens: &[Token]) -> Result<(Stmt, &[Token]), Stop>
+pub fn continue_stmt(place: Place, tokens: &[Token]) -> Result<(Stmt, &[Token]), Stop>
     ensures follows { (st : List Frame) → Follows result (verdict tokens.now (Expect true sg.Semicolon (HaveStmt (tree.continue_ place))) st) (λ p. verdict p.1.now (HaveStmt (stmt_tree p.0)) st) }
     ensures shorter { IfOk result (λ p. length p.1.now < length tokens.now) }
+    ensures faults { IfErr result (λ e. e ≢ Memory) }
 {
     let rest = expect(tokens, Sign::Semicolon)?;
     let form = StmtForm::Continue;

@@ -1,8 +1,9 @@
 //! Assignments and calls.
 
-ghost use Rattle.std.specs.Prelude.{◌≡◌, ◌<◌, ◌≤◌, ◌∷◌, length, List, IfOk};
+ghost use Rattle.std.specs.Prelude.{◌≡◌, ◌≢◌, ◌<◌, ◌≤◌, ◌∷◌, length, List, IfOk, IfErr};
 ghost use Rattle.cas_base.specs.declared.place.Place.{Place};
 ghost use Rattle.cas_syntax.specs.Tree.{stmt_tree, target_tree, TargetTree};
+ghost use Rattle.cas_read_expr.specs.declared.stop.Stop.TheVariants.{Memory};
 ghost use Rattle.cas_parse.specs.Frames.{Frame, Assigned, WantOutermost, WantValue, AssignedTo, HaveSimple, AfterName, AfterTarget, WantTarget, SteppedName};
 ghost use Rattle.cas_parse.specs.Machine as machine;
 ghost use Rattle.cas_read_expr.specs.Follow.{Follows, verdict};
@@ -112,6 +113,7 @@ fn changed(
 fn change_at(tokens: &[Token]) -> Result<(Change, &[Token]), Stop>
     ensures follows { (q : Place) (target : TargetTree) (st : List Frame) → Follows result (verdict tokens.now (AfterTarget q target) st) (λ p. changes p.0 p.1.now q target st) }
     ensures shorter { IfOk result (λ p. length p.1.now < length tokens.now) }
+    ensures faults { IfErr result (λ e. e ≢ Memory) }
 {
     let Some((token, rest)) = tokens.split_first() else {
         return Err(fault(ReadCode::R6, tokens));

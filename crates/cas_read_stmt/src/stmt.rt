@@ -16,7 +16,9 @@ use crate::depth::{DEPTH_LIMIT, starts_simple, too_deep};
 use crate::head::{do_end, first, second, third};
 use crate::local::locals_in;
 use crate::parts::{block, boxed, do_stmt, for_stmt, if_stmt, while_stmt};
-use crate::plain::{broken, continued, locked, opened, printed, returned, simple_stmt, unlocked};
+use crate::plain::{
+    break_stmt, continue_stmt, lock_stmt, opened, print_stmt, return_stmt, simple_stmt, unlock_stmt,
+};
 use cas_base::Place;
 use cas_lex::{ReadCode, Sign, Token, TokenKind, Word};
 use cas_read_expr::front::{behind_else, closes_block, expect};
@@ -86,12 +88,12 @@ fn started(alloc: Global, tokens: &[Token], around: usize) -> Result<(Stmt, &[To
         TokenKind::Word(Word::While) => while_loop(alloc, place, rest, around),
         TokenKind::Word(Word::Do) => do_loop(alloc, place, rest, around),
         TokenKind::Word(Word::For) => for_loop(alloc, place, rest, around),
-        TokenKind::Word(Word::Break) => broken(place, rest),
-        TokenKind::Word(Word::Continue) => continued(place, rest),
-        TokenKind::Word(Word::Return) => returned(alloc, place, rest),
-        TokenKind::Word(Word::Lock) => locked(alloc, place, rest),
-        TokenKind::Word(Word::Unlock) => unlocked(alloc, place, rest),
-        TokenKind::Word(Word::Print) => printed(alloc, place, rest),
+        TokenKind::Word(Word::Break) => break_stmt(place, rest),
+        TokenKind::Word(Word::Continue) => continue_stmt(place, rest),
+        TokenKind::Word(Word::Return) => return_stmt(alloc, place, rest),
+        TokenKind::Word(Word::Lock) => lock_stmt(alloc, place, rest),
+        TokenKind::Word(Word::Unlock) => unlock_stmt(alloc, place, rest),
+        TokenKind::Word(Word::Print) => print_stmt(alloc, place, rest),
         _ => Err(fault(wrong(&token.kind), tokens)),
     }
 }
