@@ -1,10 +1,11 @@
 //! Names, types and initial values of globals.
 
-ghost use Rattle.std.specs.Prelude.{◌≡◌, ◌<◌, ◌≤◌, ◌++◌, ◌∷◌, [], ℕ, length, List, Option, IfOk, Bool, false};
+ghost use Rattle.std.specs.Prelude.{◌≡◌, ◌≢◌, ◌<◌, ◌≤◌, ◌++◌, ◌∷◌, [], ℕ, length, List, Option, IfOk, IfErr, Bool, false};
 ghost use Rattle.cas_base.specs.declared.kind.Ty.{Ty};
 ghost use Rattle.cas_lex.specs.declared.token.Sign.TheVariants as sg;
 ghost use Rattle.cas_syntax.specs.declared.tree.Ident.{Ident};
 ghost use Rattle.cas_syntax.specs.Tree.{ItemTree};
+ghost use Rattle.cas_read_expr.specs.declared.stop.Stop.TheVariants.{Memory};
 ghost use Rattle.cas_parse.specs.Frames.{Data, Sort, Expect, HaveKind, CellsKind, CellName, CellLength, CellArray, CellValue, WantCells, CellsEnd, InItems};
 ghost use Rattle.cas_parse.specs.Machine as machine;
 ghost use Rattle.cas_read_expr.specs.Follow.{Follows, verdict};
@@ -158,6 +159,7 @@ fn some_elements(
 fn ended(tokens: &[Token]) -> Result<&[Token], Stop>
     ensures follows { (d : Data) (x : Ident) (t : Ty) (vs : List ℕ) (items : List ItemTree) → Follows result (verdict tokens.now (CellsEnd d x t vs items) []) (λ rest. verdict rest.now (InItems (items ++ machine.cells d x t vs ∷ [])) []) }
     ensures shorter { IfOk result (λ rest. length rest.now < length tokens.now) }
+    ensures faults { IfErr result (λ e. e ≢ Memory) }
 {
     let Some((token, rest)) = tokens.split_first() else {
         return Err(fault(ReadCode::R6, tokens));

@@ -1,6 +1,6 @@
 //! Functions, with a body or without.
 
-ghost use Rattle.std.specs.Prelude.{◌≡◌, ◌<◌, ◌≤◌, ◌++◌, ◌∷◌, [], length, List, IfOk, IfErr, Bool, false};
+ghost use Rattle.std.specs.Prelude.{◌≡◌, ◌≢◌, ◌<◌, ◌≤◌, ◌++◌, ◌∷◌, [], length, List, IfOk, IfErr, Bool, false};
 ghost use Rattle.cas_base.specs.declared.kind.Ty.{Ty};
 ghost use Rattle.cas_syntax.specs.Items.{declared};
 ghost use Rattle.cas_syntax.specs.Tree as tree;
@@ -95,6 +95,7 @@ fn function_name(alloc: Global, tokens: &[Token]) -> Result<(Ident, &[Token]), S
 fn opened(tokens: &[Token]) -> Result<&[Token], Stop>
     ensures follows { (o : Opening) (items : List ItemTree) → Follows result (verdict tokens.now (FunctionName o items) []) (λ rest. verdict rest.now (WantParameters o items) []) }
     ensures shorter { IfOk result (λ rest. length rest.now < length tokens.now) }
+    ensures faults { IfErr result (λ e. e ≢ Memory) }
 {
     let Some((token, rest)) = tokens.split_first() else {
         return Err(fault(ReadCode::R6, tokens));

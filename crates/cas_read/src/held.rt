@@ -1,6 +1,6 @@
 //! The locks that a function's caller holds.
 
-ghost use Rattle.std.specs.Prelude.{◌≡◌, ◌<◌, ◌≤◌, ◌++◌, ◌∷◌, [], length, map, List, Option, IfOk, IfErr};
+ghost use Rattle.std.specs.Prelude.{◌≡◌, ◌≢◌, ◌<◌, ◌≤◌, ◌++◌, ◌∷◌, [], length, map, List, Option, IfOk, IfErr};
 ghost use Rattle.cas_base.specs.declared.decl.Form.TheVariants as form;
 ghost use Rattle.cas_base.specs.declared.kind.Ty.{Ty};
 ghost use Rattle.cas_syntax.specs.declared.tree.Ident.{Ident};
@@ -90,6 +90,7 @@ fn lock(alloc: Global, tokens: &[Token]) -> Result<(Ident, &[Token]), Stop>
 fn more_locks(tokens: &[Token]) -> Result<(bool, &[Token]), Stop>
     ensures follows { (o : Opening) (tys : List Ty) (xs : List (Option Ident)) (held : List Ident) (items : List ItemTree) → Follows result (verdict tokens.now (HaveHeld o tys xs held items) []) (λ p. has_more_held p.0 p.1.now o tys xs held items) }
     ensures shorter { IfOk result (λ p. length p.1.now < length tokens.now) }
+    ensures faults { IfErr result (λ e. e ≢ Memory) }
 {
     let Some((token, rest)) = tokens.split_first() else {
         return Err(fault(ReadCode::R6, tokens));

@@ -1,9 +1,10 @@
 //! Types and parameters of functions.
 
-ghost use Rattle.std.specs.Prelude.{◌≡◌, ◌<◌, ◌≤◌, ◌++◌, ◌∷◌, [], ℕ, Bool, length, List, Option, None, IfOk};
+ghost use Rattle.std.specs.Prelude.{◌≡◌, ◌≢◌, ◌<◌, ◌≤◌, ◌++◌, ◌∷◌, [], ℕ, Bool, length, List, Option, None, IfOk, IfErr};
 ghost use Rattle.cas_base.specs.declared.kind.Ty.{Ty};
 ghost use Rattle.cas_syntax.specs.declared.tree.Ident.{Ident};
 ghost use Rattle.cas_syntax.specs.Tree.{ItemTree};
+ghost use Rattle.cas_read_expr.specs.declared.stop.Stop.TheVariants.{Memory};
 ghost use Rattle.cas_parse.specs.Frames.{Opening, HaveKind, WantKind, ReturnKind, ParameterKind, WantFunction, ParameterType, WantParameters, WantParameter, HaveParameter, AfterParameters};
 ghost use Rattle.cas_read_expr.specs.Follow.{Follows, verdict};
 ghost use Rattle.cas_read.specs.FollowItems.{has_more_parameters};
@@ -28,6 +29,7 @@ pub fn typed(tokens: &[Token]) -> Result<(Ty, &[Token]), Stop>
     ensures returned { (d : Bool) (items : List ItemTree) → Follows result (verdict tokens.now (WantKind None) (ReturnKind d items ∷ [])) (λ p. verdict p.1.now (WantFunction d p.0 items) []) }
     ensures passed { (o : Opening) (tys : List Ty) (xs : List (Option Ident)) (items : List ItemTree) → Follows result (verdict tokens.now (WantKind None) (ParameterKind o tys xs items ∷ [])) (λ p. verdict p.1.now (ParameterType o tys xs p.0 items) []) }
     ensures shorter { IfOk result (λ p. length p.1.now < length tokens.now) }
+    ensures faults { IfErr result (λ e. e ≢ Memory) }
 {
     let (kind, _, rest) = kind(tokens, None)?;
     pointed(rest, kind)
@@ -38,6 +40,7 @@ fn pointed(tokens: &[Token], kind: Kind) -> Result<(Ty, &[Token]), Stop>
     ensures returned { (b : Option ℕ) (d : Bool) (items : List ItemTree) → Follows result (verdict tokens.now (HaveKind b kind) (ReturnKind d items ∷ [])) (λ p. verdict p.1.now (WantFunction d p.0 items) []) }
     ensures passed { (b : Option ℕ) (o : Opening) (tys : List Ty) (xs : List (Option Ident)) (items : List ItemTree) → Follows result (verdict tokens.now (HaveKind b kind) (ParameterKind o tys xs items ∷ [])) (λ p. verdict p.1.now (ParameterType o tys xs p.0 items) []) }
     ensures no_longer { IfOk result (λ p. length p.1.now ≤ length tokens.now) }
+    ensures faults { IfErr result (λ e. e ≢ Memory) }
 {
     let Some((token, rest)) = tokens.split_first() else {
         return Err(fault(ReadCode::R6, tokens));
@@ -114,6 +117,7 @@ fn some_parameters(alloc: Global, tokens: &[Token]) -> Result<(Parameters, &[Tok
 fn parameter_type(tokens: &[Token]) -> Result<(Ty, &[Token]), Stop>
     ensures follows { (o : Opening) (tys : List Ty) (xs : List (Option Ident)) (items : List ItemTree) → Follows result (verdict tokens.now (WantParameter o tys xs items) []) (λ p. verdict p.1.now (ParameterType o tys xs p.0 items) []) }
     ensures shorter { IfOk result (λ p. length p.1.now < length tokens.now) }
+    ensures faults { IfErr result (λ e. e ≢ Memory) }
 {
     typed(tokens)
 }
@@ -137,6 +141,7 @@ fn parameter_name(alloc: Global, tokens: &[Token]) -> Result<(Option<Ident>, &[T
 fn more_parameters(tokens: &[Token]) -> Result<(bool, &[Token]), Stop>
     ensures follows { (o : Opening) (tys : List Ty) (xs : List (Option Ident)) (items : List ItemTree) → Follows result (verdict tokens.now (HaveParameter o tys xs items) []) (λ p. has_more_parameters p.0 p.1.now o tys xs items) }
     ensures shorter { IfOk result (λ p. length p.1.now < length tokens.now) }
+    ensures faults { IfErr result (λ e. e ≢ Memory) }
 {
     let Some((token, rest)) = tokens.split_first() else {
         return Err(fault(ReadCode::R6, tokens));

@@ -21,12 +21,22 @@ pub enum ReadFault {
     /// Want of memory.
     Memory,
     /// The text's first fault.
-    At { code: ReadCode, place: Place },
+    At {
+        /// R1 to R8.
+        code: ReadCode,
+        /// Where it stands.
+        place: Place,
+    },
 }
 
 /// The module that a text is read as.
 ///
-/// Errors: `At` exactly with the text's first fault. `Memory`.
+/// # Errors
+///
+/// `At` exactly with the text's first fault. A text with a lexical fault has the first of those, of code R1, R2, R3, R4
+/// or R7, as `lex` answers it. In any other text the fault is at the first token with which no module goes on: R8
+/// where only a limit forbids it, R7 where it shows a form that is left out, and else R5; or R6 at the end, where each
+/// token may stand and the text is no module. `Memory` for want of memory.
 #[tactic(auto, using(crate::proofs::Reader::answered_module, crate::proofs::Reader::answered_fault, crate::proofs::Reader::only_module, crate::proofs::Reader::only_fault))]
 pub fn read_module(alloc: Global, bytes: &[u8]) -> Result<Module, ReadFault>
     requires { length bytes.now + 1 < 2 ^ 32 }

@@ -1,9 +1,10 @@
 //! Initial values of globals.
 
-ghost use Rattle.std.specs.Prelude.{◌≡◌, ◌<◌, ◌≤◌, ◌++◌, ◌∷◌, [], ℕ, Bool, length, List, Option, Some, None, IfOk};
+ghost use Rattle.std.specs.Prelude.{◌≡◌, ◌≢◌, ◌<◌, ◌≤◌, ◌++◌, ◌∷◌, [], ℕ, Bool, length, List, Option, Some, None, IfOk, IfErr};
 ghost use Rattle.cas_base.specs.declared.kind.Ty.TheVariants.{Int, Array};
 ghost use Rattle.cas_syntax.specs.declared.tree.Ident.{Ident};
 ghost use Rattle.cas_syntax.specs.Tree.{ItemTree};
+ghost use Rattle.cas_read_expr.specs.declared.stop.Stop.TheVariants.{Memory};
 ghost use Rattle.cas_parse.specs.Frames.{Sort, CellValue, CellNegative, WantCells, NegativeCells, HaveCells, MoreCells, CellsEnd};
 ghost use Rattle.cas_read_expr.specs.Follow.{Follows, verdict};
 ghost use Rattle.cas_read.specs.FollowItems.{data_of, has_value_or_end};
@@ -18,6 +19,7 @@ pub fn value(tokens: &[Token], kind: Kind) -> Result<(u32, &[Token]), Stop>
     ensures single { (s : Sort) (d : Bool) (x : Ident) (items : List ItemTree) → Follows result (verdict tokens.now (CellValue (data_of s d kind) x items) []) (λ p. verdict p.1.now (CellsEnd (data_of s d kind) x (Int kind) (p.0 ∷ []) items) []) }
     ensures listed { (s : Sort) (d : Bool) (x : Ident) (n : ℕ) (vs : List ℕ) (items : List ItemTree) → Follows result (verdict tokens.now (WantCells (data_of s d kind) x n vs items) []) (λ p. verdict p.1.now (HaveCells (data_of s d kind) x n (vs ++ p.0 ∷ []) items) []) }
     ensures shorter { IfOk result (λ p. length p.1.now < length tokens.now) }
+    ensures faults { IfErr result (λ e. e ≢ Memory) }
 {
     let Some((token, rest)) = tokens.split_first() else {
         return Err(fault(ReadCode::R6, tokens));
@@ -34,6 +36,7 @@ fn negative(tokens: &[Token], kind: Kind) -> Result<(u32, &[Token]), Stop>
     ensures single { (s : Sort) (d : Bool) (x : Ident) (items : List ItemTree) → Follows result (verdict tokens.now (CellNegative (data_of s d kind) x items) []) (λ p. verdict p.1.now (CellsEnd (data_of s d kind) x (Int kind) (p.0 ∷ []) items) []) }
     ensures listed { (s : Sort) (d : Bool) (x : Ident) (n : ℕ) (vs : List ℕ) (items : List ItemTree) → Follows result (verdict tokens.now (NegativeCells (data_of s d kind) x n vs items) []) (λ p. verdict p.1.now (HaveCells (data_of s d kind) x n (vs ++ p.0 ∷ []) items) []) }
     ensures shorter { IfOk result (λ p. length p.1.now < length tokens.now) }
+    ensures faults { IfErr result (λ e. e ≢ Memory) }
 {
     let Some((token, rest)) = tokens.split_first() else {
         return Err(fault(ReadCode::R6, tokens));
@@ -66,6 +69,7 @@ pub fn values(alloc: Global, tokens: &[Token], kind: Kind) -> Result<(Seq<u32>, 
 fn next_value(tokens: &[Token], kind: Kind) -> Result<(Option<u32>, &[Token]), Stop>
     ensures follows { (s : Sort) (d : Bool) (x : Ident) (n : ℕ) (vs : List ℕ) (items : List ItemTree) → Follows result (verdict tokens.now (HaveCells (data_of s d kind) x n vs items) []) (λ p. has_value_or_end p.0 p.1.now (data_of s d kind) x n vs items) }
     ensures shorter { IfOk result (λ p. length p.1.now < length tokens.now) }
+    ensures faults { IfErr result (λ e. e ≢ Memory) }
 {
     let Some((token, rest)) = tokens.split_first() else {
         return Err(fault(ReadCode::R6, tokens));
@@ -81,6 +85,7 @@ fn next_value(tokens: &[Token], kind: Kind) -> Result<(Option<u32>, &[Token]), S
 fn value_or_end(tokens: &[Token], kind: Kind) -> Result<(Option<u32>, &[Token]), Stop>
     ensures follows { (s : Sort) (d : Bool) (x : Ident) (n : ℕ) (vs : List ℕ) (items : List ItemTree) → Follows result (verdict tokens.now (MoreCells (data_of s d kind) x n vs items) []) (λ p. has_value_or_end p.0 p.1.now (data_of s d kind) x n vs items) }
     ensures shorter { IfOk result (λ p. length p.1.now < length tokens.now) }
+    ensures faults { IfErr result (λ e. e ≢ Memory) }
 {
     let Some((token, rest)) = tokens.split_first() else {
         return Err(fault(ReadCode::R6, tokens));
@@ -95,6 +100,7 @@ fn value_or_end(tokens: &[Token], kind: Kind) -> Result<(Option<u32>, &[Token]),
 fn further_value(tokens: &[Token], kind: Kind) -> Result<(Option<u32>, &[Token]), Stop>
     ensures follows { (s : Sort) (d : Bool) (x : Ident) (n : ℕ) (vs : List ℕ) (items : List ItemTree) → Follows result (verdict tokens.now (WantCells (data_of s d kind) x n vs items) []) (λ p. has_value_or_end p.0 p.1.now (data_of s d kind) x n vs items) }
     ensures shorter { IfOk result (λ p. length p.1.now < length tokens.now) }
+    ensures faults { IfErr result (λ e. e ≢ Memory) }
 {
     let (value, rest) = value(tokens, kind)?;
     Ok((Some(value), rest))
