@@ -3,8 +3,8 @@ use Rattle.std.proofs.Common.{arith, ◌≡◌, ◌≢◌, ℕ, zero, suc, ◌+�
 use Rattle.std.specs.Bool.{OnFalse}
 use Rattle.std.specs.Prelude.{Bool, true, false, ◌||◌}
 use Rattle.cas_step.specs.Env.{Env}
-use Rattle.cas_turn.specs.Answers.{Answers, IsRunning, activations_of}
-use Rattle.cas_turn.specs.Schedules.{AfterSome, AfterSomeRounds}
+use Rattle.cas_turn.specs.Answers.{Answers, IsRunning, MayWantMemory, activations_of}
+use Rattle.cas_turn.specs.Schedules.{AfterSome, AfterSomeRounds, NextMayWant}
 use Rattle.cas_turn.specs.declared.answer.WorldAnswer.{WorldAnswer}
 use Rattle.cas_turn.specs.declared.answer.WorldAnswer.TheVariants as answer
 use Rattle.cas_world.specs.Turns.{State, running, ended, waits, bad, state_of, after_turn, turn, turns, threads_from, round, rounds}
@@ -139,15 +139,30 @@ rounds_still e w k count within still =
 
 -- where turns were cut off
 
-pub turns_cut : (e : Env) (w : World) (i k count : ℕ) (P : World → Type 0) → k ≤ count → P (turns e w (replicate k i)) → AfterSome e w (replicate count i) P
-turns_cut e w i k count P within h =
-    let number : k + (count - k) ≡ count = omega (arith, within) in
-    (replicate k i, replicate (count - k) i, sym (replicate-add k (count - k) i) ∙ ap (λ n. replicate n i) number, h)
+pub turns_cut : (e : Env) (w : World) (i k count : ℕ) (P : World → Type 0) → k < count → P (turns e w (replicate k i)) →
+    MayWantMemory (activations_of (turns e w (replicate k i)) i) (state_of e (turns e w (replicate k i)) i) → AfterSome e w (replicate count i) P
+turns_cut e w i k count P within h wants =
+    let left = count - (k + 1) in
+    let number : k + suc left ≡ count = omega (arith, within) in
+    (replicate k i, replicate (suc left) i, sym (replicate-add k (suc left) i) ∙ ap (λ n. replicate n i) number, h, wants)
 
-pub threads_cut : (e : Env) (w : World) (k count : ℕ) (P : World → Type 0) → k ≤ count → P (turns e w (threads_from 0 k)) → AfterSome e w (threads_from 0 count) P
-threads_cut e w k count P within h =
-    let number : k + (count - k) ≡ count = omega (arith, within) in
-    (threads_from 0 k, threads_from (0 + k) (count - k), sym (threads-add 0 k (count - k)) ∙ ap (threads_from 0) number, h)
+pub threads_cut : (e : Env) (w : World) (k count : ℕ) (P : World → Type 0) → k < count → P (turns e w (threads_from 0 k)) →
+    MayWantMemory (activations_of (turns e w (threads_from 0 k)) k) (state_of e (turns e w (threads_from 0 k)) k) → AfterSome e w (threads_from 0 count) P
+threads_cut e w k count P within h wants =
+    let v = turns e w (threads_from 0 k) in
+    let left = count - (k + 1) in
+    let number : k + suc left ≡ count = omega (arith, within) in
+    let next : k ≡ 0 + k = omega (arith) in (
+      threads_from 0 k,
+      threads_from (0 + k) (suc left),
+      sym (threads-add 0 k (suc left)) ∙ ap (threads_from 0) number,
+      h,
+      subst (λ n. MayWantMemory (activations_of v n) (state_of e v n)) next wants,
+    )
+
+next_with : (e : Env) (w : World) (left rest : List ℕ) → NextMayWant e w left → NextMayWant e w (left ++ rest)
+next_with e w [] rest h = absurd h
+next_with e w (i ∷ left) rest h = h
 
 pub rounds_cut : (e : Env) (w : World) (k count : ℕ) (P : World → Type 0) → k < count → AfterSome e (rounds e w k) (threads_from 0 (length (rounds e w k).threads)) P → AfterSomeRounds e w count P
 rounds_cut e w k count P within h =
@@ -156,11 +171,13 @@ rounds_cut e w k count P within h =
 
 pub schedule_cut : (e : Env) (w : World) (done turn rest all : List ℕ) (P : World → Type 0) → done ++ (turn ++ rest) ≡ all → AfterSome e (turns e w done) turn P → AfterSome e w all P
 schedule_cut e w done turn rest all P is cut =
-    let (some, left, parts, h) = cut in (
+    let (some, left, parts, h, wants) = cut in
+    let behind = sym (turns-append e w done some) in (
       done ++ some,
       left ++ rest,
       append_assoc done some (left ++ rest) ∙ ap (λ xs. done ++ xs) (sym (append_assoc some left rest) ∙ ap (λ xs. xs ++ rest) parts) ∙ is,
-      subst P (sym (turns-append e w done some)) h,
+      subst P behind h,
+      subst (λ v. NextMayWant e v (left ++ rest)) behind (next_with e (turns e (turns e w done) some) left rest wants),
     )
 
 -- tests

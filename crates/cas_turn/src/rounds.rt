@@ -3,10 +3,11 @@
 ghost use Rattle.std.specs.Prelude.{◌≡◌, ℕ, List, IfOk, OnErr, OnOk, length, replicate, vec_len};
 ghost use Rattle.std.specs.Bool.{OnFalse};
 ghost use Rattle.cas_program.specs.Program.{env_of};
+ghost use Rattle.cas_turn.specs.Answers.{MayWantMemory, activations_of};
 ghost use Rattle.cas_turn.specs.Schedules.{AfterSome, AfterSomeRounds, unrolled};
 ghost use Rattle.cas_typed.specs.Resolved.{TypedModuleTree};
 ghost use Rattle.cas_world.specs.Turns as definition;
-ghost use Rattle.cas_world.specs.Turns.{threads_from, turns};
+ghost use Rattle.cas_world.specs.Turns.{state_of, threads_from, turns};
 ghost use Rattle.cas_world.specs.World.{World as AWorld};
 
 use crate::answer::WorldAnswer;
@@ -17,13 +18,15 @@ use cas_base::NoMemory;
 impl World {
     ghost use Rattle.cas_turn.specs.World_of.{IsWorldOf};
 
-    // A turn of a thread, and whether it took its step. After want of memory nothing has changed.
+    // A turn of a thread, and whether it took its step. After want of memory nothing has changed. It is told only where the
+    // thread may take its step, and the step begins a call or puts a word out.
     fn takes_turn(&mut self, thread: u32) -> Result<bool, NoMemory>
         ensures program { self.new.program ≡ self.old.program }
         ensures threads { vec_len self.new.threads ≡ vec_len self.old.threads }
         ensures turn { OnOk result ((ms : List TypedModuleTree) (names : List (List ℕ)) (w : AWorld) → IsWorldOf self.old ms names w → IsWorldOf self.new ms names (definition.turn (env_of ms) w thread)) }
         ensures still { IfOk result (λ moved. OnFalse moved ((ms : List TypedModuleTree) (names : List (List ℕ)) (w : AWorld) → IsWorldOf self.old ms names w → definition.turn (env_of ms) w thread ≡ w)) }
         ensures cut { OnErr result ((ms : List TypedModuleTree) (names : List (List ℕ)) (w : AWorld) → IsWorldOf self.old ms names w → IsWorldOf self.new ms names w) }
+        ensures wants { OnErr result ((ms : List TypedModuleTree) (names : List (List ℕ)) (w : AWorld) → IsWorldOf self.old ms names w → MayWantMemory (activations_of w thread) (state_of (env_of ms) w thread)) }
     {
         if thread >= self.threads() {
             return Ok(false);
@@ -52,7 +55,7 @@ impl World {
     }
 
     /// The turns of a schedule, in its order. After want of memory the world is one that some of the turns come to, in their
-    /// order from the first on.
+    /// order from the first on, and in the next turn the thread may take its step, which begins a call or puts a word out.
     pub fn schedule(&mut self, items: &[Item]) -> Result<(), NoMemory>
         ensures program { self.new.program ≡ self.old.program }
         ensures turns { OnOk result ((ms : List TypedModuleTree) (names : List (List ℕ)) (w : AWorld) → IsWorldOf self.old ms names w → IsWorldOf self.new ms names (turns (env_of ms) w (unrolled items.now))) }
@@ -82,7 +85,8 @@ impl World {
     }
 
     /// So many rounds over all threads in order; one that changes nothing is the last. After want of memory the world is one that
-    /// some of the turns come to, in their order from the first on.
+    /// some of the turns come to, in their order from the first on, and in the next turn the thread may take its step, which
+    /// begins a call or puts a word out.
     pub fn rounds(&mut self, count: u32) -> Result<(), NoMemory>
         ensures program { self.new.program ≡ self.old.program }
         ensures rounds { OnOk result ((ms : List TypedModuleTree) (names : List (List ℕ)) (w : AWorld) → IsWorldOf self.old ms names w → IsWorldOf self.new ms names (definition.rounds (env_of ms) w count)) }

@@ -11,8 +11,9 @@ returns-in_err-takes_turn-clause-cut c =
     let p = err_from_is_err_and c.from_residual.result c.from_residual.ensures.1 in
     rw p.1 (λ ms names w is.
     let v = turns (env_of ms) w (replicate c.loop-turn._turn c.args.thread) in
+    let here = c.loop-turn.invariant.1 ms names w is in
     turns_cut (env_of ms) w c.args.thread c.loop-turn._turn c.args.count (IsWorldOf c.takes_turn.new.self ms names) (omega (arith, c.loop-turn-test.true))
-    (c.in_err-takes_turn.ensures.cut ms names v (c.loop-turn.invariant.1 ms names w is)))
+    (c.in_err-takes_turn.ensures.cut ms names v here) (c.in_err-takes_turn.ensures.wants ms names v here))
 
 pub returns-then-not-branch-clause-turns : goal.returns-then-not-branch-clause-turns
 returns-then-not-branch-clause-turns c = λ ms names w is.

@@ -1,4 +1,4 @@
-use Rattle.std.proofs.Common.{arith, ◌≡◌, ◌≤◌, ap, length, subst, sym, ◌∙◌}
+use Rattle.std.proofs.Common.{arith, ◌≡◌, ◌<◌, ap, length, subst, sym, ◌∙◌}
 use Rattle.std.proofs.lemmas.Result.{err_from_is_err_and}
 use Rattle.cas_program.specs.Program.{env_of}
 use Rattle.cas_turn.proofs.Rounds_lemmas.{neither, on_false, thread_more, threads_cut}
@@ -13,10 +13,11 @@ returns-in_err-moved-clause-cut c =
     rw p.1 (λ ms names w is.
     let v = turns (env_of ms) w (threads_from 0 c.loop-thread.thread) in
     let world = c.args.self.now in
-    let within : c.loop-thread.thread ≤ length w.threads =
+    let here = c.loop-thread.invariant.1 ms names w is in
+    let within : c.loop-thread.thread < length w.threads =
     omega (arith, c.loop-thread-test.true, c.threads-count.ensures, world.threads.ok.0, threads_length world.program world.threads.items w.threads is.threads_are) in
     threads_cut (env_of ms) w c.loop-thread.thread (length w.threads) (IsWorldOf c.takes_turn.new.self ms names) within
-    (c.in_err-moved.ensures.cut ms names v (c.loop-thread.invariant.1 ms names w is)))
+    (c.in_err-moved.ensures.cut ms names v here) (c.in_err-moved.ensures.wants ms names v here))
 
 pub loop-thread-preserved : goal.loop-thread-preserved
 loop-thread-preserved c = (

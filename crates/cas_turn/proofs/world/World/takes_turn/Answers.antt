@@ -2,8 +2,9 @@ use Rattle.std.proofs.Common.{arith, ◌≡◌, ◌≤◌, length, subst, sym, �
 use Rattle.cas_program.specs.Program.{env_of}
 use Rattle.cas_turn.proofs.Rounds_lemmas.{answered_stays, ended_stays, turn_taken}
 use Rattle.cas_turn.proofs.Worlds.{no_thread, none_past}
+use Rattle.cas_turn.specs.Answers.{Answers, activations_of}
 use Rattle.cas_turn.specs.Shown.{AreWorldOf}
-use Rattle.cas_world.specs.Turns.{turn}
+use Rattle.cas_world.specs.Turns.{state_of, turn}
 use Rattle.cas_turn.proofs.world.World.takes_turn.Goals as goal
 
 pub returns-then-thread-threads-clause-turn : goal.returns-then-thread-threads-clause-turn
@@ -23,6 +24,10 @@ pub returns-in-Ok-clause-turn : goal.returns-in-Ok-clause-turn
 returns-in-Ok-clause-turn c = λ ms names w is.
     let v = c.step.new.self in
     turn_taken (env_of ms) w c.args.thread (AreWorldOf v.program v.threads.items v.shared.words.items v.holders.items v.out.items ms names) (c.in-Ok.ensures.taken ms names w is)
+
+pub returns-in-Err-Memory-clause-wants : goal.returns-in-Err-Memory-clause-wants
+returns-in-Err-Memory-clause-wants c = λ ms names w is.
+    subst (Answers (activations_of w c.args.thread) (state_of (env_of ms) w c.args.thread)) c.in-Err-Memory.field-0-is (c.in-Err-Memory.ensures.answer ms names w is)
 
 pub returns-in-Err-Ended-clause-turn : goal.returns-in-Err-Ended-clause-turn
 returns-in-Err-Ended-clause-turn c = λ ms names w is.
