@@ -16,7 +16,7 @@ pub mod Placing
 pub mod Starts
 pub mod Once
 pub mod Acts_of
-pub mod Locked
+pub mod First_statement
 pub mod Lock_acts
 pub mod Printed
 pub mod Print_acts

@@ -1,31 +1,26 @@
 //! Calls: the arguments are evaluated, and an activation of the function begins, with room for all items that it can have to
 //! do at once.
 
-ghost use Rattle.std.specs.Prelude.{◌≡◌, [], ◌∷◌, ℕ, List, Some, None, true, IfNone, IfSome, IfOk, OnErr, reverse, slice_get, map, vec_capacity};
+ghost use Rattle.std.specs.Prelude.{◌≡◌, [], ℕ, List, Some, None, true, IfNone, IfSome, IfOk, reverse, slice_get, vec_capacity};
 ghost use Rattle.cas_base.specs.declared.kind.Ty.{Ty};
-ghost use Rattle.cas_base.specs.declared.place.Place.{Place};
-ghost use Rattle.cas_step.specs.Env.{Env};
 ghost use Rattle.cas_step.specs.Items as items;
-ghost use Rattle.cas_step.specs.Items.{begin_all, deed_of, next};
-ghost use Rattle.cas_step.specs.Step as step;
-ghost use Rattle.cas_step.specs.Step.{doing, sight_of, with_call};
+ghost use Rattle.cas_step.specs.Items.{begin_all, deed_of};
 ghost use Rattle.cas_memory.specs.Entities.{entity_if};
-ghost use Rattle.cas_memory.specs.Values.{value_of};
 ghost use Rattle.cas_eval.specs.Answer.{answer, around, sight};
 ghost use Rattle.cas_typed.specs.Numbered as numbered;
-ghost use Rattle.cas_typed.specs.Numbered.{At, IsRow};
-ghost use Rattle.cas_typed.specs.Resolved.{TypedFunTree, TypedStmtOption, TypedStmtTree};
+ghost use Rattle.cas_typed.specs.Numbered.{IsRow};
+ghost use Rattle.cas_typed.specs.Resolved.{TypedFunTree, TypedStmtTree};
 ghost use Rattle.cas_typed.specs.declared.rows.StmtRow.{StmtRow};
 ghost use Rattle.cas_whole.specs.Bodies.{typed_at};
 ghost use Rattle.cas_thread.specs.Calls.{IsCallOf, IsReady, function_place};
 ghost use Rattle.cas_thread.specs.Control.{after};
 ghost use Rattle.cas_thread.specs.Deeds.{Begins, IsCall};
 ghost use Rattle.cas_thread.specs.Room.{Fits};
-ghost use Rattle.cas_thread.specs.Todos.{IsAt, IsNext, Shows};
+ghost use Rattle.cas_thread.specs.Todos.{Shows};
 
 use crate::config::Frame;
-use crate::control::{begin_each, next_part, row_at};
-use crate::deed::first_item;
+use crate::control::begin_each;
+use crate::first::first_row;
 use crate::take::entity_at;
 use crate::todo::Todo;
 use cas_base::NoMemory;
@@ -66,42 +61,7 @@ fn called_in(row: &StmtRow) -> Option<Called<'_>>
             item: *item,
             args: args.as_slice(),
         }),
-        StmtRowForm::Skip
-        | StmtRowForm::Assign(_, _)
-        | StmtRowForm::Block(_)
-        | StmtRowForm::If(_, _, _)
-        | StmtRowForm::While(_, _)
-        | StmtRowForm::Do(_, _)
-        | StmtRowForm::For(_, _, _, _)
-        | StmtRowForm::Break
-        | StmtRowForm::Continue
-        | StmtRowForm::Return(_)
-        | StmtRowForm::Lock(_)
-        | StmtRowForm::Unlock(_)
-        | StmtRowForm::Print(_) => None,
-    }
-}
-
-// The call that the row with this number is, if it is one.
-fn called_at(rows: &[StmtRow], number: u32) -> Option<Called<'_>>
-    ensures some { IfSome result (λ called. (a : TypedStmtTree) → IsAt rows.now number a → IsCallOf called a) }
-    ensures none { IfNone result ((a : TypedStmtTree) → IsAt rows.now number a → ¬ (IsCall a)) }
-{
-    match row_at(rows, number) {
-        Some(row) => called_in(row),
-        None => None,
-    }
-}
-
-// The call that a `for` does after a turn, if it does one.
-fn called_next(rows: &[StmtRow], number: u32) -> Option<Called<'_>>
-    ensures some { IfSome result (λ called. (p : Place) (u : TypedStmtOption) (it : List items.Todo) → At rows.now number (IsNext rows.now p u) → Begins (IsCallOf called) (next p u ∷ it)) }
-    ensures none { IfNone result ((p : Place) (u : TypedStmtOption) (it : List items.Todo) → At rows.now number (IsNext rows.now p u) → ¬ (Begins IsCall (next p u ∷ it))) }
-{
-    match next_part(rows, number) {
-        Some(Some(next)) => called_at(rows, next),
-        Some(None) => None,
-        None => None,
+        _ => None,
     }
 }
 
@@ -110,15 +70,7 @@ pub(crate) fn first_call<'a>(rows: &'a [StmtRow], todo: &[Todo]) -> Option<Calle
     ensures some { IfSome result (λ called. (it : List items.Todo) → Shows rows.now (reverse todo.now) it → Begins (IsCallOf called) it) }
     ensures none { IfNone result ((it : List items.Todo) → Shows rows.now (reverse todo.now) it → ¬ (Begins IsCall it)) }
 {
-    match first_item(todo) {
-        Some(item) => match item {
-            Todo::Begin(number) => called_at(rows, number),
-            Todo::Next(number) => called_next(rows, number),
-            Todo::Begun(_) => None,
-            Todo::Loop(_) => None,
-        },
-        None => None,
-    }
+    called_in(first_row(rows, todo)?)
 }
 
 /// A call with its arguments, from left to right.
@@ -130,14 +82,12 @@ pub(crate) fn evaluated(
     ensures { (ret : Ty) (it : List items.Todo) → Begins (IsCallOf called.now) it
         → IsReady (answer (around here.now) (deed_of (sight (around here.now)) ret it)) (after true it) result }
 {
-    match arguments(alloc, here, called.args) {
-        Ok(values) => Ok(Ready {
-            kept: called.kept,
-            item: called.item,
-            values,
-        }),
-        Err(why) => Err(why),
-    }
+    let values = arguments(alloc, here, called.args)?;
+    Ok(Ready {
+        kept: called.kept,
+        item: called.item,
+        values,
+    })
 }
 
 /// Where the function stands that an item is, if it is one: its module, and its place among those of the module.

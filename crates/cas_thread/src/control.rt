@@ -181,18 +181,7 @@ fn turned(row: &StmtRow) -> Option<u32>
     match &row.form {
         StmtRowForm::While(_, body) => Some(*body),
         StmtRowForm::Do(body, _) => Some(*body),
-        StmtRowForm::Skip
-        | StmtRowForm::Assign(_, _)
-        | StmtRowForm::Call(_, _, _, _)
-        | StmtRowForm::Block(_)
-        | StmtRowForm::If(_, _, _)
-        | StmtRowForm::For(_, _, _, _)
-        | StmtRowForm::Break
-        | StmtRowForm::Continue
-        | StmtRowForm::Return(_)
-        | StmtRowForm::Lock(_)
-        | StmtRowForm::Unlock(_)
-        | StmtRowForm::Print(_) => None,
+        _ => None,
     }
 }
 
@@ -210,19 +199,7 @@ fn turned_for(row: &StmtRow) -> Option<(Option<u32>, u32)>
 {
     match &row.form {
         StmtRowForm::For(_, _, next, body) => Some((*next, *body)),
-        StmtRowForm::Skip
-        | StmtRowForm::Assign(_, _)
-        | StmtRowForm::Call(_, _, _, _)
-        | StmtRowForm::Block(_)
-        | StmtRowForm::If(_, _, _)
-        | StmtRowForm::While(_, _)
-        | StmtRowForm::Do(_, _)
-        | StmtRowForm::Break
-        | StmtRowForm::Continue
-        | StmtRowForm::Return(_)
-        | StmtRowForm::Lock(_)
-        | StmtRowForm::Unlock(_)
-        | StmtRowForm::Print(_) => None,
+        _ => None,
     }
 }
 

@@ -1,6 +1,6 @@
 //! What a step does at last, when all is evaluated: the deeds of statements and of items.
 
-ghost use Rattle.std.specs.Prelude.{IfNone, IfSome, ◌≡◌, [], ◌∷◌, ℕ, Bool, true, List, Option, option_map, reverse};
+ghost use Rattle.std.specs.Prelude.{IfNone, IfSome, ◌≡◌, ◌∷◌, ℕ, Bool, true, List, Option, reverse};
 ghost use Rattle.cas_base.specs.declared.place.Place.{Place};
 ghost use Rattle.cas_step.specs.Asks.{and_then, gives, word_in as asks_word};
 ghost use Rattle.cas_step.specs.Evaluate.{either, target_of, value_of as value_in};
@@ -15,10 +15,10 @@ ghost use Rattle.cas_typed.specs.Resolved.{TypedExprTree, TypedStmtOption, Typed
 ghost use Rattle.cas_thread.specs.declared.deed.First.TheVariants.{Does};
 ghost use Rattle.cas_thread.specs.Control.{after, after_statement};
 ghost use Rattle.cas_thread.specs.Deeds.{Begins, IsCall, IsFirst, IsJump, deed_with};
-ghost use Rattle.cas_thread.specs.declared.todo.Todo as code;
 ghost use Rattle.cas_thread.specs.Todos.{IsAt, IsBegun, IsLoop, IsNext, Shows};
 
 use crate::control::{next_part, row_at};
+use crate::first::first_item;
 use crate::todo::Todo;
 use crate::values::word_in;
 use cas_base::Ty;
@@ -172,18 +172,7 @@ fn begun_test(row: &StmtRow) -> Option<&TypedExpr>
     match &row.form {
         StmtRowForm::While(expr, _) => Some(expr),
         StmtRowForm::Do(_, expr) => Some(expr),
-        StmtRowForm::Skip
-        | StmtRowForm::Assign(_, _)
-        | StmtRowForm::Call(_, _, _, _)
-        | StmtRowForm::Block(_)
-        | StmtRowForm::If(_, _, _)
-        | StmtRowForm::For(_, _, _, _)
-        | StmtRowForm::Break
-        | StmtRowForm::Continue
-        | StmtRowForm::Return(_)
-        | StmtRowForm::Lock(_)
-        | StmtRowForm::Unlock(_)
-        | StmtRowForm::Print(_) => None,
+        _ => None,
     }
 }
 
@@ -196,19 +185,7 @@ fn loop_test(row: &StmtRow) -> Option<&Option<TypedExpr>>
 {
     match &row.form {
         StmtRowForm::For(_, expr, _, _) => Some(expr),
-        StmtRowForm::Skip
-        | StmtRowForm::Assign(_, _)
-        | StmtRowForm::Call(_, _, _, _)
-        | StmtRowForm::Block(_)
-        | StmtRowForm::If(_, _, _)
-        | StmtRowForm::While(_, _)
-        | StmtRowForm::Do(_, _)
-        | StmtRowForm::Break
-        | StmtRowForm::Continue
-        | StmtRowForm::Return(_)
-        | StmtRowForm::Lock(_)
-        | StmtRowForm::Unlock(_)
-        | StmtRowForm::Print(_) => None,
+        _ => None,
     }
 }
 
@@ -262,17 +239,6 @@ fn next_at(here: &Here<'_>, rows: &[StmtRow], number: u32) -> Result<First, NoRe
         Some(Some(next)) => first_at(here, rows, next),
         Some(None) => Ok(First::Does(Deed::Goes(true))),
         None => Err(NoResult::Stuck),
-    }
-}
-
-/// The first item to do.
-pub(crate) fn first_item(todo: &[Todo]) -> Option<Todo>
-    ensures some { IfSome result (λ it. (rest : List code.Todo) × (reverse todo.now ≡ it ∷ rest)) }
-    ensures none { IfNone result (reverse todo.now ≡ []) }
-{
-    match todo.split_last() {
-        Some((item, _)) => Some(*item),
-        None => None,
     }
 }
 

@@ -1,10 +1,11 @@
 //! The step of a thread in code. What an activation has to do stands as numbers of rows (`todo`), which change by the first of
-//! them alone (`control`); a thread is its activations with their memory (`config`). A step looks at what comes first, and
-//! evaluates (`deed`); then it goes on, stores, takes or gives back a lock, puts a word out, or returns (`take`), or it calls
-//! (`call`, `enter`): `step` is all of it. What is offered: a thread's start (`starting`), its next step (`thread`), the act of
-//! that step without the step (`acting`), its place (`place`), the lock that it takes (`locking`), and whether it puts a word out
-//! (`printing`). Contracts speak of the definitions of `cas_step`: `specs/Thread` says which thread of the definition one of the
-//! code is. It stands on `cas_base`, `cas_typed`, `cas_step`, `cas_memory`, `cas_eval`, `cas_program` and `cas_whole`.
+//! them alone (`control`); a thread is its activations with their memory (`config`). A step looks at what comes first
+//! (`first`), and evaluates (`deed`); then it goes on, stores, takes or gives back a lock, puts a word out, or returns (`take`),
+//! or it calls (`call`, `enter`): `step` is all of it. What is offered: a thread's start (`starting`), its next step (`thread`),
+//! the act of that step without the step (`acting`), its place (`place`), the lock that it takes (`locking`), and whether it
+//! puts a word out (`printing`). Contracts speak of the definitions of `cas_step`: `specs/Thread` says which thread of the
+//! definition one of the code is. It stands on `cas_base`, `cas_typed`, `cas_step`, `cas_memory`, `cas_eval`, `cas_program` and
+//! `cas_whole`.
 #![tactic(auto)]
 
 mod acting;
@@ -13,6 +14,7 @@ mod config;
 mod control;
 mod deed;
 mod enter;
+mod first;
 pub mod laws;
 mod locking;
 mod place;

@@ -11,7 +11,7 @@ ghost use Rattle.cas_thread.specs.declared.todo.Todo.TheVariants.{Next};
 
 use crate::config::{Config, rows_of};
 use crate::control::{next_part, row_at};
-use crate::deed::first_item;
+use crate::first::first_item;
 use crate::step::newest;
 use crate::todo::Todo;
 use cas_base::Place;

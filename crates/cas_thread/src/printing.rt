@@ -3,21 +3,19 @@
 ghost use Rattle.std.specs.Prelude.{◌≡◌, ◌≢◌, [], ◌∷◌, ℕ, List, reverse, false};
 ghost use Rattle.std.specs.Bool.{OnFalse};
 ghost use Rattle.cas_base.specs.declared.act.Act.TheVariants as act;
-ghost use Rattle.cas_base.specs.declared.place.Place.{Place};
 ghost use Rattle.cas_step.specs.Items as items;
 ghost use Rattle.cas_step.specs.Items.{next};
 ghost use Rattle.cas_step.specs.Step as step;
-ghost use Rattle.cas_typed.specs.Numbered.{At, IsRow};
-ghost use Rattle.cas_typed.specs.Resolved.{TypedModuleTree, TypedStmtOption, TypedStmtTree};
+ghost use Rattle.cas_typed.specs.Numbered.{IsRow};
+ghost use Rattle.cas_typed.specs.Resolved.{TypedModuleTree, TypedStmtTree};
 ghost use Rattle.cas_typed.specs.declared.rows.StmtRow.{StmtRow};
 ghost use Rattle.cas_whole.specs.Program_of.{IsProgramOf};
 ghost use Rattle.cas_thread.specs.Deeds.{is_print, prints_first};
 ghost use Rattle.cas_thread.specs.Thread.{IsThread, Steps};
-ghost use Rattle.cas_thread.specs.Todos.{IsAt, IsNext, Shows};
+ghost use Rattle.cas_thread.specs.Todos.{Shows};
 
 use crate::config::{Config, rows_of};
-use crate::control::{next_part, row_at};
-use crate::deed::first_item;
+use crate::first::first_row;
 use crate::step::newest;
 use crate::todo::Todo;
 use cas_typed::{StmtRow, StmtRowForm};
@@ -29,40 +27,7 @@ fn prints_in(row: &StmtRow) -> bool
 {
     match &row.form {
         StmtRowForm::Print(_) => true,
-        StmtRowForm::Skip
-        | StmtRowForm::Assign(_, _)
-        | StmtRowForm::Call(_, _, _, _)
-        | StmtRowForm::Block(_)
-        | StmtRowForm::If(_, _, _)
-        | StmtRowForm::While(_, _)
-        | StmtRowForm::Do(_, _)
-        | StmtRowForm::For(_, _, _, _)
-        | StmtRowForm::Break
-        | StmtRowForm::Continue
-        | StmtRowForm::Return(_)
-        | StmtRowForm::Lock(_)
-        | StmtRowForm::Unlock(_) => false,
-    }
-}
-
-// Whether the row with this number puts a word out.
-fn prints_at(rows: &[StmtRow], number: u32) -> bool
-    ensures { (a : TypedStmtTree) → IsAt rows.now number a → result ≡ is_print a }
-{
-    match row_at(rows, number) {
-        Some(row) => prints_in(row),
-        None => false,
-    }
-}
-
-// Whether what a `for` does after a turn puts a word out.
-fn prints_next(rows: &[StmtRow], number: u32) -> bool
-    ensures { (p : Place) (u : TypedStmtOption) (todo : List items.Todo) → At rows.now number (IsNext rows.now p u) → result ≡ prints_first (next p u ∷ todo) }
-{
-    match next_part(rows, number) {
-        Some(Some(next)) => prints_at(rows, next),
-        Some(None) => false,
-        None => false,
+        _ => false,
     }
 }
 
@@ -70,15 +35,7 @@ fn prints_next(rows: &[StmtRow], number: u32) -> bool
 fn first_prints(rows: &[StmtRow], todo: &[Todo]) -> bool
     ensures { (it : List items.Todo) → Shows rows.now (reverse todo.now) it → result ≡ prints_first it }
 {
-    match first_item(todo) {
-        Some(item) => match item {
-            Todo::Begin(number) => prints_at(rows, number),
-            Todo::Next(number) => prints_next(rows, number),
-            Todo::Begun(_) => false,
-            Todo::Loop(_) => false,
-        },
-        None => false,
-    }
+    first_row(rows, todo).is_some_and(prints_in)
 }
 
 /// Whether the next step of a thread puts a word out, if it isn't Bad. It evaluates nothing.

@@ -1,9 +1,7 @@
-use Rattle.std.proofs.Common.{reverse, ◌∷◌, ap, ◌∙◌}
-use Rattle.cas_thread.proofs.Locked.{first_next}
+use Rattle.cas_thread.proofs.First_statement.{row_locks}
 use Rattle.cas_thread.proofs.locking.first_locked.Goals as goal
 
-pub returns-in-Next : goal.returns-in-Next
-returns-in-Next c =
-    let some = c.in-Some.ensures.some in
-    first_next c.args.rows.now c.in-Next.number (reverse c.args.todo.now) some.0 c.locked_next.result
-    (some.1 ∙ ap (λ it. it ∷ some.0) c.in-Next.is) c.locked_next.ensures
+pub returns : goal.returns
+returns c = λ it shows.
+    let row = c.in_ok-first_row in
+    row_locks c.args.rows.now row.field-0.now c.locked_in.result c.locked_in.ensures it (row.ensures.some it shows)

@@ -1,6 +1,6 @@
 use Rattle.std.proofs.Common.{reverse, [], ◌∷◌, ap, ◌∙◌}
 use Rattle.std.proofs.lemmas.List.{reverse-append}
-use Rattle.cas_thread.proofs.deed.first_item.Goals as goal
+use Rattle.cas_thread.proofs.first.first_item.Goals as goal
 
 pub returns-in-Some-clause-some : goal.returns-in-Some-clause-some
 returns-in-Some-clause-some c =
