@@ -15,19 +15,12 @@ ghost use Rattle.cas_typed.specs.Resolved as t;
 ghost use Rattle.cas_typed.specs.Resolved.{typed_expr_tree};
 
 use crate::here::Here;
-use crate::operators::{binary, number_of, unary};
+use crate::operators::{binary, number_of, truth, unary};
 use crate::values::{NoResult, condition, pointed, word_in};
 use cas_base::{Kind, narrow};
 use cas_memory::Value;
 use cas_syntax::{BinaryOperator, UnaryOperator};
 use cas_typed::{Signedness, TypedExpr};
-
-// A truth value as a word.
-fn truth(is: bool) -> Value
-    ensures { value_of result ≡ word (o.truth is) }
-{
-    Value::Word(if is { 1 } else { 0 })
-}
 
 // An operator on a word.
 #[tactic(auto, using(crate::proofs::Answering::answer_then), unfolding(crate::specs::Answer::answer))]
@@ -106,7 +99,7 @@ fn comparison_of(
 {
     let first = pointed(a)?;
     let second = pointed(b)?;
-    Ok(truth(here.compared(operator, first, second)?))
+    Ok(Value::Word(truth(here.compared(operator, first, second)?)))
 }
 
 // The element of a global array at an index.
@@ -243,7 +236,7 @@ fn truth_of(here: &Here<'_>, a: &TypedExpr) -> Result<Value, NoResult>
     ensures { told value_of result ≡ answer (around here.now) (and_then (e.value_of (sight (around here.now)) (typed_expr_tree a.now)) (λ v. e.a_truth (e.condition v))) }
 {
     let value = evaluate(here, a)?;
-    Ok(truth(condition(value)?))
+    Ok(Value::Word(truth(condition(value)?)))
 }
 
 // Whether both are true, as a word. The second is evaluated only where the first is true.

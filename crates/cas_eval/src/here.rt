@@ -4,7 +4,7 @@ ghost use Rattle.std.specs.Prelude.{◌≡◌, option_map, slice_get};
 ghost use Rattle.cas_step.specs.Answered.{word_at};
 ghost use Rattle.cas_step.specs.Env.{length_of};
 ghost use Rattle.cas_step.specs.Evaluate.{element_place, global_value, local_value, only_place};
-ghost use Rattle.cas_memory.specs.Entities.{entity_of};
+ghost use Rattle.cas_memory.specs.Entities.{entity_if, entity_of};
 ghost use Rattle.cas_memory.specs.Values.{object_of, value_of};
 ghost use Rattle.cas_eval.specs.Answer.{answer, around, sight, told};
 
@@ -25,6 +25,14 @@ pub struct Here<'a> {
     pub memory: &'a Memory,
     /// The serial number of the activation whose locals the expression names.
     pub serial: u64,
+}
+
+/// What an item stands for, by its number.
+#[tactic(auto, using(crate::proofs::Getting::get_there, crate::proofs::Getting::get_past))]
+pub fn entity_at(items: &[Option<Entity>], item: u32) -> Option<Entity>
+    ensures { option_map entity_of result ≡ entity_if (slice_get items.now item) }
+{
+    *items.get(item as usize)?
 }
 
 impl Here<'_> {
@@ -49,17 +57,6 @@ impl Here<'_> {
         }
     }
 
-    // What an item stands for.
-    #[tactic(auto, using(crate::proofs::Getting::get_there, crate::proofs::Getting::get_past))]
-    fn entity(&self, item: u32) -> Option<Entity>
-        ensures { option_map entity_of result ≡ (around self.now).entity item }
-    {
-        match self.items.get(item as usize) {
-            Some(entity) => *entity,
-            None => None,
-        }
-    }
-
     // The word with this number.
     #[tactic(auto, using(crate::proofs::Getting::get_there, crate::proofs::Getting::get_past))]
     fn word(&self, number: usize) -> Option<u32>
@@ -75,7 +72,7 @@ impl Here<'_> {
     fn length(&self, item: u32) -> Option<u32>
         ensures { result ≡ length_of ((around self.now).entity item) }
     {
-        match self.entity(item) {
+        match entity_at(self.items, item) {
             Some(Entity::Shared { length, .. }) => Some(length),
             Some(Entity::Table { length, .. }) => Some(length),
             Some(Entity::Function { .. }) | Some(Entity::Lock(_)) | None => None,
@@ -116,7 +113,7 @@ impl Here<'_> {
     fn word_of(&self, item: u32, place: u32) -> Option<u32>
         ensures { result ≡ word_at (slice_get self.now.words.now) ((around self.now).entity item) place }
     {
-        match self.entity(item) {
+        match entity_at(self.items, item) {
             Some(Entity::Shared { first, .. }) => self.word(first as usize + place as usize),
             Some(Entity::Table { first, .. }) => self.word(first as usize + place as usize),
             Some(Entity::Function { .. }) | Some(Entity::Lock(_)) | None => None,

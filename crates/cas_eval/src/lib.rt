@@ -15,6 +15,6 @@ mod values;
 
 pub use args::{NoArguments, arguments, check_arguments};
 pub use expressions::evaluate;
-pub use here::Here;
+pub use here::{Here, entity_at};
 pub use targets::{Cell, target_cell, test};
-pub use values::NoResult;
+pub use values::{NoResult, word_in};

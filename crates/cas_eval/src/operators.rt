@@ -1,6 +1,6 @@
 //! Operators on words, and numbers as operators read them.
 
-ghost use Rattle.std.specs.Prelude.{◌≡◌, ◌≤◌, ◌^◌, ℤ, pos, negsuc, neg_ℤ, ◌≤ℤ◌};
+ghost use Rattle.std.specs.Prelude.{◌≡◌, ◌≤◌, ◌^◌, ℤ, pos, negsuc, ◌≤ℤ◌};
 ghost use Rattle.cas_step.specs.Operators as o;
 ghost use Rattle.cas_eval.specs.Answer.{Around, answer};
 
@@ -39,7 +39,8 @@ pub fn place_below(limit: u64, number: i64) -> Option<u32>
     }
 }
 
-fn truth(is: bool) -> u32
+/// A truth value as a word.
+pub fn truth(is: bool) -> u32
     ensures { result ≡ o.truth is }
 {
     if is { 1 } else { 0 }

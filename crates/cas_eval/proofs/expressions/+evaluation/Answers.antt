@@ -157,7 +157,7 @@ pub truth_of-returns : goal.truth_of-returns
 truth_of-returns t c =
     ok_then (around c.args.here.now) _ _ _ _ c.in_ok-value.ensures
     (ok_then (around c.args.here.now) _ _ _ _ (c.in_ok-condition.ensures (around c.args.here.now))
-    (ap Ok c.truth.ensures ∙ sym (given (around c.args.here.now) (word (o.truth c.in_ok-condition.field-0)))))
+    (ap (λ n. Ok (word n)) c.truth.ensures ∙ sym (given (around c.args.here.now) (word (o.truth c.in_ok-condition.field-0)))))
 
 pub and_also-returns-in_err-first : goal.and_also-returns-in_err-first
 and_also-returns-in_err-first t c =

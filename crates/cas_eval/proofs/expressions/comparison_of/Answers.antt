@@ -26,4 +26,4 @@ returns c =
     ok_then (around c.args.here.now) _ _ _ _ (c.in_ok-first.ensures (around c.args.here.now))
     (ok_then (around c.args.here.now) _ _ _ _ (c.in_ok-second.ensures (around c.args.here.now))
     (ok_then (around c.args.here.now) _ _ _ _ c.in_ok-compared.ensures
-    (ap Ok c.truth.ensures ∙ sym (given (around c.args.here.now) (word (o.truth c.in_ok-compared.field-0))))))
+    (ap (λ n. Ok (word n)) c.truth.ensures ∙ sym (given (around c.args.here.now) (word (o.truth c.in_ok-compared.field-0))))))
