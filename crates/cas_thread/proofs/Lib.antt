@@ -15,6 +15,7 @@ pub mod Top
 pub mod Placing
 pub mod Starts
 pub mod Once
+pub mod Passed
 pub mod Acts_of
 pub mod First_statement
 pub mod Lock_acts

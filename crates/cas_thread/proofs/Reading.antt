@@ -1,6 +1,6 @@
 -- What a row stands for that was read at its number.
 use Rattle.std.proofs.Common.{◌≡◌, ℕ, Bool, List, ◌∷◌, Option, Some, None, subst}
-use Rattle.std.specs.Prelude.{slice_get}
+use Rattle.std.specs.Prelude.{IfNone, slice_get}
 use Rattle.cas_base.specs.declared.place.Place.{Place}
 use Rattle.cas_typed.specs.declared.rows.StmtRow.{StmtRow}
 use Rattle.cas_typed.specs.declared.rows.StmtRowForm.{StmtRowForm}
@@ -28,3 +28,8 @@ pub next_none : (rows : List StmtRow) (xs : List code.Todo) (p : Place) (u : Typ
 next_none rows xs p absent o is it none part shows = shows
 next_none rows xs p (present a) None is it none part shows = absurd part
 next_none rows xs p (present a) (Some i) is it none part shows = absurd (cc none)
+
+-- what holds in any case holds where there is nothing
+pub if_none : {X : Type 0} (o : Option X) (T : Type 0) → T → IfNone o T
+if_none None T holds = holds
+if_none (Some x) T holds = tt

@@ -1,6 +1,6 @@
 //! The act of a thread's next step, without the step.
 
-ghost use Rattle.std.specs.Prelude.{◌≡◌, ◌∷◌, ℕ, List, Option, Some, reverse, true};
+ghost use Rattle.std.specs.Prelude.{◌≡◌, ◌∷◌, ℕ, List, Option, Some, reverse};
 ghost use Rattle.cas_base.specs.declared.act.Act.TheVariants as act;
 ghost use Rattle.cas_program.specs.Program.{env_of};
 ghost use Rattle.cas_step.specs.Answered.{got};
@@ -47,10 +47,7 @@ fn lock_act(items: &[Option<Entity>], item: u32) -> Option<Act>
     ensures { (e : Env) (h : step.Here) (rs : List ℕ) (todo : List todos.Todo) (s : step.Step) → AreEntities items.now e h
         → step.lock_step e h rs (step.entity_in e h item) act.Lock todo ≡ Some s → result ≡ Some s.act }
 {
-    match lock_of(items, item) {
-        Some(word) => Some(Act::Lock(word)),
-        None => None,
-    }
+    lock_of(items, item).map(Act::Lock)
 }
 
 // The act of giving back the lock that an item is, if it is one.
@@ -58,10 +55,7 @@ fn unlock_act(items: &[Option<Entity>], item: u32) -> Option<Act>
     ensures { (e : Env) (h : step.Here) (rs : List ℕ) (todo : List todos.Todo) (s : step.Step) → AreEntities items.now e h
         → step.lock_step e h rs (step.entity_in e h item) act.Unlock todo ≡ Some s → result ≡ Some s.act }
 {
-    match lock_of(items, item) {
-        Some(word) => Some(Act::Unlock(word)),
-        None => None,
-    }
+    lock_of(items, item).map(Act::Unlock)
 }
 
 // The act of a deed. None where it has no sense, as in no typed module.

@@ -21,10 +21,9 @@ ghost use Rattle.cas_thread.specs.Todos.{Shows};
 use crate::config::Frame;
 use crate::control::begin_each;
 use crate::first::first_row;
-use crate::take::entity_at;
 use crate::todo::Todo;
 use cas_base::NoMemory;
-use cas_eval::{Here, NoArguments, arguments};
+use cas_eval::{Here, NoArguments, arguments, entity_at};
 use cas_memory::{Entity, Value};
 use cas_typed::{Destination, StmtRow, StmtRowForm, Typed, TypedExpr, TypedFun};
 use std::alloc::Global;
@@ -94,12 +93,9 @@ pub(crate) fn evaluated(
 pub(crate) fn function_of(items: &[Option<Entity>], item: u32) -> Option<(u32, u32)>
     ensures { result ≡ function_place (entity_if (slice_get items.now item)) }
 {
-    match entity_at(items, item) {
-        Some(Entity::Function { unit, place }) => Some((unit, place)),
-        Some(Entity::Shared { .. }) => None,
-        Some(Entity::Lock(_)) => None,
-        Some(Entity::Table { .. }) => None,
-        None => None,
+    match entity_at(items, item)? {
+        Entity::Function { unit, place } => Some((unit, place)),
+        _ => None,
     }
 }
 
@@ -108,10 +104,8 @@ pub(crate) fn function_at(modules: &[Typed], unit: u32, place: u32) -> Option<&T
     ensures some { IfSome result (λ f. typed_at modules.now unit place ≡ Some f.now) }
     ensures none { IfNone result (typed_at modules.now unit place ≡ None) }
 {
-    match modules.get(unit as usize) {
-        Some(typed) => typed.functions().get(place as usize),
-        None => None,
-    }
+    let typed = modules.get(unit as usize)?;
+    typed.functions().get(place as usize)
 }
 
 /// A call of a function at its start, with room for all items that it can have to do at once.

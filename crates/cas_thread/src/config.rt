@@ -1,6 +1,6 @@
 //! Threads: their activations, each as a frame, and their memory.
 
-ghost use Rattle.std.specs.Prelude.{◌≡◌, ◌↔◌, ◌∷◌, IfNone, IsTrue, ℕ, IfSome, List, [], None, Some, option_map, reverse, vec_capacity, vec_len};
+ghost use Rattle.std.specs.Prelude.{◌≡◌, ◌↔◌, ◌∷◌, IsTrue, ℕ, List, [], None, Some, option_map, reverse, vec_capacity, vec_len};
 ghost use Rattle.cas_step.specs.Items as items;
 ghost use Rattle.cas_step.specs.Env.{Env};
 ghost use Rattle.cas_step.specs.Step as step;
@@ -9,7 +9,6 @@ ghost use Rattle.cas_typed.specs.declared.typed.Typed.{Typed};
 ghost use Rattle.cas_memory.specs.Values.{object_of, value_of};
 ghost use Rattle.cas_thread.specs.Control.{after};
 ghost use Rattle.cas_thread.specs.Frames.{AreFrames, AreThread, IsAThread, IsFrame, rows_at};
-ghost use Rattle.cas_thread.specs.Room.{HasRoom};
 ghost use Rattle.cas_thread.specs.Stepping.{IsTaken, gone, newest_serial};
 ghost use Rattle.cas_thread.specs.Thread.{IsThread};
 ghost use Rattle.cas_whole.specs.declared.program.Program.{Program};
@@ -63,31 +62,28 @@ pub(crate) fn rows_of(modules: &[Typed], unit: u32, place: u32) -> &[StmtRow]
 }
 
 // Goes on in a frame behind its first item.
-fn advance_frame(modules: &[Typed], frame: Frame, is: bool) -> Frame
+fn advance_frame(modules: &[Typed], frame: Frame, holds: bool) -> Frame
     requires { ∥ ((a : step.Activation) × IsFrame modules.now frame a) ∥₁ }
     ensures { (a : step.Activation) → IsFrame modules.now frame a
-        → IsFrame modules.now result (record { serial = a.serial; function = a.function; target = a.target; todo = after is a.todo }) }
+        → IsFrame modules.now result (record { serial = a.serial; function = a.function; target = a.target; todo = after holds a.todo }) }
 {
     let mut frame = frame;
     let rows = rows_of(modules, frame.unit, frame.place);
-    advance(rows, &mut frame.todo, is);
+    advance(rows, &mut frame.todo, holds);
     frame
 }
 
 /// Goes on in the newest frame behind its first item. It takes no memory.
-pub(crate) fn advance_newest(modules: &[Typed], frames: &mut Vec<Frame>, is: bool)
+pub(crate) fn advance_newest(modules: &[Typed], frames: &mut Vec<Frame>, holds: bool)
     requires { ∥ ((all : List step.Activation) × AreFrames modules.now (reverse frames.old.items) all) ∥₁ }
     ensures frames { (all : List step.Activation) → AreFrames modules.now (reverse frames.old.items) all
-        → AreFrames modules.now (reverse frames.new.items) (gone is all) }
+        → AreFrames modules.now (reverse frames.new.items) (gone holds all) }
     ensures len { vec_len frames.new ≡ vec_len frames.old }
     ensures room { vec_capacity frames.new ≡ vec_capacity frames.old }
 {
-    match frames.pop() {
-        Some(frame) => {
-            let next = advance_frame(modules, frame, is);
-            frames.push_reserved(next);
-        }
-        None => {}
+    if let Some(frame) = frames.pop() {
+        let next = advance_frame(modules, frame, holds);
+        frames.push_reserved(next);
     }
 }
 
@@ -96,21 +92,18 @@ impl Config {
     pub fn has_ended(&self) -> bool
         ensures { (program : Program) (c : step.Config) → IsThread program self.now c → IsTrue result ↔ (c.activations ≡ []) }
     {
-        match caller_of(&self.frames) {
-            Some(_) => false,
-            None => true,
-        }
+        caller_of(&self.frames).is_none()
     }
 
     /// Goes on in the newest call behind its first item. It takes no memory.
-    pub(crate) fn go_on(&mut self, modules: &[Typed], is: bool)
+    pub(crate) fn go_on(&mut self, modules: &[Typed], holds: bool)
         requires { ∥ IsAThread modules.now self.old ∥₁ }
         ensures goes { (h : step.Here) → AreThread modules.now self.old h.config → h.config.activations ≡ h.newest ∷ h.older
-            → AreThread modules.now self.new (thread_with h (doing h (after is h.newest.todo)) h.config.memory) }
+            → AreThread modules.now self.new (thread_with h (doing h (after holds h.newest.todo)) h.config.memory) }
         ensures len { vec_len self.new.frames ≡ vec_len self.old.frames }
         ensures room { vec_capacity self.new.frames ≡ vec_capacity self.old.frames }
     {
-        advance_newest(modules, &mut self.frames, is);
+        advance_newest(modules, &mut self.frames, holds);
     }
 
     /// Stores a value at a place of an object. Where there is no such place nothing changes.
@@ -186,8 +179,6 @@ impl Config {
 fn caller_of(frames: &[Frame]) -> Option<u64>
     ensures { (modules : List Typed) (all : List step.Activation) → AreFrames modules (reverse frames.now) all → result ≡ newest_serial all }
 {
-    match frames.split_last() {
-        Some((frame, _)) => Some(frame.serial),
-        None => None,
-    }
+    let (frame, _) = frames.split_last()?;
+    Some(frame.serial)
 }

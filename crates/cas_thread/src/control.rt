@@ -73,20 +73,25 @@ fn begin_some(rows: &[StmtRow], todo: &mut Vec<Todo>, part: Option<u32>)
     ensures room { vec_capacity todo.new ≡ vec_capacity todo.old }
     ensures len { vec_len todo.new ≤ vec_len todo.old + 1 }
 {
-    match part {
-        Some(number) => todo.push_reserved(Todo::Begin(number)),
-        None => {}
+    if let Some(number) = part {
+        todo.push_reserved(Todo::Begin(number));
     }
 }
 
 // One part or the other before the items.
-fn begin_either(rows: &[StmtRow], todo: &mut Vec<Todo>, first: u32, second: Option<u32>, is: bool)
+fn begin_either(
+    rows: &[StmtRow],
+    todo: &mut Vec<Todo>,
+    first: u32,
+    second: Option<u32>,
+    holds: bool,
+)
     requires room { vec_len todo.old + 1 ≤ vec_capacity todo.old }
     ensures shows { (a : TypedStmtTree) (o : TypedStmtOption) (it : List items.Todo) → IsAt rows.now first a → IsPart rows.now o second
-        → Shows rows.now (reverse todo.old.items) it → Shows rows.now (reverse todo.new.items) (either (begin a ∷ it) (begin_part o it) is) }
+        → Shows rows.now (reverse todo.old.items) it → Shows rows.now (reverse todo.new.items) (either (begin a ∷ it) (begin_part o it) holds) }
     ensures room { vec_capacity todo.new ≡ vec_capacity todo.old }
 {
-    if is {
+    if holds {
         todo.push_reserved(Todo::Begin(first));
     } else {
         begin_some(rows, todo, second);
@@ -94,14 +99,14 @@ fn begin_either(rows: &[StmtRow], todo: &mut Vec<Todo>, first: u32, second: Opti
 }
 
 // A turn of a `while` or `do`, or its end.
-fn turn(rows: &[StmtRow], todo: &mut Vec<Todo>, number: u32, body: u32, is: bool)
+fn turn(rows: &[StmtRow], todo: &mut Vec<Todo>, number: u32, body: u32, holds: bool)
     requires room { vec_len todo.old + 2 ≤ vec_capacity todo.old }
     ensures shows { (p : Place) (c : TypedExprTree) (a : TypedStmtTree) (it : List items.Todo) → At rows.now number (IsBegun rows.now p c a)
         → IsAt rows.now body a → Shows rows.now (reverse todo.old.items) it
-        → Shows rows.now (reverse todo.new.items) (either (begin a ∷ begun p c a ∷ it) it is) }
+        → Shows rows.now (reverse todo.new.items) (either (begin a ∷ begun p c a ∷ it) it holds) }
     ensures room { vec_capacity todo.new ≡ vec_capacity todo.old }
 {
-    if is {
+    if holds {
         todo.push_reserved(Todo::Begun(number));
         todo.push_reserved(Todo::Begin(body));
     }
@@ -120,15 +125,15 @@ fn begin_for(rows: &[StmtRow], todo: &mut Vec<Todo>, number: u32, first: Option<
 }
 
 // A turn of a `for`, or its end.
-fn turn_for(rows: &[StmtRow], todo: &mut Vec<Todo>, number: u32, body: u32, is: bool)
+fn turn_for(rows: &[StmtRow], todo: &mut Vec<Todo>, number: u32, body: u32, holds: bool)
     requires room { vec_len todo.old + 3 ≤ vec_capacity todo.old }
     ensures shows { (p : Place) (c : Option TypedExprTree) (u : TypedStmtOption) (a : TypedStmtTree) (it : List items.Todo)
         → At rows.now number (IsLoop rows.now p c u a) → At rows.now number (IsNext rows.now p u) → IsAt rows.now body a
         → Shows rows.now (reverse todo.old.items) it
-        → Shows rows.now (reverse todo.new.items) (either (begin a ∷ next p u ∷ loop p c u a ∷ it) it is) }
+        → Shows rows.now (reverse todo.new.items) (either (begin a ∷ next p u ∷ loop p c u a ∷ it) it holds) }
     ensures room { vec_capacity todo.new ≡ vec_capacity todo.old }
 {
-    if is {
+    if holds {
         todo.push_reserved(Todo::Loop(number));
         todo.push_reserved(Todo::Next(number));
         todo.push_reserved(Todo::Begin(body));
@@ -137,28 +142,22 @@ fn turn_for(rows: &[StmtRow], todo: &mut Vec<Todo>, number: u32, body: u32, is: 
 
 // What is left behind a statement, by its row.
 #[tactic(auto, using(crate::proofs::Beginning::rows_at))]
-fn begin_statement(rows: &[StmtRow], todo: &mut Vec<Todo>, number: u32, row: &StmtRow, is: bool)
+fn begin_statement(rows: &[StmtRow], todo: &mut Vec<Todo>, number: u32, row: &StmtRow, holds: bool)
     requires stands { slice_get rows.now number ≡ Some row.now }
     requires room { vec_len todo.old + room_for row.now.form ≤ vec_capacity todo.old }
     ensures shows { (a : TypedStmtTree) (it : List items.Todo) → IsRow rows.now number a row.now.place row.now.form → Shows rows.now (reverse todo.old.items) it
-        → Shows rows.now (reverse todo.new.items) (after_statement is a it) }
+        → Shows rows.now (reverse todo.new.items) (after_statement holds a it) }
     ensures room { vec_capacity todo.new ≡ vec_capacity todo.old }
 {
     match &row.form {
         StmtRowForm::Block(parts) => begin_each(rows, todo, parts.as_slice()),
-        StmtRowForm::If(_, first, second) => begin_either(rows, todo, *first, *second, is),
-        StmtRowForm::While(_, body) => turn(rows, todo, number, *body, is),
+        StmtRowForm::If(_, first, second) => begin_either(rows, todo, *first, *second, holds),
+        StmtRowForm::While(_, body) => turn(rows, todo, number, *body, holds),
         StmtRowForm::Do(body, _) => turn(rows, todo, number, *body, true),
         StmtRowForm::For(first, _, _, _) => begin_for(rows, todo, number, *first),
         StmtRowForm::Break => leave_loop(rows, todo),
         StmtRowForm::Continue => next_turn(rows, todo),
-        StmtRowForm::Skip => {}
-        StmtRowForm::Assign(_, _) => {}
-        StmtRowForm::Call(_, _, _, _) => {}
-        StmtRowForm::Return(_) => {}
-        StmtRowForm::Lock(_) => {}
-        StmtRowForm::Unlock(_) => {}
-        StmtRowForm::Print(_) => {}
+        _ => {}
     }
 }
 
@@ -204,84 +203,77 @@ fn turned_for(row: &StmtRow) -> Option<(Option<u32>, u32)>
 }
 
 // What is left behind the statement of this row.
-fn begin_at(rows: &[StmtRow], todo: &mut Vec<Todo>, number: u32, is: bool)
+fn begin_at(rows: &[StmtRow], todo: &mut Vec<Todo>, number: u32, holds: bool)
     requires room { (row : StmtRow) → slice_get rows.now number ≡ Some row → vec_len todo.old + room_for row.form ≤ vec_capacity todo.old }
     ensures shows { (a : TypedStmtTree) (it : List items.Todo) → IsAt rows.now number a → Shows rows.now (reverse todo.old.items) it
-        → Shows rows.now (reverse todo.new.items) (after_statement is a it) }
+        → Shows rows.now (reverse todo.new.items) (after_statement holds a it) }
     ensures room { vec_capacity todo.new ≡ vec_capacity todo.old }
 {
-    match row_at(rows, number) {
-        Some(row) => begin_statement(rows, todo, number, row, is),
-        None => {}
+    if let Some(row) = row_at(rows, number) {
+        begin_statement(rows, todo, number, row, holds);
     }
 }
 
 // A turn of the `while` or `do` of this row, or its end.
-fn turn_at(rows: &[StmtRow], todo: &mut Vec<Todo>, number: u32, is: bool)
+fn turn_at(rows: &[StmtRow], todo: &mut Vec<Todo>, number: u32, holds: bool)
     requires room { vec_len todo.old + 2 ≤ vec_capacity todo.old }
     ensures shows { (p : Place) (c : TypedExprTree) (a : TypedStmtTree) (it : List items.Todo) → At rows.now number (IsBegun rows.now p c a)
         → Shows rows.now (reverse todo.old.items) it
-        → Shows rows.now (reverse todo.new.items) (either (begin a ∷ begun p c a ∷ it) it is) }
+        → Shows rows.now (reverse todo.new.items) (either (begin a ∷ begun p c a ∷ it) it holds) }
     ensures room { vec_capacity todo.new ≡ vec_capacity todo.old }
 {
-    match row_at(rows, number) {
-        Some(row) => match turned(row) {
-            Some(body) => turn(rows, todo, number, body, is),
-            None => {}
-        },
-        None => {}
+    if let Some(row) = row_at(rows, number) {
+        if let Some(body) = turned(row) {
+            turn(rows, todo, number, body, holds);
+        }
     }
 }
 
 // A turn of the `for` of this row, or its end.
-fn turn_for_at(rows: &[StmtRow], todo: &mut Vec<Todo>, number: u32, is: bool)
+fn turn_for_at(rows: &[StmtRow], todo: &mut Vec<Todo>, number: u32, holds: bool)
     requires room { vec_len todo.old + 3 ≤ vec_capacity todo.old }
     ensures shows { (p : Place) (c : Option TypedExprTree) (u : TypedStmtOption) (a : TypedStmtTree) (it : List items.Todo)
         → At rows.now number (IsLoop rows.now p c u a) → Shows rows.now (reverse todo.old.items) it
-        → Shows rows.now (reverse todo.new.items) (either (begin a ∷ next p u ∷ loop p c u a ∷ it) it is) }
+        → Shows rows.now (reverse todo.new.items) (either (begin a ∷ next p u ∷ loop p c u a ∷ it) it holds) }
     ensures room { vec_capacity todo.new ≡ vec_capacity todo.old }
 {
-    match row_at(rows, number) {
-        Some(row) => match turned_for(row) {
-            Some((_, body)) => turn_for(rows, todo, number, body, is),
-            None => {}
-        },
-        None => {}
+    if let Some(row) = row_at(rows, number) {
+        if let Some((_, body)) = turned_for(row) {
+            turn_for(rows, todo, number, body, holds);
+        }
     }
 }
 
 // What a `for` does after a turn.
-fn next_at(rows: &[StmtRow], todo: &mut Vec<Todo>, number: u32, is: bool)
+fn next_at(rows: &[StmtRow], todo: &mut Vec<Todo>, number: u32, holds: bool)
     requires room { (row : StmtRow) (i : ℕ) → IsNextAt rows.now number i → slice_get rows.now i ≡ Some row → vec_len todo.old + room_for row.form ≤ vec_capacity todo.old }
     ensures shows { (p : Place) (u : TypedStmtOption) (it : List items.Todo) → At rows.now number (IsNext rows.now p u) → Shows rows.now (reverse todo.old.items) it
-        → Shows rows.now (reverse todo.new.items) (after is (next p u ∷ it)) }
+        → Shows rows.now (reverse todo.new.items) (after holds (next p u ∷ it)) }
     ensures room { vec_capacity todo.new ≡ vec_capacity todo.old }
 {
-    match row_at(rows, number) {
-        Some(row) => match turned_for(row) {
-            Some((Some(next), _)) => begin_at(rows, todo, next, is),
+    if let Some(row) = row_at(rows, number) {
+        match turned_for(row) {
+            Some((Some(next), _)) => begin_at(rows, todo, next, holds),
             Some((None, _)) => {}
             None => {}
-        },
-        None => {}
+        }
     }
 }
 
 /// Removes the first item, and puts in front of the others what follows on it, where its condition, if it has one, comes to
 /// this. It takes no memory.
-pub(crate) fn advance(rows: &[StmtRow], todo: &mut Vec<Todo>, is: bool)
+pub(crate) fn advance(rows: &[StmtRow], todo: &mut Vec<Todo>, holds: bool)
     requires room { ∥ HasRoom rows.now (vec_capacity todo.old) (reverse todo.old.items) ∥₁ }
-    ensures shows { (it : List items.Todo) → Shows rows.now (reverse todo.old.items) it → Shows rows.now (reverse todo.new.items) (after is it) }
+    ensures shows { (it : List items.Todo) → Shows rows.now (reverse todo.old.items) it → Shows rows.now (reverse todo.new.items) (after holds it) }
     ensures room { vec_capacity todo.new ≡ vec_capacity todo.old }
 {
-    match todo.pop() {
-        Some(item) => match item {
-            Todo::Begin(number) => begin_at(rows, todo, number, is),
-            Todo::Begun(number) => turn_at(rows, todo, number, is),
-            Todo::Loop(number) => turn_for_at(rows, todo, number, is),
-            Todo::Next(number) => next_at(rows, todo, number, is),
-        },
-        None => {}
+    if let Some(item) = todo.pop() {
+        match item {
+            Todo::Begin(number) => begin_at(rows, todo, number, holds),
+            Todo::Begun(number) => turn_at(rows, todo, number, holds),
+            Todo::Loop(number) => turn_for_at(rows, todo, number, holds),
+            Todo::Next(number) => next_at(rows, todo, number, holds),
+        }
     }
 }
 
@@ -290,11 +282,6 @@ pub(crate) fn next_part(rows: &[StmtRow], number: u32) -> Option<Option<u32>>
     ensures some { IfSome result (λ part. (p : Place) (u : TypedStmtOption) → At rows.now number (IsNext rows.now p u) → IsPart rows.now u part) }
     ensures none { IfNone result ((p : Place) (u : TypedStmtOption) → ¬ (At rows.now number (IsNext rows.now p u))) }
 {
-    match row_at(rows, number) {
-        Some(row) => match turned_for(row) {
-            Some((next, _)) => Some(next),
-            None => None,
-        },
-        None => None,
-    }
+    let (next, _) = turned_for(row_at(rows, number)?)?;
+    Some(next)
 }

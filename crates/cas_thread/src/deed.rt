@@ -20,9 +20,8 @@ ghost use Rattle.cas_thread.specs.Todos.{IsAt, IsBegun, IsLoop, IsNext, Shows};
 use crate::control::{next_part, row_at};
 use crate::first::first_item;
 use crate::todo::Todo;
-use crate::values::word_in;
 use cas_base::Ty;
-use cas_eval::{Cell, Here, NoResult, evaluate, target_cell, test};
+use cas_eval::{Cell, Here, NoResult, evaluate, target_cell, test, word_in};
 use cas_memory::{Object, Value};
 use cas_typed::{StmtRow, StmtRowForm, TypedExpr, TypedTarget};
 

@@ -2,7 +2,6 @@
 
 ghost use Rattle.std.specs.Prelude.{◌≡◌, ◌∷◌, ℕ, List, Some, None, true, IfOk, OnErr, map};
 ghost use Rattle.cas_base.specs.declared.act.Act.TheVariants as act;
-ghost use Rattle.cas_step.specs.Env.{FunctionAt};
 ghost use Rattle.cas_step.specs.Fits.{IsAt};
 ghost use Rattle.cas_step.specs.Step as step;
 ghost use Rattle.cas_step.specs.Step.{doing, step_to, with_call};

@@ -16,10 +16,8 @@ pub(crate) fn first_item(todo: &[Todo]) -> Option<Todo>
     ensures some { IfSome result (λ it. (rest : List code.Todo) × (reverse todo.now ≡ it ∷ rest)) }
     ensures none { IfNone result (reverse todo.now ≡ []) }
 {
-    match todo.split_last() {
-        Some((item, _)) => Some(*item),
-        None => None,
-    }
+    let (item, _) = todo.split_last()?;
+    Some(*item)
 }
 
 // The number of the row of the first item's statement, if it has one.

@@ -24,7 +24,6 @@ mod step;
 mod take;
 mod thread;
 mod todo;
-mod values;
 
 pub use acting::act_of;
 pub use config::Config;

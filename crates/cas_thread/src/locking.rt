@@ -39,14 +39,8 @@ fn first_locked(rows: &[StmtRow], todo: &[Todo]) -> Option<u32>
 pub fn next_lock(program: &Program, config: &Config) -> Option<u32>
     ensures { (words : List ℕ) → Steps program.now config.now words (λ s. result ≡ lock_taken s.act) }
 {
-    match newest(config) {
-        Some(frame) => {
-            let rows = rows_of(program.modules(), frame.unit, frame.place);
-            match first_locked(rows, frame.todo.as_slice()) {
-                Some(item) => lock_of(program.items(frame.unit), item),
-                None => None,
-            }
-        }
-        None => None,
-    }
+    let frame = newest(config)?;
+    let rows = rows_of(program.modules(), frame.unit, frame.place);
+    let item = first_locked(rows, frame.todo.as_slice())?;
+    lock_of(program.items(frame.unit), item)
 }

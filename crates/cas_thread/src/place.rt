@@ -22,10 +22,7 @@ use cas_whole::Program;
 fn place_at(rows: &[StmtRow], number: u32) -> Option<Place>
     ensures { result ≡ option_map (λ row. row.place) (slice_get rows.now number) }
 {
-    match row_at(rows, number) {
-        Some(row) => Some(row.place),
-        None => None,
-    }
+    Some(row_at(rows, number)?.place)
 }
 
 // The place of the step of what a `for` does after a turn, if it is one.
@@ -33,12 +30,9 @@ fn place_at(rows: &[StmtRow], number: u32) -> Option<Place>
 fn next_place(rows: &[StmtRow], number: u32) -> Option<Place>
     ensures { (closing : Place) (rest : List code.Todo) (it : List items.Todo) → Shows rows.now (Next number ∷ rest) it → result ≡ Some (place_among closing it) }
 {
-    match next_part(rows, number) {
-        Some(part) => match part {
-            Some(next) => place_at(rows, next),
-            None => place_at(rows, number),
-        },
-        None => None,
+    match next_part(rows, number)? {
+        Some(next) => place_at(rows, next),
+        None => place_at(rows, number),
     }
 }
 

@@ -25,10 +25,7 @@ use std::alloc::Global;
 fn entry_at(entries: &[(u32, u32)], thread: u32) -> Option<(u32, u32)>
     ensures { result ≡ slice_get entries.now thread }
 {
-    match entries.get(thread as usize) {
-        Some(at) => Some(*at),
-        None => None,
-    }
+    entries.get(thread as usize).copied()
 }
 
 // A thread at the start of this function, which stands there, with its number as the argument.

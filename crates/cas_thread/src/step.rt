@@ -52,10 +52,8 @@ pub(crate) fn newest(config: &Config) -> Option<&Frame>
     ensures some { IfSome result (λ f. (rest : List code.Frame) × (reverse config.now.frames.items ≡ f.now ∷ rest)) }
     ensures none { IfNone result (reverse config.now.frames.items ≡ []) }
 {
-    match config.frames.split_last() {
-        Some((frame, _)) => Some(frame),
-        None => None,
-    }
+    let (frame, _) = config.frames.split_last()?;
+    Some(frame)
 }
 
 /// What comes first in a thread: the deed of its newest call's first item, a call or a jump, or why there is nothing.
@@ -172,20 +170,12 @@ fn call(program: &Program, config: &mut Config, words: &[u32]) -> Result<Option<
         Ok(ready) => {
             let items = items_of(program, config);
             match function_of(items, ready.item) {
-                Some(at) => {
-                    match config.enter(modules, at, ready.kept, ready.values.as_slice()) {
-                        Ok(done) => Ok(done),
-                        Err(_) => Err(NoMemory),
-                    }
-                }
+                Some(at) => config.enter(modules, at, ready.kept, ready.values.as_slice()),
                 None => Ok(None),
             }
         }
         Err(why) => match why {
-            NoArguments::Memory => match call_without_room(program, config, words) {
-                Ok(done) => Ok(done),
-                Err(_) => Err(NoMemory),
-            },
+            NoArguments::Memory => call_without_room(program, config, words),
             NoArguments::OfValue(why) => match why {
                 NoResult::Bad(why) => Ok(Some(Act::Bad(why))),
                 NoResult::Stuck => Ok(None),
@@ -223,10 +213,7 @@ pub(crate) fn step_in(
                 config.go_on(modules, true);
                 Ok(Some(Act::Quiet))
             }
-            First::Call => match call(program, config, words) {
-                Ok(done) => Ok(done),
-                Err(_) => Err(NoMemory),
-            },
+            First::Call => call(program, config, words),
         },
         Err(why) => match why {
             NoResult::Bad(why) => Ok(Some(Act::Bad(why))),

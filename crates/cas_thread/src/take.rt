@@ -1,12 +1,12 @@
 //! Deeds done: what a step leaves of a thread and of the words.
 
-ghost use Rattle.std.specs.Prelude.{◌≡◌, ◌∷◌, ℕ, List, Some, None, option_map, slice_get, slice_set, true, false};
+ghost use Rattle.std.specs.Prelude.{◌≡◌, ℕ, List, Some, None, slice_get, slice_set, true, false};
 ghost use Rattle.cas_base.specs.declared.act.Act.TheVariants as act;
 ghost use Rattle.cas_step.specs.Answered.{got};
 ghost use Rattle.cas_step.specs.Env.{Env};
 ghost use Rattle.cas_step.specs.Step as step;
 ghost use Rattle.cas_step.specs.Step.{step_doing};
-ghost use Rattle.cas_memory.specs.Entities.{entity_if, entity_of};
+ghost use Rattle.cas_memory.specs.Entities.{entity_if};
 ghost use Rattle.cas_thread.specs.Control.{after};
 ghost use Rattle.cas_thread.specs.Deeds.{deed_with};
 ghost use Rattle.cas_thread.specs.Frames.{IsAThread};
@@ -15,30 +15,17 @@ ghost use Rattle.cas_thread.specs.Stepping.{IsStep, Stands, lock_word, shared_wo
 use crate::config::Config;
 use crate::deed::Deed;
 use cas_base::Act;
+use cas_eval::entity_at;
 use cas_memory::Entity;
 use cas_typed::Typed;
-
-/// What an item stands for.
-#[tactic(auto, using(crate::proofs::Getting::get_there, crate::proofs::Getting::get_past))]
-pub(crate) fn entity_at(items: &[Option<Entity>], item: u32) -> Option<Entity>
-    ensures { option_map entity_of result ≡ entity_if (slice_get items.now item) }
-{
-    match items.get(item as usize) {
-        Some(entity) => *entity,
-        None => None,
-    }
-}
 
 /// The word of the lock that an item is, if it is one.
 pub(crate) fn lock_of(items: &[Option<Entity>], item: u32) -> Option<u32>
     ensures { result ≡ lock_word (entity_if (slice_get items.now item)) }
 {
-    match entity_at(items, item) {
-        Some(Entity::Lock(word)) => Some(word),
-        Some(Entity::Function { .. }) => None,
-        Some(Entity::Shared { .. }) => None,
-        Some(Entity::Table { .. }) => None,
-        None => None,
+    match entity_at(items, item)? {
+        Entity::Lock(word) => Some(word),
+        _ => None,
     }
 }
 
@@ -46,12 +33,9 @@ pub(crate) fn lock_of(items: &[Option<Entity>], item: u32) -> Option<u32>
 fn number_of(items: &[Option<Entity>], item: u32, place: u32) -> Option<usize>
     ensures { result ≡ shared_word (entity_if (slice_get items.now item)) place }
 {
-    match entity_at(items, item) {
-        Some(Entity::Shared { first, .. }) => Some(first as usize + place as usize),
-        Some(Entity::Function { .. }) => None,
-        Some(Entity::Lock(_)) => None,
-        Some(Entity::Table { .. }) => None,
-        None => None,
+    match entity_at(items, item)? {
+        Entity::Shared { first, .. } => Some(first as usize + place as usize),
+        _ => None,
     }
 }
 
@@ -79,14 +63,10 @@ impl Config {
             → step.global_step e h rs (step.entity_in e h target.0) target.1 word (after true h.newest.todo) ≡ Some s
             → IsStep modules.now result self.new words.new s }
     {
-        match number_of(items, target.0, target.1) {
-            Some(number) => {
-                put(words, number, word);
-                self.go_on(modules, true);
-                Some(Act::Quiet)
-            }
-            None => None,
-        }
+        let number = number_of(items, target.0, target.1)?;
+        put(words, number, word);
+        self.go_on(modules, true);
+        Some(Act::Quiet)
     }
 
     // Goes on with an act on the lock that an item is.
@@ -105,16 +85,12 @@ impl Config {
             → step.lock_step e h rs (step.entity_in e h item) act.Unlock (after true h.newest.todo) ≡ Some s
             → IsStep modules.now result self.new words s }
     {
-        match lock_of(items, item) {
-            Some(word) => {
-                self.go_on(modules, true);
-                if takes {
-                    Some(Act::Lock(word))
-                } else {
-                    Some(Act::Unlock(word))
-                }
-            }
-            None => None,
+        let word = lock_of(items, item)?;
+        self.go_on(modules, true);
+        if takes {
+            Some(Act::Lock(word))
+        } else {
+            Some(Act::Unlock(word))
         }
     }
 
@@ -132,8 +108,8 @@ impl Config {
             → IsStep modules.now result self.new words.new s }
     {
         match deed {
-            Deed::Goes(is) => {
-                self.go_on(modules, is);
+            Deed::Goes(holds) => {
+                self.go_on(modules, holds);
                 Some(Act::Quiet)
             }
             Deed::Stores(object, place, value) => {

@@ -37,11 +37,8 @@ pub fn thread_step(
 {
     sound_threads_step();
     programs_suit();
-    match step_in(program, config, shared.words.as_mut_slice()) {
-        Ok(done) => match done {
-            Some(done) => Ok(done),
-            None => unreachable!(),
-        },
-        Err(_) => Err(NoMemory),
+    match step_in(program, config, shared.words.as_mut_slice())? {
+        Some(done) => Ok(done),
+        None => unreachable!(),
     }
 }

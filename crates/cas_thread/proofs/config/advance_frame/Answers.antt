@@ -22,7 +22,7 @@ returns c = λ a is.
       function = is.function;
       there = is.there;
       target = is.target;
-      todo = subst (λ rs. Shows rs (reverse c.advance.new.todo.items) (after c.args.is a.todo)) rows
+      todo = subst (λ rs. Shows rs (reverse c.advance.new.todo.items) (after c.args.holds a.todo)) rows
           (c.advance.ensures.shows a.todo (subst (λ rs. Shows rs (reverse c.args.frame.todo.items) a.todo) (sym rows) is.todo));
-      room = subst (λ n. Fits n (after c.args.is a.todo)) (sym c.advance.ensures.room) (after_fits (vec_capacity c.args.frame.todo) c.args.is a.todo is.room);
+      room = subst (λ n. Fits n (after c.args.holds a.todo)) (sym c.advance.ensures.room) (after_fits (vec_capacity c.args.frame.todo) c.args.holds a.todo is.room);
     }

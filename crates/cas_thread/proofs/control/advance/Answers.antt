@@ -43,4 +43,4 @@ pub returns-in-Next-clause-shows : goal.returns-in-Next-clause-shows
 returns-in-Next-clause-shows c =
     let new = c.pop.new.self in
     let popped : c.args.todo.now.items ≡ new.items ++ Next c.in-Next.number ∷ [] = c.in-Some.ensures.items ∙ ap (λ it. new.items ++ it ∷ []) c.in-Next.is in
-    next_shown c.args.rows.now c.in-Next.number c.args.todo.now.items new.items (reverse c.next_at.new.todo.items) c.args.is popped c.next_at.ensures.shows
+    next_shown c.args.rows.now c.in-Next.number c.args.todo.now.items new.items (reverse c.next_at.new.todo.items) c.args.holds popped c.next_at.ensures.shows

@@ -8,8 +8,8 @@ returns-in-Some-turned-clause-shows c = λ p t a it at shows.
     let row = at_this rows c.args.number c.in-Some.row.now (IsBegun rows p t a) c.in-Some.ensures.some at in
     c.turn.ensures.shows p t a it at (c.in-Some-turned.ensures.some rows p t a row) shows
 
-pub returns-in-None-turned-clause-shows : goal.returns-in-None-turned-clause-shows
-returns-in-None-turned-clause-shows c = λ p t a it at shows.
+pub returns-in_default-turned-clause-shows : goal.returns-in_default-turned-clause-shows
+returns-in_default-turned-clause-shows c = λ p t a it at shows.
     let rows = c.args.rows.now in
     let row = at_this rows c.args.number c.in-Some.row.now (IsBegun rows p t a) c.in-Some.ensures.some at in
-    absurd (c.in-None-turned.ensures.none rows p t a row)
+    absurd (c.in_default-turned.ensures.none rows p t a row)

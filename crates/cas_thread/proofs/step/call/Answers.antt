@@ -15,6 +15,7 @@ use Rattle.cas_thread.specs.Calls.{IsReady, function_place}
 use Rattle.cas_thread.specs.Control.{after}
 use Rattle.cas_thread.specs.Frames.{AreThread}
 use Rattle.cas_thread.proofs.Doing.{Deeds, does_step, bad_steps, never_stuck}
+use Rattle.cas_thread.proofs.Passed.{ok_so, on_err}
 use Rattle.cas_thread.proofs.Entering.{called_step, called_nowhere}
 use Rattle.cas_thread.proofs.Lock_acts.{call_act}
 use Rattle.cas_thread.proofs.step.call.Goals as goal
@@ -24,8 +25,8 @@ enter-requires c = ∥∥₁_map c.requires
     (λ (w : (ms : List TypedModuleTree) × (names : List (List ℕ)) × (k : Config) × IsProgramOf c.args.program.now ms names × AreThread c.args.program.now.modules c.args.config.now k).
     (w.2, subst (λ (ts : List Typed). AreThread ts c.args.config.now w.2) (sym c.modules-modules.ensures) w.4))
 
-pub returns-in-Ok-enter-clause-taken : goal.returns-in-Ok-enter-clause-taken
-returns-in-Ok-enter-clause-taken c = λ ms names h s program thread is words begins steps.
+pub returns-in-Some-clause-taken : goal.returns-in-Some-clause-taken
+returns-in-Some-clause-taken c = ok_so c.enter.result _ _ (λ done entered ms names h s program thread is words begins steps.
     let e = env_of ms in
     let left = after true h.newest.todo in
     let ready = c.in-Ok.ready in
@@ -41,8 +42,8 @@ returns-in-Ok-enter-clause-taken c = λ ms names h s program thread is words beg
     let stands = subst (λ (ts : List Typed). AreThread ts c.args.config.now h.config) (sym mods) thread in
     let values = ap (map value_of) (sym c.as_slice.ensures.value) in
     let step = subst (λ (us : List (Value Object)). step_to e h w.0 act.Quiet (with_call e (doing h left) h.config.memory h.config.fresh (stands_at c.in-Some.at) us ready.kept) ≡ s) values x.1 in
-    let taken = c.in-Ok-enter.ensures.taken ms h w.0 s y.0 y.1 typed stands is y.2 step in
-    (taken.0, subst (λ (ts : List Typed). AreThread ts c.enter.new.self s.next) mods taken.1, words ∙ ap (λ (z : Step). z.words) x.1)
+    let taken = entered ms h w.0 s y.0 y.1 typed stands is y.2 step in
+    (taken.0, subst (λ (ts : List Typed). AreThread ts c.enter.new.self s.next) mods taken.1, words ∙ ap (λ (z : Step). z.words) x.1)) c.enter.ensures.taken
 
 pub returns-in-Ok-clause-taken : goal.returns-in-Ok-clause-taken
 returns-in-Ok-clause-taken c = λ ms names h s program thread is words begins steps.
@@ -69,10 +70,10 @@ returns-in-Bad-clause-taken c = λ ms names h s program thread is words begins s
     bad_steps e h s c.args.program.now.modules c.args.config.now c.args.words.now c.in-Bad.why thread words (fails ∙ ap Err c.in-Bad.is) steps
 
 pub returns-in-Some-clause-quiet : goal.returns-in-Some-clause-quiet
-returns-in-Some-clause-quiet c = λ ms names h s program thread is words begins steps.
+returns-in-Some-clause-quiet c = on_err c.enter.result _ (λ ms names h s program thread is words begins steps.
     let e = env_of ms in
     let left = after true h.newest.todo in
     let ready = c.in-Ok.ready in
     let vs = map value_of ready.values.items in
     let w = does_step e h s (calls ready.item vs ready.kept left) (c.in-Ok.ensures ms names h program thread is words begins) steps in
-    sym (call_act e h s w.0 (entity_in e h ready.item) vs ready.kept left w.1)
+    sym (call_act e h s w.0 (entity_in e h ready.item) vs ready.kept left w.1))

@@ -1,9 +1,6 @@
 use Rattle.std.proofs.Common.{ℕ, Bool, List, Ok, Err, sym, subst}
 use Rattle.std.proofs.Math.Logic.{∥∥₁_map}
-use Rattle.cas_step.specs.Items.{deed_of}
-use Rattle.cas_step.specs.Step.{Config, sight_of}
-use Rattle.cas_eval.specs.Answer.{answer}
-use Rattle.cas_thread.specs.Around.{around_in}
+use Rattle.cas_step.specs.Step.{Config}
 use Rattle.cas_program.specs.Program.{env_of}
 use Rattle.cas_typed.specs.Resolved.{TypedModuleTree}
 use Rattle.cas_typed.specs.declared.typed.Typed.{Typed}
@@ -15,6 +12,7 @@ use Rattle.cas_thread.specs.Stepping.{IsStep, Stands}
 use Rattle.cas_thread.specs.declared.deed.First.{First}
 use Rattle.cas_eval.specs.declared.values.NoResult.{NoResult}
 use Rattle.cas_thread.proofs.Doing.{Deeds, does_step, bad_steps, never_stuck}
+use Rattle.cas_thread.proofs.Passed.{err_so, ok_so}
 use Rattle.cas_thread.proofs.step.step_in.Goals as goal
 
 pub take-requires : goal.take-requires
@@ -41,12 +39,6 @@ returns-in-Does-clause-taken c = λ ms names h s program thread is words steps.
     } in
     subst (λ (ts : List Typed). IsStep ts c.take.result c.take.new.self c.take.new.words s) c.modules-modules.ensures (c.take.ensures e h w.0 s stands w.1)
 
-pub returns-in-Err-call-clause-calls : goal.returns-in-Err-call-clause-calls
-returns-in-Err-call-clause-calls c = λ ms names h program thread is words.
-    let left = λ (truth : Bool). after truth h.newest.todo in
-    subst (λ (x : First). IsFirst (answer (around_in (env_of ms) h) (deed_of (sight_of (env_of ms) h) ((env_of ms).function h.newest.function).ret h.newest.todo)) left (Begins IsCall h.newest.todo) (Begins IsJump h.newest.todo) (Ok x))
-    c.in-Call.is (c.in-Ok.ensures ms names h program thread is words)
-
 pub returns-in-Bad-clause-taken : goal.returns-in-Bad-clause-taken
 returns-in-Bad-clause-taken c = λ ms names h s program thread is words steps.
     let e = env_of ms in
@@ -61,15 +53,15 @@ returns-in-Stuck-clause-taken c = λ ms names h s program thread is words steps.
     let comes = subst (λ (x : NoResult). IsFirst (Deeds e h s) left (Begins IsCall h.newest.todo) (Begins IsJump h.newest.todo) (Err x)) c.in-Stuck.is (c.in-Err.ensures ms names h program thread is words) in
     absurd (never_stuck e h s comes steps)
 
-pub returns-in-Ok-call-clause-taken : goal.returns-in-Ok-call-clause-taken
-returns-in-Ok-call-clause-taken c = λ ms names h s program thread is words steps.
+pub returns-in-Call-clause-taken : goal.returns-in-Call-clause-taken
+returns-in-Call-clause-taken c = ok_so c.call.result _ _ (λ done called ms names h s program thread is words steps.
     let e = env_of ms in
     let left = λ (truth : Bool). after truth h.newest.todo in
     let begins = subst (λ (x : First). IsFirst (Deeds e h s) left (Begins IsCall h.newest.todo) (Begins IsJump h.newest.todo) (Ok x)) c.in-Call.is (c.in-Ok.ensures ms names h program thread is words) in
-    c.in-Ok-call.ensures.taken ms names h s program thread is words begins steps
+    called ms names h s program thread is words begins steps) c.call.ensures.taken
 
-pub returns-in-Err-call-clause-quiet : goal.returns-in-Err-call-clause-quiet
-returns-in-Err-call-clause-quiet c = λ ms names h s program thread is words steps.
+pub returns-in-Call-clause-quiet : goal.returns-in-Call-clause-quiet
+returns-in-Call-clause-quiet c = err_so c.call.result _ _ (λ called ms names h s program thread is words steps.
     let left = λ (truth : Bool). after truth h.newest.todo in
     let begins = subst (λ (x : First). IsFirst (Deeds (env_of ms) h s) left (Begins IsCall h.newest.todo) (Begins IsJump h.newest.todo) (Ok x)) c.in-Call.is (c.in-Ok.ensures ms names h program thread is words) in
-    c.in-Err-call.ensures.quiet ms names h s program thread is words begins steps
+    called ms names h s program thread is words begins steps) c.call.ensures.quiet

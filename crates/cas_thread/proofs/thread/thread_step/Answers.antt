@@ -4,6 +4,7 @@ use Rattle.std.proofs.lemmas.List.{with_items_is}
 use Rattle.cas_program.specs.Program.{env_of}
 use Rattle.cas_step.specs.Step.{Here}
 use Rattle.cas_thread.specs.Thread.{Stands}
+use Rattle.cas_thread.proofs.Passed.{on_err}
 use Rattle.cas_thread.proofs.Top.{newest_of, step_at}
 use Rattle.cas_thread.proofs.thread.thread_step.Goals as goal
 
@@ -18,31 +19,31 @@ unreachable-requires c =
     let suits = c.programs_suit.ensures w.modules w.names w.is_program.program in
     let next = c.sound_threads_step.ensures w.modules e ws w.c w.newest w.older suits w.sound w.words w.going in
     let h : Here = record { config = w.c; newest = w.newest; older = w.older; words = ws } in
-    let taken = c.in-Ok.ensures.taken w.modules w.names h next.0 w.is_program w.is_thread w.going c.as_mut_slice.ensures.value (step_at e ws w.c w.newest w.older next.0 w.going next.1) in
+    let taken = c.in_ok-done.ensures.taken w.modules w.names h next.0 w.is_program w.is_thread w.going c.as_mut_slice.ensures.value (step_at e ws w.c w.newest w.older next.0 w.going next.1) in
     let is = taken.0 in
     cc (c.in-None.is, is))
 
-pub returns-in-Some-clause-taken : goal.returns-in-Some-clause-taken
-returns-in-Some-clause-taken c = λ ms names k s program thread steps.
+pub returns-clause-taken : goal.returns-clause-taken
+returns-clause-taken c = λ ms names k s program thread steps.
     let ws = c.args.shared.now.words.items in
     let e = env_of ms in
     let n = newest_of e ws k s steps in
     let h : Here = record { config = k; newest = n.0; older = n.1; words = ws } in
-    let taken = c.in-Ok.ensures.taken ms names h s program thread n.2 c.as_mut_slice.ensures.value (step_at e ws k n.0 n.1 s n.2 steps) in
+    let taken = c.in_ok-done.ensures.taken ms names h s program thread n.2 c.as_mut_slice.ensures.value (step_at e ws k n.0 n.1 s n.2 steps) in
     let act = taken.0 in
     let done : c.in-Some.done ≡ s.act = cc (c.in-Some.is, act) in
     (done, taken.1, with_items_is c.args.shared.now.words c.step_in.new.words (omega (arith, c.step_in.auto.words, c.as_mut_slice.ensures.len, c.args.shared.now.words.ok.0)) ∙ taken.2)
 
-pub returns-in-Err-clause-calls : goal.returns-in-Err-clause-calls
-returns-in-Err-clause-calls c = λ ms names k a older program thread going.
+pub returns-in_err-done-clause-calls : goal.returns-in_err-done-clause-calls
+returns-in_err-done-clause-calls c = on_err c.from_residual.result _ (λ ms names k a older program thread going.
     let ws = c.args.shared.now.words.items in
     let h : Here = record { config = k; newest = a; older = older; words = ws } in
-    c.in-Err.ensures.calls ms names h program thread going c.as_mut_slice.ensures.value
+    c.in_err-done.ensures.calls ms names h program thread going c.as_mut_slice.ensures.value)
 
-pub returns-in-Err-clause-quiet : goal.returns-in-Err-clause-quiet
-returns-in-Err-clause-quiet c = λ ms names k s program thread steps.
+pub returns-in_err-done-clause-quiet : goal.returns-in_err-done-clause-quiet
+returns-in_err-done-clause-quiet c = on_err c.from_residual.result _ (λ ms names k s program thread steps.
     let ws = c.args.shared.now.words.items in
     let e = env_of ms in
     let n = newest_of e ws k s steps in
     let h : Here = record { config = k; newest = n.0; older = n.1; words = ws } in
-    c.in-Err.ensures.quiet ms names h s program thread n.2 c.as_mut_slice.ensures.value (step_at e ws k n.0 n.1 s n.2 steps)
+    c.in_err-done.ensures.quiet ms names h s program thread n.2 c.as_mut_slice.ensures.value (step_at e ws k n.0 n.1 s n.2 steps))
