@@ -122,11 +122,14 @@ one_first (n ∷ ns) (t ∷ ts) line other (inr h) (inr k) = one_first ns ts lin
 same_link : (f g : LinkFault) → Some f ≡ Some g → f ≡ g
 same_link f g h = cc
 
+same_line : (line other : List ℕ) → Some line ≡ Some other → line ≡ other
+same_line line other h = cc
+
 one_unlinked : (w : World) (texts : List (List ℕ)) (line other : List ℕ) → RefusesProgram w texts line → RefusesProgram w texts other → line ≡ other
 one_unlinked w texts line other h k =
     let same = one_modules texts h.modules k.modules h.read k.read in
     let fault = same_link h.fault k.fault (sym h.refused ∙ ap (λ ms. first_refusal (units_of ms) w.threads) same ∙ k.refused) in
-    h.told ∙ ap link_fault_line fault ∙ sym k.told
+    same_line line other (sym h.told ∙ ap link_fault_line fault ∙ k.told)
 
 -- on the same texts a command is refused with one line and status
 one_refusal : (c : Command) (texts : List (List ℕ)) (s t : ℕ) (line other : List ℕ) → Plans c texts (refuses s line) → Plans c texts (refuses t other) → (s ≡ t) × (line ≡ other)

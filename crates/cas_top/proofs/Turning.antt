@@ -1,5 +1,5 @@
 -- How modules are checked and joined, and how threads take turns.
-use Rattle.std.proofs.Common.{◌≡◌, ℕ, zero, suc, ◌+◌, ◌<◌, true, List, [], ◌∷◌, ◌++◌, length, map, get_or, Some, Ok, Err, ◌≢◌, refl, sym, ap, ◌∙◌, inl, inr, subst, append-nil, append_assoc, arith}
+use Rattle.std.proofs.Common.{◌≡◌, ℕ, zero, suc, ◌+◌, ◌<◌, true, List, [], ◌∷◌, ◌++◌, length, map, get_or, None, Some, Ok, Err, ◌≢◌, refl, sym, ap, ◌∙◌, inl, inr, subst, append-nil, append_assoc, arith}
 use Rattle.std.specs.Borrow.{Bor}
 use Rattle.std.specs.List.{list_all}
 use Rattle.cas_base.specs.Name.{is_name}
@@ -13,7 +13,7 @@ use Rattle.cas_settle.specs.declared.link.LinkFault.TheVariants as link
 use Rattle.cas_top.specs.Plan.{RefusesFirst}
 use Rattle.cas_top.specs.View.{names_of, texts_of, AreModules, IsCheckedAs, IsJoined, IsUnlinked, IsWorldShown}
 use Rattle.cas_top.specs.Checked_module.{AreCheckedModules}
-use Rattle.cas_top.specs.Worlds.{PrintsWorld, turned, turns_of, world_lines}
+use Rattle.cas_top.specs.Worlds.{PrintsWorld, link_fault_line, turned, turns_of, world_lines}
 use Rattle.cas_top.proofs.Both.{left_part, right_part}
 use Rattle.cas_top.proofs.One_by_one.{checked_text}
 use Rattle.cas_top.specs.declared.refusal.Refusal.{Refusal}
@@ -123,10 +123,17 @@ pub length_behind : {X : Type 0} (xs : List X) (x : X) → length (xs ++ x ∷ [
 length_behind [] x = refl
 length_behind (y ∷ ys) x = let more = length_behind ys x in omega (arith, more)
 
+-- want of memory has no line
+line_not_memory : (f : LinkFault) (line : List ℕ) → link_fault_line f ≡ Some line → f ≢ link.Memory
+line_not_memory f line h same =
+    let P : LinkFault → Type 0 = λ g. link_fault_line g ≡ Some line in
+    let no : None ≡ Some line = subst P same h in
+    absurd (cc no)
+
 -- why modules are no program
 pub joined_refused : (ms : List TypedModuleTree) (names : List (List ℕ)) (f : LinkFault) (why : Refusal) → (f ≢ link.Memory → first_refusal (units_of ms) names ≡ Some f) → IsUnlinked f why →
     IsJoined ms names (Err why)
-joined_refused ms names f (refusal.Unlinked line) known h = (f, known h.0, h.1)
+joined_refused ms names f (refusal.Unlinked line) known h = (f, known (line_not_memory f line h), h)
 joined_refused ms names f refusal.Memory known h = tt
 joined_refused ms names f refusal.Usage known h = absurd h
 joined_refused ms names f (refusal.Unread n) known h = absurd h

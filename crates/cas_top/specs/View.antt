@@ -1,5 +1,5 @@
 -- What the code's refusals and texts hold, as the definitions speak of them, and what its functions answer.
-use Rattle.std.specs.Prelude.{◌≡◌, ◌≢◌, ◌<◌, ◌≤◌, ◌⊎◌, ⊤, ℕ, true, false, List, [], ◌∷◌, ◌++◌, length, map, Option, Some, None, Result, Ok, Err, codes}
+use Rattle.std.specs.Prelude.{◌≡◌, ◌<◌, ◌≤◌, ◌⊎◌, ⊤, ℕ, true, false, List, [], ◌∷◌, ◌++◌, length, map, Option, Some, None, Result, Ok, Err, codes}
 use Rattle.std.specs.List.{list_all}
 use Rattle.std.specs.declared.vec.Vec.{Vec}
 use Rattle.std.specs.declared.alloc.Global.{Global}
@@ -12,7 +12,6 @@ use Rattle.cas_own.specs.declared.checked.Checked.{Checked}
 use Rattle.cas_program.specs.Program.{env_of, units_of}
 use Rattle.cas_settle.specs.Settle.{first_refusal}
 use Rattle.cas_settle.specs.declared.link.LinkFault.{LinkFault}
-use Rattle.cas_settle.specs.declared.link.LinkFault.TheVariants as link
 use Rattle.cas_turn.specs.Joined.{typed_of}
 use Rattle.cas_whole.specs.Program_of.{IsProgramOf}
 use Rattle.cas_whole.specs.Whole.{AreTyped}
@@ -24,6 +23,8 @@ use Rattle.cas_top.specs.declared.refusal.ModuleFault.{ModuleFault}
 use Rattle.cas_top.specs.declared.refusal.ModuleFault.TheVariants as fault
 use Rattle.cas_top.specs.declared.refusal.Refusal.{Refusal}
 use Rattle.cas_top.specs.declared.refusal.Refusal.TheVariants as refusal
+use Rattle.cas_top.specs.declared.refusal.Status.{Status}
+use Rattle.cas_top.specs.declared.refusal.Status.TheVariants as status
 use Rattle.cas_top.specs.declared.source.Source.{Source}
 use Rattle.cas_top.specs.Answer.{Told, Taken, IsRefusal, IsFirstLong, IsFirstUnread, AreRead, IsCut, IsPartly, IsPrinted, IsRead, IsFailed, IsTried}
 use Rattle.cas_top.specs.First_form.{is_sum, is_first_form}
@@ -171,7 +172,7 @@ AreModules names texts (Err other) = ⊥
 
 -- the refusal of modules that are no program
 abbrev pub IsUnlinked : LinkFault → Refusal → Type 0
-IsUnlinked f (refusal.Unlinked line) = (f ≢ link.Memory) × (line ≡ link_fault_line f)
+IsUnlinked f (refusal.Unlinked line) = link_fault_line f ≡ Some line
 IsUnlinked f refusal.Memory = ⊤
 IsUnlinked f other = ⊥
 
@@ -179,7 +180,7 @@ IsUnlinked f other = ⊥
 abbrev pub IsJoined : List TypedModuleTree → (names : List (List ℕ)) → Result Program Refusal → Type 0
 IsJoined ms names (Ok made) = IsProgramOf made ms names × IsRaceFree (env_of ms) (program_world ms names)
 IsJoined ms names (Err (refusal.Unlinked line)) =
-    (f : LinkFault) × (first_refusal (units_of ms) names ≡ Some f) × (line ≡ link_fault_line f)
+    (f : LinkFault) × (first_refusal (units_of ms) names ≡ Some f) × (link_fault_line f ≡ Some line)
 IsJoined ms names (Err refusal.Memory) = ⊤
 IsJoined ms names (Err other) = ⊥
 
@@ -213,6 +214,16 @@ abbrev pub Counts : (before now : ℕ) → Result (Unit {0}) Refusal → Type 0
 Counts before now (Ok done) = now ≡ before
 Counts before now (Err refusal.Unwritten) = before < now
 Counts before now (Err r) = now ≡ before
+
+-- the number of a status
+abbrev pub status_number : Status → ℕ
+status_number status.Faulty = 1
+status_number status.Usage = 2
+status_number status.Unread = 3
+status_number status.Unwritten = 4
+status_number status.Unlinked = 5
+status_number status.Memory = 9
+status_number status.TooLong = 12
 
 -- `err` was told a refusal by its line: the status is its own and the line was taken; or the put failed and the
 -- status is 4; or there was no memory for the line, the status is 9, and the line for that was tried

@@ -1,8 +1,8 @@
 -- What `world` comes to: a refusal of the modules and threads, which are no program; or the lines of the world that turns come to.
-use Rattle.std.specs.Prelude.{◌≡◌, ℕ, ◌==◌, ◌&&◌, List, [], ◌++◌, length, map, replicate, Some, slice_get, codes}
+use Rattle.std.specs.Prelude.{◌≡◌, ℕ, ◌==◌, ◌&&◌, List, [], ◌++◌, length, map, replicate, Option, Some, None, slice_get, codes}
 use Rattle.std.specs.Fmt.{decimal}
 use Rattle.std.specs.List.{find, flat_map}
-use Rattle.std.specs.Option.{option_map_or}
+use Rattle.std.specs.Option.{option_map, option_map_or}
 use Rattle.cas_base.specs.Print.{decl_text}
 use Rattle.cas_base.specs.declared.act.Why.{Why}
 use Rattle.cas_base.specs.declared.act.Why.TheVariants as why
@@ -25,18 +25,19 @@ use Rattle.cas_world.specs.World.{World, Reaches}
 use Rattle.cas_top.specs.Checked_module.{AreCheckedModules}
 use Rattle.cas_top.specs.Printed.{line_of, out_line}
 
--- a refusal of a program in words: `L1 NAME`, `L2 NAME`, `L3 NAME: DEFINED | DECLARED`, `L4 NAME: FOUND` or `L5 WORD N`
-abbrev pub link_words : LinkFault → List ℕ
-link_words (fault.NotDefined name) = codes "L1 " ++ name
-link_words (fault.Twice name) = codes "L2 " ++ name
-link_words (fault.Differ name defined declared) = codes "L3 " ++ name ++ codes ": " ++ decl_text defined ++ codes " | " ++ decl_text declared
-link_words (fault.Entry name found) = codes "L4 " ++ name ++ codes ": " ++ decl_text found
-link_words (fault.Limit what counted) = codes "L5 " ++ count_text what ++ codes " " ++ decimal counted
-link_words fault.Memory = codes "memory"
+-- a refusal of a program in words: `L1 NAME`, `L2 NAME`, `L3 NAME: DEFINED | DECLARED`, `L4 NAME: FOUND` or `L5 WORD N`. Want of
+-- memory is no refusal of a program, and has none
+abbrev pub link_words : LinkFault → Option (List ℕ)
+link_words (fault.NotDefined name) = Some (codes "L1 " ++ name)
+link_words (fault.Twice name) = Some (codes "L2 " ++ name)
+link_words (fault.Differ name defined declared) = Some (codes "L3 " ++ name ++ codes ": " ++ decl_text defined ++ codes " | " ++ decl_text declared)
+link_words (fault.Entry name found) = Some (codes "L4 " ++ name ++ codes ": " ++ decl_text found)
+link_words (fault.Limit what counted) = Some (codes "L5 " ++ count_text what ++ codes " " ++ decimal counted)
+link_words fault.Memory = None
 
 -- `cascc: ` and the refusal
-abbrev pub link_fault_line : LinkFault → List ℕ
-link_fault_line f = line_of (codes "cascc: " ++ link_words f)
+abbrev pub link_fault_line : LinkFault → Option (List ℕ)
+link_fault_line f = option_map (λ words. line_of (codes "cascc: " ++ words)) (link_words f)
 
 -- why a step is Bad, in words
 abbrev pub why_words : Why → List ℕ
@@ -100,4 +101,4 @@ pub record RefusesProgram (w : words.World) (texts : List (List ℕ)) (line : Li
   pub read : AreCheckedModules texts modules
   pub fault : LinkFault
   pub refused : first_refusal (units_of modules) w.threads ≡ Some fault
-  pub told : line ≡ link_fault_line fault
+  pub told : link_fault_line fault ≡ Some line

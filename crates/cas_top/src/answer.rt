@@ -13,7 +13,7 @@ use crate::outcome::lines_of;
 use crate::reading::{fetch, fetch_all};
 use crate::refusal::{ModuleFault, Refusal};
 use crate::worlds::turned_lines;
-use cas_base::{NoMemory, Text};
+use cas_base::Text;
 use cas_command::{Command, Run, World, source_text};
 use cas_outside::{Shelf, Sink, SinkFault};
 use std::alloc::Global;
@@ -48,14 +48,8 @@ fn perform_check<'a, S: Shelf, O: Sink>(
     ensures counted { Counts (O.faults out.old) (O.faults out.new) result }
     ensures same_texts { S.texts shelf.new ≡ S.texts shelf.old }
 {
-    let sources = match fetch_all(alloc, shelf, names) {
-        Ok(sources) => sources,
-        Err(refusal) => return Err(refusal),
-    };
-    let lines = match checked_lines(alloc, sources.as_slice()) {
-        Ok(lines) => lines,
-        Err(refusal) => return Err(refusal),
-    };
+    let sources = fetch_all(alloc, shelf, names)?;
+    let lines = checked_lines(alloc, sources.as_slice())?;
     put_lines(out, lines.as_slice())
 }
 
@@ -71,14 +65,8 @@ fn perform_world<'a, S: Shelf, O: Sink>(
     ensures counted { Counts (O.faults out.old) (O.faults out.new) result }
     ensures same_texts { S.texts shelf.new ≡ S.texts shelf.old }
 {
-    let sources = match fetch_all(alloc, shelf, &given.names) {
-        Ok(sources) => sources,
-        Err(refusal) => return Err(refusal),
-    };
-    let lines = match turned_lines(alloc, sources.as_slice(), &given) {
-        Ok(lines) => lines,
-        Err(refusal) => return Err(refusal),
-    };
+    let sources = fetch_all(alloc, shelf, &given.names)?;
+    let lines = turned_lines(alloc, sources.as_slice(), &given)?;
     put_lines(out, lines.as_slice())
 }
 
@@ -94,18 +82,10 @@ fn perform_run<'a, S: Shelf, O: Sink>(
     ensures counted { Counts (O.faults out.old) (O.faults out.new) result }
     ensures same_texts { S.texts shelf.new ≡ S.texts shelf.old }
 {
-    let source = match fetch(alloc, shelf, source_text(given.source)) {
-        Ok(text) => text,
-        Err(refusal) => return Err(refusal),
-    };
-    let _lock = match fetch(alloc, shelf, source_text(given.lock)) {
-        Ok(text) => text,
-        Err(refusal) => return Err(refusal),
-    };
-    match lines_of_text(alloc, source.as_slice(), given) {
-        Ok(lines) => put_lines(out, lines.as_slice()),
-        Err(refusal) => Err(refusal),
-    }
+    let source = fetch(alloc, shelf, source_text(given.source))?;
+    let _lock = fetch(alloc, shelf, source_text(given.lock))?;
+    let lines = lines_of_text(alloc, source.as_slice(), given)?;
+    put_lines(out, lines.as_slice())
 }
 
 // The lines that a module text prints on one thread.
@@ -114,14 +94,10 @@ fn lines_of_text<'a>(alloc: Global, text: &[u8], given: Run<'a>) -> Result<Vec<T
     requires { length text.now ≤ source_limit }
     ensures shown { IsShown (run_view given.entry) text.now result }
 {
-    let checked = match checked_module(alloc, text, given.source) {
-        Ok(checked) => checked,
-        Err(refusal) => return Err(refusal),
-    };
-    match lines_of(alloc, checked.typed(), given.thread) {
-        Ok(Some(lines)) => Ok(lines),
-        Ok(None) => Err(Refusal::Faulty(given.source, ModuleFault::Formless)),
-        Err(NoMemory) => Err(Refusal::Memory),
+    let checked = checked_module(alloc, text, given.source)?;
+    match lines_of(alloc, checked.typed(), given.thread)? {
+        Some(lines) => Ok(lines),
+        None => Err(Refusal::Faulty(given.source, ModuleFault::Formless)),
     }
 }
 

@@ -17,10 +17,8 @@ use std::alloc::Global;
 fn check_source<'a>(alloc: Global, source: &Source<'a>) -> Result<(), Refusal<'a>>
     ensures { IsCheckedSource source.now.name.now source.now.text.items result }
 {
-    match checked_module(alloc, source.text.as_slice(), source.name) {
-        Ok(_) => Ok(()),
-        Err(refusal) => Err(refusal),
-    }
+    checked_module(alloc, source.text.as_slice(), source.name)?;
+    Ok(())
 }
 
 // Whether the texts are of checked modules, or why the first that isn't is not.
@@ -28,10 +26,7 @@ fn check_all<'a>(alloc: Global, sources: &[Source<'a>]) -> Result<(), Refusal<'a
     ensures { AreAllChecked (names_of sources.now) (texts_of sources.now) result }
 {
     for source in sources {
-        match check_source(alloc, source) {
-            Ok(()) => {}
-            Err(refusal) => return Err(refusal),
-        }
+        check_source(alloc, source)?;
     }
     Ok(())
 }
@@ -55,11 +50,6 @@ pub(crate) fn checked_lines<'a>(
 ) -> Result<Vec<Text>, Refusal<'a>>
     ensures { AreOkLines (names_of sources.now) (texts_of sources.now) result }
 {
-    match check_all(alloc, sources) {
-        Ok(()) => match ok_lines(alloc, sources) {
-            Ok(lines) => Ok(lines),
-            Err(NoMemory) => Err(Refusal::Memory),
-        },
-        Err(refusal) => Err(refusal),
-    }
+    check_all(alloc, sources)?;
+    Ok(ok_lines(alloc, sources)?)
 }

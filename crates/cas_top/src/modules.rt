@@ -53,10 +53,7 @@ pub(crate) fn checked_module<'a>(
     requires { length text.now ≤ source_limit }
     ensures checked { IsCheckedAs name.entry.now text.now result }
 {
-    let typed = match typed_module(alloc, text, name) {
-        Ok(typed) => typed,
-        Err(refusal) => return Err(refusal),
-    };
+    let typed = typed_module(alloc, text, name)?;
     match check_module(alloc, typed) {
         Ok(checked) => Ok(checked),
         Err(OwnFault::At { code, place, lock }) => {

@@ -37,10 +37,8 @@ fn fetch_source<'a, S: Shelf>(
     ensures same { S.texts shelf.new ≡ S.texts shelf.old }
     ensures fetched { IsSource (S.texts shelf.old) name.entry.now (S.failed shelf.old) (S.failed shelf.new) result }
 {
-    match fetch(alloc, shelf, source_text(name)) {
-        Ok(text) => Ok(Source { name, text }),
-        Err(refusal) => Err(refusal),
-    }
+    let text = fetch(alloc, shelf, source_text(name))?;
+    Ok(Source { name, text })
 }
 
 /// The texts of these modules, each read once, in their order.
@@ -54,14 +52,7 @@ pub(crate) fn fetch_all<'a, S: Shelf>(
 {
     let mut sources = Vec::new(alloc);
     for name in names {
-        let source = match fetch_source(alloc, shelf, name) {
-            Ok(source) => source,
-            Err(refusal) => return Err(refusal),
-        };
-        match sources.push(source) {
-            Ok(()) => {}
-            Err(_) => return Err(Refusal::Memory),
-        }
+        sources.push(fetch_source(alloc, shelf, name)?)?;
     }
     Ok(sources)
 }

@@ -1,6 +1,6 @@
 //! The lines that `world` prints, and that of modules that are no program.
 
-ghost use Rattle.std.specs.Prelude.{◌≡◌, ◌++◌, ℕ, List, [], IfOk, OnOk, codes, map, length};
+ghost use Rattle.std.specs.Prelude.{◌≡◌, ◌++◌, ℕ, List, [], Some, IfOk, OnOk, codes, map, length};
 ghost use Rattle.std.specs.Fmt.{decimal};
 ghost use Rattle.cas_base.specs.Print.{decl_text};
 ghost use Rattle.cas_command.specs.Parts.{texts};
@@ -18,9 +18,9 @@ use cas_settle::{CellRow, LinkFault};
 use cas_turn::{ThreadState, World};
 use std::alloc::Global;
 
-/// The line of a refusal of a program: `cascc: ` with its code, and what is kept.
+/// The line of a refusal of a program: `cascc: ` with its code, and what is kept. Want of memory has none.
 pub(crate) fn link_line(alloc: Global, fault: &LinkFault) -> Result<Text, NoMemory>
-    ensures { IfOk result (λ line. line ≡ link_fault_line fault.now) }
+    ensures { IfOk result (λ line. link_fault_line fault.now ≡ Some line) }
 {
     let words = link_words(alloc, fault)?;
     let words = words.as_str();
@@ -28,9 +28,9 @@ pub(crate) fn link_line(alloc: Global, fault: &LinkFault) -> Result<Text, NoMemo
     Ok(Text::of(text))
 }
 
-// A refusal of a program in words.
+// A refusal of a program in words. Want of memory has none.
 fn link_words(alloc: Global, fault: &LinkFault) -> Result<Text, NoMemory>
-    ensures { IfOk result (λ words. words ≡ link_words fault.now) }
+    ensures { IfOk result (λ words. link_words fault.now ≡ Some words) }
 {
     match fault {
         LinkFault::NotDefined(name) => named(alloc, "L1", name),
@@ -45,10 +45,7 @@ fn link_words(alloc: Global, fault: &LinkFault) -> Result<Text, NoMemory>
             let text = format!(in alloc; "L5 {what} {counted}")?;
             Ok(Text::of(text))
         }
-        LinkFault::Memory => {
-            let text = format!(in alloc; "memory")?;
-            Ok(Text::of(text))
-        }
+        LinkFault::Memory => Err(NoMemory),
     }
 }
 

@@ -37,14 +37,7 @@ fn checked_modules<'a>(alloc: Global, sources: &[Source<'a>]) -> Result<Vec<Chec
 {
     let mut modules = Vec::new(alloc);
     for source in sources {
-        let module = match checked_module(alloc, source.text.as_slice(), source.name) {
-            Ok(module) => module,
-            Err(refusal) => return Err(refusal),
-        };
-        match modules.push(module) {
-            Ok(()) => {}
-            Err(_) => return Err(Refusal::Memory),
-        }
+        modules.push(checked_module(alloc, source.text.as_slice(), source.name)?)?;
     }
     Ok(modules)
 }
@@ -77,9 +70,6 @@ fn entry_names(alloc: Global, threads: &[&str]) -> Result<Vec<Name>, NoMemory>
 fn unlinked<'a>(alloc: Global, fault: &LinkFault) -> Refusal<'a>
     ensures { IsUnlinked fault.now result }
 {
-    if let LinkFault::Memory = fault {
-        return Refusal::Memory;
-    }
     match link_line(alloc, fault) {
         Ok(line) => Refusal::Unlinked(line),
         Err(NoMemory) => Refusal::Memory,
@@ -97,10 +87,7 @@ fn joined<'a>(
     requires named { list_all is_name (texts threads.now) ≡ true }
     ensures { (ms : List TypedModuleTree) → AreTyped (typed_of modules.items) ms → IsJoined ms (texts threads.now) result }
 {
-    let entries = match entry_names(alloc, threads) {
-        Ok(entries) => entries,
-        Err(NoMemory) => return Err(Refusal::Memory),
-    };
+    let entries = entry_names(alloc, threads)?;
     match cas_turn::join(alloc, modules, entries.as_slice()) {
         Ok(program) => Ok(program),
         Err(fault) => Err(unlinked(alloc, &fault)),
@@ -158,20 +145,8 @@ pub(crate) fn turned_lines<'a>(
     requires counted { length sources.now ≡ length (world_view given.now).names }
     ensures { IsWorldShown (world_view given.now) (names_of sources.now) (texts_of sources.now) result }
 {
-    let modules = match checked_modules(alloc, sources) {
-        Ok(modules) => modules,
-        Err(refusal) => return Err(refusal),
-    };
-    let program = match joined(alloc, modules, given.threads.as_slice()) {
-        Ok(program) => program,
-        Err(refusal) => return Err(refusal),
-    };
-    let world = match turned(alloc, program, &given.turns) {
-        Ok(world) => world,
-        Err(NoMemory) => return Err(Refusal::Memory),
-    };
-    match world_lines(alloc, given.names.as_slice(), &world) {
-        Ok(lines) => Ok(lines),
-        Err(NoMemory) => Err(Refusal::Memory),
-    }
+    let modules = checked_modules(alloc, sources)?;
+    let program = joined(alloc, modules, given.threads.as_slice())?;
+    let world = turned(alloc, program, &given.turns)?;
+    Ok(world_lines(alloc, given.names.as_slice(), &world)?)
 }

@@ -10,9 +10,9 @@ loop-name-preserved g c =
     let so = c.loop-name.invariant in
     record {
       same = c.fetch_source.ensures.same ∙ so.same;
-      kept = c.in-Ok.ensures.fetched.2 ∙ so.kept;
-      on = rw c.in-Ok-push.ensures.items
-          (reads_next _ _ _ _ _ _ _ _ _ _ so.on (texts_item c.args.names.now c.loop-name.name-index _ c.loop-name-test.true) so.same c.in-Ok.ensures.fetched);
+      kept = c.in_ok-fetch_source.ensures.fetched.2 ∙ so.kept;
+      on = rw c.in_ok-push.ensures.items
+          (reads_next _ _ _ _ _ _ _ _ _ _ so.on (texts_item c.args.names.now c.loop-name.name-index _ c.loop-name-test.true) so.same c.in_ok-fetch_source.ensures.fetched);
     }
 
 pub returns-clause-fetched : goal.returns-clause-fetched
