@@ -15,7 +15,7 @@ use Rattle.cas_program.specs.Program.{IsProgram, env_of, entries_of, initial_wor
 use Rattle.cas_settle.proofs.SettledLemmas.{settled-none}
 use Rattle.cas_settle.specs.Settle.{IsSettled, first_refusal, twice_fault, references_fault, entries_fault, entry_fault, limits_fault, place_of}
 use Rattle.cas_settle.specs.declared.link.LinkFault.TheVariants.{Entry}
-use Rattle.cas_step.specs.Env.{FunctionAt, Function}
+use Rattle.cas_step.specs.Env.{FunctionAt}
 use Rattle.cas_syntax.specs.Tree.{FunTree, ItemTree, define}
 use Rattle.cas_typed.specs.Formed.{IsFormed, ItemsAreFormed}
 use Rattle.cas_typed.specs.Modules.{IsTyped, decl_of}
