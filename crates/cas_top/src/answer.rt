@@ -89,7 +89,7 @@ fn perform_run<'a, S: Shelf, O: Sink>(
 }
 
 // The lines that a module text prints on one thread.
-#[tactic(auto, using(crate::proofs::One_by_one::refused_run))]
+#[tactic(auto, using(crate::proofs::One_by_one::refused_run, crate::proofs::One_by_one::shown_run))]
 fn lines_of_text<'a>(alloc: Global, text: &[u8], given: Run<'a>) -> Result<Vec<Text>, Refusal<'a>>
     requires { length text.now ≤ source_limit }
     ensures shown { IsShown (run_view given.entry) text.now result }

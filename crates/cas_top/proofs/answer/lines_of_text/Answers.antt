@@ -1,12 +1,6 @@
 use Rattle.cas_command.specs.View.{run_view}
-use Rattle.cas_top.proofs.One_by_one.{shown_run, formless_run}
+use Rattle.cas_top.proofs.One_by_one.{formless_run}
 use Rattle.cas_top.proofs.answer.lines_of_text.Goals as goal
-
-pub returns-in-Some : goal.returns-in-Some
-returns-in-Some c =
-    let run = run_view c.args.given in
-    let printed = rw c.in-Some.is at c.in_ok-lines.ensures.printed in
-    record { shown = shown_run run run.source c.args.text.now c.in_ok-checked.checked c.typed.result.now c.in-Some.lines c.in_ok-checked.ensures.checked c.typed.ensures printed }
 
 pub returns : goal.returns
 returns c =
