@@ -6,9 +6,9 @@ mod calls;
 #[cfg(test)]
 mod owning_tests;
 #[cfg(test)]
-mod stepping_tests;
+mod running_tests;
 #[cfg(test)]
-mod tests;
+mod stepping_tests;
 #[cfg(test)]
 mod turns_tests;
 #[cfg(test)]

@@ -106,17 +106,18 @@ fn texts_have_a_limit(rt: HostRuntime) -> Result<(), Fail> {
     Ok(())
 }
 
-// The line of faulty words, and of a text that is too long, can fail to be put.
+// The line of faulty words, of a text that is too long, and of a module that is refused can fail to be put.
 #[test]
 fn refusals_whose_put_fails_are_told(rt: HostRuntime) -> Result<(), Fail> {
     let alloc = rt.alloc();
     let too_long = repeated(alloc, " ", 1_048_577)?;
     let texts = [("m.c", too_long.as_str()), LOCK];
+    let refused = [("m.c", ""), LOCK];
     let unread = Given {
         words: &["run", "m.c"],
         ..run_of(SUM_TEXTS)
     };
-    for given in [unread, run_of(&texts)] {
+    for given in [unread, run_of(&texts), run_of(&refused)] {
         let given = Given {
             errs: &[1],
             ..given
@@ -126,6 +127,7 @@ fn refusals_whose_put_fails_are_told(rt: HostRuntime) -> Result<(), Fail> {
     Ok(())
 }
 
+// These words are refused before any read: the first would fail.
 fn assert_usage<R: Abort + Threads + Sync>(
     rt: &R,
     alloc: Global,
@@ -133,6 +135,7 @@ fn assert_usage<R: Abort + Threads + Sync>(
 ) -> Result<(), AllocError> {
     let given = Given {
         words,
+        reads: &[1],
         ..run_of(SUM_TEXTS)
     };
     assert_answer(rt, alloc, given, wanted(2, "", "cascc: usage\n"))
@@ -318,6 +321,47 @@ fn want_of_memory_is_told(rt: HostRuntime) -> Result<(), Fail> {
     assert_eq!(rt; status, 9);
     assert_eq!(rt; out.bytes(), b"".as_slice());
     assert_eq!(rt; err.bytes(), b"cascc: memory\n".as_slice());
+    Ok(())
+}
+
+// A sink whose puts fail, and are counted.
+#[derive(Drop)]
+struct ClosedSink {
+    count: u64,
+}
+
+impl Sink for ClosedSink {
+    ghost taken = { λ _. None };
+
+    ghost faults = { λ sink. sink.count };
+
+    fn put(&mut self, _bytes: &[u8]) -> Result<(), SinkFault> {
+        if self.count == u64::MAX {
+            return Err(SinkFault::Memory);
+        }
+        self.count += 1;
+        Err(SinkFault::Failed)
+    }
+}
+
+#[test]
+fn lines_for_want_of_memory_are_tried_once(rt: HostRuntime) -> Result<(), Fail> {
+    let alloc = rt.alloc();
+    let words = words_of(alloc, &RUN)?;
+    let mut out = sink_of(alloc, &[])?;
+    let mut err = ClosedSink { count: 0 };
+    let status = cascc(
+        &rt,
+        alloc,
+        words.as_slice(),
+        &mut FullShelf,
+        &mut out,
+        &mut err,
+        &OpenGate,
+    );
+    assert_eq!(rt; status, 9);
+    assert_eq!(rt; out.bytes(), b"".as_slice());
+    assert_eq!(rt; err.count, 1);
     Ok(())
 }
 
