@@ -32,6 +32,7 @@ fn main(rt: HostRuntime) -> ExitCode {
             if error.kind() == ErrorKind::OutOfMemory {
                 return ExitCode::from(OUT_OF_MEMORY);
             }
+            // where a word isn't UTF-8 no words are handed over, and these are no command
             Vec::new(alloc)
         }
     };
