@@ -54,8 +54,8 @@ pub trait FunctionPass {
     /// The same of all that both threads hold, where a call, a return or the outside follows.
     ghost settled: { Setting → List Self.Target → List Self.Source → Past → Holding → Past → Holding → Type 0 };
 
-    /// Between two moments, first of the target and then of the source, nothing touched what the activations with serial
-    /// numbers below this one have for themselves.
+    /// Between two moments, at each of which the target's and the source's thread hold so much, nothing touched what the
+    /// activations with serial numbers below this one have for themselves.
     ghost later: { Setting → List Self.Target → List Self.Source → ℕ → Holding → Holding → Holding → Holding → Type 0 };
 
     /// Where the activations of these two functions and of this serial number stand, each with what its thread holds and its
