@@ -8,7 +8,7 @@ use Rattle.cas_runs.specs.Access.{Holding, with_lock, without_lock, value_in, le
 use Rattle.cas_runs.specs.Forms.{LengthsAlike, Stored, MemoryKeeps, AlikeSince}
 use Rattle.cas_runs.specs.Unit.{Setting}
 use Rattle.cas_runs.specs.Calls.{Activations, Past, set_blocks, fresh, gone, without_own, with_share, same_share, if_shown, crosses_as, with_naming}
-use Rattle.cas_runs.specs.Passing.{Relation, AllSame, SameIf, brought_in, Keeps}
+use Rattle.cas_runs.specs.Passing.{Relation, AllMatch, MatchIf, brought_in, Keeps}
 use Rattle.cas_runs.specs.Placing.{Spot, Placing, pointer_in, SameMoved, AllMoved, CellsMoved, BlockMoved, ObjectMoved, MemoryMoved, moved_part, NamedMoved, NamingMoved, AlikeMoved, UnplacedKept, IsPlacing, moves_blocks}
 use Rattle.cas_runs.proofs.Showing.{part_reached, reached_by}
 use Rattle.cas_runs.proofs.Tests.{and_both, eq_self, same_home_from}
@@ -192,19 +192,19 @@ module _ {F A G B : Type 0} (target : Activations F A) (source : Activations G B
   abbrev R : Relation F A G B
   R = moves_blocks target source setting placed ts ss made place sizes match
 
-  pub to_moved : (vs ws : List Value) → AllSame R vs ws → AllMoved place vs ws
+  pub to_moved : (vs ws : List Value) → AllMatch R vs ws → AllMoved place vs ws
   to_moved [] [] h = tt
   to_moved [] (w ∷ ws) h = absurd h
   to_moved (v ∷ vs) [] h = absurd h
   to_moved (v ∷ vs) (w ∷ ws) h = (h.0, to_moved vs ws h.1)
 
-  pub from_moved : (vs ws : List Value) → AllMoved place vs ws → AllSame R vs ws
+  pub from_moved : (vs ws : List Value) → AllMoved place vs ws → AllMatch R vs ws
   from_moved [] [] h = tt
   from_moved [] (w ∷ ws) h = absurd h
   from_moved (v ∷ vs) [] h = absurd h
   from_moved (v ∷ vs) (w ∷ ws) h = (h.0, from_moved vs ws h.1)
 
-  same_if : (o o' : Option (List Value)) → AllTakenToo target source made place sizes placed setting.layout is o o' → SameIf R o o'
+  same_if : (o o' : Option (List Value)) → AllTakenToo target source made place sizes placed setting.layout is o o' → MatchIf R o o'
   same_if None None h = tt
   same_if (Some vs) None h = tt
   same_if None (Some ws) h = absurd h
@@ -241,21 +241,21 @@ module _ {F A G B : Type 0} (target : Activations F A) (source : Activations G B
     at_once = λ n h k f a b less none. refl;
     then_later = λ n h k h' k' h'' k'' l m f a b less none. m f a b less none ∙ l f a b less none;
     fewer = λ m n h k h' k' le l f a b less none. l f a b (omega (arith, le, less)) none;
-    locks = λ n p q h k a lock words g. record { alike = with_memory p q h k (with_share h (with_lock h.share lock words)) (with_share k (with_lock k.share lock words)) a (ap (λ v. with_lock v lock words) a.share) a.memory; later = λ f a b less none. refl };
-    unlocks = λ n p q h k a lock. record { alike = with_memory p q h k (with_share h (without_lock h.share lock)) (with_share k (without_lock k.share lock)) a (ap (λ v. without_lock v lock) a.share) a.memory; later = λ f a b less none. refl };
+    locks = λ n p q h k a lock words g. record { match_memory = with_memory p q h k (with_share h (with_lock h.share lock words)) (with_share k (with_lock k.share lock words)) a (ap (λ v. with_lock v lock words) a.share) a.memory; frame = λ f a b less none. refl };
+    unlocks = λ n p q h k a lock. record { match_memory = with_memory p q h k (with_share h (without_lock h.share lock)) (with_share k (without_lock k.share lock)) a (ap (λ v. without_lock v lock) a.share) a.memory; frame = λ f a b less none. refl };
     begins = λ f g m p q h k a. record {
-      alike = record { begun = ap (λ n. n + 1) a.begun; share = a.share; memory = subst (λ v. MemoryMoved place sizes (set_blocks (fresh v) h.memory (target.name f) p.begun 0 (target.blocks f)) (set_blocks (fresh source.first_word) k.memory (source.name g) q.begun 0 (source.blocks g))) (sym is.first_words) (blocks_moved target source made place sizes placed setting.layout is (fresh source.first_word) begin f g m p.begun q.begun a.begun h.memory k.memory a.memory); naming = a.naming };
-      later = λ f' a' b' less none. other_home target source made place sizes placed setting.layout is (fresh source.first_word) k.memory (source.name g) q.begun (source.blocks g) f' a' (λ d b'' e. let same : a' ≡ q.begun = cc e in let begun = a.begun in omega (arith, same, begun, less)) b';
+      match_memory = record { begun = ap (λ n. n + 1) a.begun; share = a.share; memory = subst (λ v. MemoryMoved place sizes (set_blocks (fresh v) h.memory (target.name f) p.begun 0 (target.blocks f)) (set_blocks (fresh source.first_word) k.memory (source.name g) q.begun 0 (source.blocks g))) (sym is.first_words) (blocks_moved target source made place sizes placed setting.layout is (fresh source.first_word) begin f g m p.begun q.begun a.begun h.memory k.memory a.memory); naming = a.naming };
+      frame = λ f' a' b' less none. other_home target source made place sizes placed setting.layout is (fresh source.first_word) k.memory (source.name g) q.begun (source.blocks g) f' a' (λ d b'' e. let same : a' ≡ q.begun = cc e in let begun = a.begun in omega (arith, same, begun, less)) b';
     };
     ends = λ n f g m p q h k a. record {
       settled = with_memory p q h k (without_own target f n h) (without_own source g n k) a a.share (blocks_moved target source made place sizes placed setting.layout is gone end f g m n n refl h.memory k.memory a.memory);
-      later = λ f' a' b' less none. other_home target source made place sizes placed setting.layout is gone k.memory (source.name g) n (source.blocks g) f' a' (λ d b'' e. let same : a' ≡ n = cc e in omega (arith, same, less)) b';
+      frame = λ f' a' b' less none. other_home target source made place sizes placed setting.layout is gone k.memory (source.name g) n (source.blocks g) f' a' (λ d b'' e. let same : a' ≡ n = cc e in omega (arith, same, less)) b';
     };
     shows = λ p q h k a vs ws s e. subst (λ n. can_show_all (parts_at placed n) p.naming vs ≡ true) (sym a.begun) (all_show_too target source made place sizes placed setting.layout is q.begun p.naming q.naming a.naming vs ws (to_moved vs ws s) e);
     crosses = λ p q h k a vs ws s crossing ns e. crosses_moved target source made place sizes placed setting.layout is p q h k a vs ws (to_moved vs ws s) crossing ns e;
-    hears = λ n p q h k a types crossing brings typed.
+    receives = λ n p q h k a types crossing brings typed.
         let both = left target source made place sizes placed setting.layout is crossing.objects h.memory k.memory a.memory p.naming q.naming a.naming 0 in (
-          record { settled = record { begun = a.begun; share = refl; memory = both.memory; naming = both.naming }; later = λ f a' b less none. unplaced_stay crossing.objects k.memory p.naming q.naming a.naming 0 f a' b none },
+          record { settled = record { begun = a.begun; share = refl; memory = both.memory; naming = both.naming }; frame = λ f a' b less none. unplaced_stay crossing.objects k.memory p.naming q.naming a.naming 0 f a' b none },
           same_if (all_taken (brought_in R p h crossing).naming crossing.values) (all_taken (brought_in R q k crossing).naming crossing.values)
               (all_taken_too target source made place sizes placed setting.layout is (brought_in R p h crossing).naming (brought_in R q k crossing).naming both.naming crossing.values),
         );

@@ -5,7 +5,7 @@ use Rattle.cas_base.specs.declared.label.Label.TheVariants as plain
 use Rattle.cas_runs.specs.Label.{NameBytes, RunLabel, Lock, plain_label, ArePlain}
 use Rattle.cas_runs.specs.Edge.{results_of}
 use Rattle.cas_runs.specs.Naming.{Value, Number, and_then}
-use Rattle.cas_runs.specs.Machine.{Act, Quiet, Says, Crosses, Locks, Hears, Bad, Stops, Saying, Unlocks, Prints, Ends, label_of, Machine, Leads, Block, Run, starts as begins_run, quiet, labelled}
+use Rattle.cas_runs.specs.Machine.{Act, Quiet, Emits, Crosses, Locks, Receives, Bad, Stops, Event, Unlocks, Prints, Ends, label_of, Machine, StepsTo, Block, Run, starts as begins_run, quiet, labelled}
 use Rattle.cas_runs.specs.Refines.{Refines, NamesAlone, EachKept}
 use Rattle.cas_runs.proofs.Composing.{each_kept}
 use Rattle.cas_runs.specs.Access.{Holding, words_in, with_lock, without_lock}
@@ -34,10 +34,10 @@ module _ {F A : Type 0} (l : Activations F A) (setting : Setting) (fs : List F) 
 
   abbrev ClosedAct : Act (Thread F A) → Type 0
   ClosedAct (Quiet y) = Closed y
-  ClosedAct (Says saying y) = Closed y
+  ClosedAct (Emits event y) = Closed y
   ClosedAct (Crosses next) = ⊥
   ClosedAct (Locks lock next) = (ws : List ℕ) → Closed (next ws)
-  ClosedAct (Hears next) = ⊥
+  ClosedAct (Receives next) = ⊥
   ClosedAct Bad = Unit {0}
   ClosedAct (Stops why) = Unit {0}
 
@@ -96,17 +96,17 @@ module _ {F A : Type 0} (l : Activations F A) (setting : Setting) (fs : List F) 
     is_plain : plain_label k ≡ Some plain_one
     closed : Closed y
 
-  said_after : (saying : Saying) (y : Thread F A) → Closed y → After (label_of saying) y
+  said_after : (event : Event) (y : Thread F A) → Closed y → After (label_of event) y
   said_after (Unlocks lock ws) y c = record { plain_one = plain.Unlock lock; is_plain = refl; closed = c }
   said_after (Prints w) y c = record { plain_one = plain.Out w; is_plain = refl; closed = c }
   said_after Ends y c = record { plain_one = plain.Done; is_plain = refl; closed = c }
 
-  after : (ls : List RunLabel) (a : Act (Thread F A)) (k : RunLabel) (y : Thread F A) → ClosedAct a → Leads setting.edge ls a k y → After k y
+  after : (ls : List RunLabel) (a : Act (Thread F A)) (k : RunLabel) (y : Thread F A) → ClosedAct a → StepsTo setting.edge ls a k y → After k y
   after ls (Quiet z) k y c e = absurd e
-  after ls (Says saying z) k y c e = subst (λ v. After v y) e.0 (subst (λ v. After (label_of saying) v) e.1 (said_after saying z c))
+  after ls (Emits event z) k y c e = subst (λ v. After v y) e.0 (subst (λ v. After (label_of event) v) e.1 (said_after event z c))
   after ls (Crosses next) k y c e = absurd c
   after ls (Locks lock next) k y c e = subst (λ v. After v y) (sym e.1) (subst (λ v. After (Lock lock e.0) v) e.3 (record { plain_one = plain.Lock lock; is_plain = refl; closed = c e.0 }))
-  after ls (Hears next) k y c e = absurd c
+  after ls (Receives next) k y c e = absurd c
   after ls Bad k y c e = absurd e
   after ls (Stops why) k y c e = absurd e
 

@@ -3,8 +3,8 @@ use Rattle.std.proofs.Common.{◌≡◌, ℕ, List, [], ◌∷◌, ◌++◌, ◌
 use Rattle.cas_runs.specs.Label.{RunLabel, Lock, Unlock, Out, Done, Enter, Back, Call, Leave}
 use Rattle.cas_runs.specs.Edge.{Edge}
 use Rattle.cas_runs.specs.Outside.{MayBring}
-use Rattle.cas_runs.specs.Machine.{Act, Quiet, Says, Crosses, Locks, Hears, Bad, Stops, Halt, Ended, Taken, Full, Saying, Unlocks, Prints, Ends, Opened, Machine, label_of, CanCross, Leads, Block, begun, Run, starts, quiet, labelled}
-use Rattle.cas_runs.specs.Refines.{AtLock, AtHearing, HaltsToo, Subsequence, done, keep, skip, Within, EachWithin, none, more, HasRun, BadBefore, Kept, CrossesAs, IsCrossing, Refines, NamesAlone, EachKept}
+use Rattle.cas_runs.specs.Machine.{Act, Quiet, Emits, Crosses, Locks, Receives, Bad, Stops, Halt, Ended, Taken, Full, Event, Unlocks, Prints, Ends, Opened, Machine, label_of, CanCross, StepsTo, Block, begun, Run, starts, quiet, labelled}
+use Rattle.cas_runs.specs.Refines.{AtLock, AtReceiving, HaltsToo, Subsequence, done, keep, skip, Within, EachWithin, none, more, HasRun, BadBefore, Kept, CrossesAs, IsCrossing, Refines, NamesAlone, EachKept}
 use Rattle.cas_runs.proofs.Refining.{IsQuiet, leads_not_quiet, one_state, bad_longer, Before, before_label, has_before, has_shorter, crossing_or_not, bad_or_fine}
 use Rattle.cas_runs.specs.Rules.{Proceeds}
 
@@ -30,20 +30,20 @@ pub at_crossing : {S : Type 0} (edge : Edge) (r : Machine S) (l : RunLabel) (ls 
 at_crossing edge r l ls before {y = y} run next e =
     let not_quiet : IsQuiet (r.act y) → ⊥ = λ q. let none : ⊥ = subst IsQuiet e q in none in
     let same : before.at ≡ y = one_state edge r before.run run (leads_not_quiet edge ls (r.act before.at) l before.to before.leads) not_quiet in
-    let there : Leads edge ls (r.act y) l before.to = subst (λ v. Leads edge ls (r.act v) l before.to) same before.leads in
-    subst (λ v. Leads edge ls v l before.to) e there
+    let there : StepsTo edge ls (r.act y) l before.to = subst (λ v. StepsTo edge ls (r.act v) l before.to) same before.leads in
+    subst (λ v. StepsTo edge ls v l before.to) e there
 
 -- a Call or Leave has the label of one, and no other act has
-crosses_by : {S : Type 0} (edge : Edge) (ls : List RunLabel) (a : Act S) (l : RunLabel) (y : S) → Leads edge ls a l y → IsCrossing a → CanCross l
+crosses_by : {S : Type 0} (edge : Edge) (ls : List RunLabel) (a : Act S) (l : RunLabel) (y : S) → StepsTo edge ls a l y → IsCrossing a → CanCross l
 crosses_by edge ls (Crosses next) l y h c = h.0
 crosses_by edge ls (Quiet n) l y h c = absurd c
-crosses_by edge ls (Says k n) l y h c = absurd c
+crosses_by edge ls (Emits k n) l y h c = absurd c
 crosses_by edge ls (Locks k n) l y h c = absurd c
-crosses_by edge ls (Hears n) l y h c = absurd c
+crosses_by edge ls (Receives n) l y h c = absurd c
 crosses_by edge ls Bad l y h c = absurd c
 crosses_by edge ls (Stops w) l y h c = absurd c
 
-pub said_stays : (k : Saying) → CanCross (label_of k) → ⊥
+pub said_stays : (k : Event) → CanCross (label_of k) → ⊥
 said_stays (Unlocks l ws) c = c
 said_stays (Prints w) c = c
 said_stays Ends c = c
@@ -58,12 +58,12 @@ brought_stays edge ls Done h c = c
 brought_stays edge ls (Call f x) h c = h
 brought_stays edge ls (Leave x) h c = h
 
-not_crossing : {S : Type 0} (edge : Edge) (ls : List RunLabel) (a : Act S) (l : RunLabel) (y : S) → Leads edge ls a l y → (IsCrossing a → ⊥) → CanCross l → ⊥
+not_crossing : {S : Type 0} (edge : Edge) (ls : List RunLabel) (a : Act S) (l : RunLabel) (y : S) → StepsTo edge ls a l y → (IsCrossing a → ⊥) → CanCross l → ⊥
 not_crossing edge ls (Crosses next) l y h n c = n tt
 not_crossing edge ls (Quiet m) l y h n c = h
-not_crossing edge ls (Says k m) l y h n c = said_stays k (subst CanCross (sym h.0) c)
+not_crossing edge ls (Emits k m) l y h n c = said_stays k (subst CanCross (sym h.0) c)
 not_crossing edge ls (Locks k m) l y h n c = let no : ⊥ = subst CanCross h.1 c in no
-not_crossing edge ls (Hears m) l y h n c = brought_stays edge ls l h.0 c
+not_crossing edge ls (Receives m) l y h n c = brought_stays edge ls l h.0 c
 not_crossing edge ls Bad l y h n c = h
 not_crossing edge ls (Stops w) l y h n c = h
 
@@ -87,7 +87,7 @@ module _ {T S R : Type 0} (edge : Edge) (t : Machine T) (s : Machine S) (r : Mac
       let before = before_label edge r l ls has.run refl in
       let leads = at_crossing edge r l ls before m.run m.s_next m.crosses in
       let to = m.each l before.to leads.0 leads.1 in
-      inr (record { blocks = n.block ∷ n.blocks; block = begun s to.0; at = to.0; run = labelled l to.0 n.run (subst (λ (v : Act S). Leads edge ls v l to.0) (sym n.crosses) (leads.0, to.1)) }))
+      inr (record { blocks = n.block ∷ n.blocks; block = begun s to.0; at = to.0; run = labelled l to.0 n.run (subst (λ (v : Act S). StepsTo edge ls v l to.0) (sym n.crosses) (leads.0, to.1)) }))
       (k.crosses ls n.blocks n.block n.at n.run (has_before edge r l ls has) n.s_next n.crosses)
 
   -- the middle has the labels that both have
@@ -129,8 +129,8 @@ module _ {T S R : Type 0} (edge : Edge) (t : Machine T) (s : Machine S) (r : Mac
   locks_both : (ls : List RunLabel) → HasRun edge r ls → (lock : ℕ) → AtLock edge s ls lock → BadBefore edge r ls ⊎ AtLock edge r ls lock
   locks_both ls has lock m = k.locks ls m.blocks m.block m.at m.run has lock m.next m.waits
 
-  hears_both : (ls : List RunLabel) → HasRun edge r ls → AtHearing edge s ls → BadBefore edge r ls ⊎ AtHearing edge r ls
-  hears_both ls has m = k.hears ls m.blocks m.block m.at m.run has m.next m.waits
+  hears_both : (ls : List RunLabel) → HasRun edge r ls → AtReceiving edge s ls → BadBefore edge r ls ⊎ AtReceiving edge r ls
+  hears_both ls has m = k.receives ls m.blocks m.block m.at m.run has m.next m.waits
 
   pub refines_both : Refines edge t r
   refines_both = record {
@@ -138,19 +138,19 @@ module _ {T S R : Type 0} (edge : Edge) (t : Machine T) (s : Machine S) (r : Mac
     follows = λ ls bs b x run has n l x' e. ⊎_elim inl (λ m. ⊎_elim inl (λ o. follows_both ls has l (not_crossing edge ls (t.act x) l x' e n) o) (either ls has (h.follows ls bs b x run m n l x' e))) (middle run has);
     crosses = λ ls bs b x run has next e. ⊎_elim inl (λ m. ⊎_elim inl (named_both ls next has) (either ls has (h.crosses ls bs b x run m next e))) (middle run has);
     locks = λ ls bs b x run has lock next e. ⊎_elim inl (λ m. ⊎_elim inl (locks_both ls has lock) (either ls has (h.locks ls bs b x run m lock next e))) (middle run has);
-    hears = λ ls bs b x run has next e. ⊎_elim inl (λ m. ⊎_elim inl (hears_both ls has) (either ls has (h.hears ls bs b x run m next e))) (middle run has);
+    receives = λ ls bs b x run has next e. ⊎_elim inl (λ m. ⊎_elim inl (hears_both ls has) (either ls has (h.receives ls bs b x run m next e))) (middle run has);
     halts = λ ls bs b x run has why e. ⊎_elim inl (λ m. ⊎_elim inl (halts_both ls has why) (either ls has (h.halts ls bs b x run m why e))) (middle run has);
   }
 
 -- Where each Call and Leave of the target has one label, each of its runs is kept.
 
 module _ {T S : Type 0} (edge : Edge) (t : Machine T) (s : Machine S) (h : Refines edge t s) (alone : NamesAlone edge t) where
-  has_label : (ls : List RunLabel) (bs : List Block) (b : Block) (x : T) → Run edge t ls bs b x → (next : RunLabel → Option T) → t.act x ≡ Crosses next → CrossesAs edge s ls next → (l : RunLabel) (x' : T) → Leads edge ls (t.act x) l x' → HasRun edge s (l ∷ ls)
+  has_label : (ls : List RunLabel) (bs : List Block) (b : Block) (x : T) → Run edge t ls bs b x → (next : RunLabel → Option T) → t.act x ≡ Crosses next → CrossesAs edge s ls next → (l : RunLabel) (x' : T) → StepsTo edge ls (t.act x) l x' → HasRun edge s (l ∷ ls)
   has_label ls bs b x r next e n l x' leads =
-      let there : CanCross l × (next l ≡ Some x') = subst (λ (v : Act T). Leads edge ls v l x') e leads in
+      let there : CanCross l × (next l ≡ Some x') = subst (λ (v : Act T). StepsTo edge ls v l x') e leads in
       let to = n.each n.some_label n.some_next n.can_cross n.has_label in
       let same : n.some_label ≡ l = alone.alone ls bs b x r next e n.some_label l to.0 x' n.can_cross to.1 there.0 there.1 in
-      let run : HasRun edge s (n.some_label ∷ ls) = record { blocks = n.block ∷ n.blocks; block = begun s n.some_next; at = n.some_next; run = labelled n.some_label n.some_next n.run (subst (λ (v : Act S). Leads edge ls v n.some_label n.some_next) (sym n.crosses) (n.can_cross, n.has_label)) } in
+      let run : HasRun edge s (n.some_label ∷ ls) = record { blocks = n.block ∷ n.blocks; block = begun s n.some_next; at = n.some_next; run = labelled n.some_label n.some_next n.run (subst (λ (v : Act S). StepsTo edge ls v n.some_label n.some_next) (sym n.crosses) (n.can_cross, n.has_label)) } in
       subst (λ v. HasRun edge s (v ∷ ls)) same run
 
   has_each : {ls : List RunLabel} {bs : List Block} {b : Block} {x : T} → Run edge t ls bs b x → BadBefore edge s ls ⊎ HasRun edge s ls
@@ -201,6 +201,6 @@ module _ {S : Type 0} (edge : Edge) (m : Machine S) (rules : Proceeds m) where
         let some = rules.named x next e in
         inr (record { blocks = bs; block = b; at = x; run = run; s_next = next; crosses = e; some_label = some.0; some_next = some.1; can_cross = some.2; has_label = some.3; each = λ l y v h. (y, h) });
     locks = λ ls bs b x run has lock next e. inr (record { blocks = bs; block = b; at = x; run = run; next = next; waits = e });
-    hears = λ ls bs b x run has next e. inr (record { blocks = bs; block = b; at = x; run = run; next = next; waits = e });
+    receives = λ ls bs b x run has next e. inr (record { blocks = bs; block = b; at = x; run = run; next = next; waits = e });
     halts = λ ls bs b x run has why e. inr (halts_itself ls bs b x run why e);
   }

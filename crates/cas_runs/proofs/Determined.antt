@@ -2,7 +2,7 @@
 use Rattle.std.proofs.Common.{◌≡◌, ℕ, ◌+◌, List, [], ◌∷◌, ◌++◌, length, refl, sym, ap, ◌∙◌, subst, arith, append_assoc, length-append}
 use Rattle.cas_runs.specs.Label.{RunLabel}
 use Rattle.cas_runs.specs.Edge.{Edge}
-use Rattle.cas_runs.specs.Machine.{Quiet, Machine, Leads, Block, begun, onward, Run, starts, quiet, labelled, quiet_steps}
+use Rattle.cas_runs.specs.Machine.{Quiet, Machine, StepsTo, Block, begun, onward, Run, starts, quiet, labelled, quiet_steps}
 use Rattle.cas_runs.specs.Determined.{Same}
 use Rattle.cas_runs.proofs.Refining.{IsQuiet, leads_not_quiet, leads_to_one}
 
@@ -37,15 +37,15 @@ module _ {S : Type 0} (edge : Edge) (m : Machine S) where
       let same : x' ≡ y' = let one = ap m.act a.state in cc (e, f, one) in
       record { labels = a.labels; blocks = a.blocks; block = ap (λ v. onward m v x') a.block ∙ ap (λ v. onward m c v) same; state = same }
 
-  label_alike : (ls ks : List RunLabel) (bs cs : List Block) (b c : Block) (x y x' y' : S) (l k : RunLabel) → Alike ls ks bs cs b c x y → l ≡ k → Leads edge ls (m.act x) l x' → Leads edge ks (m.act y) k y' → Alike (l ∷ ls) (k ∷ ks) (b ∷ bs) (c ∷ cs) (begun m x') (begun m y') x' y'
+  label_alike : (ls ks : List RunLabel) (bs cs : List Block) (b c : Block) (x y x' y' : S) (l k : RunLabel) → Alike ls ks bs cs b c x y → l ≡ k → StepsTo edge ls (m.act x) l x' → StepsTo edge ks (m.act y) k y' → Alike (l ∷ ls) (k ∷ ks) (b ∷ bs) (c ∷ cs) (begun m x') (begun m y') x' y'
   label_alike ls ks bs cs b c x y x' y' l k a e h i =
-      let one : Leads edge ks (m.act x) k y' = subst (λ v. Leads edge ks (m.act v) k y') (sym a.state) i in
-      let two : Leads edge ls (m.act x) k y' = subst (λ v. Leads edge v (m.act x) k y') (sym a.labels) one in
-      let three : Leads edge ls (m.act x) l y' = subst (λ v. Leads edge ls (m.act x) v y') (sym e) two in
+      let one : StepsTo edge ks (m.act x) k y' = subst (λ v. StepsTo edge ks (m.act v) k y') (sym a.state) i in
+      let two : StepsTo edge ls (m.act x) k y' = subst (λ v. StepsTo edge v (m.act x) k y') (sym a.labels) one in
+      let three : StepsTo edge ls (m.act x) l y' = subst (λ v. StepsTo edge ls (m.act x) v y') (sym e) two in
       let same : x' ≡ y' = leads_to_one edge ls (m.act x) l x' y' h three in
       record { labels = ap (λ v. l ∷ v) a.labels ∙ ap (λ v. v ∷ ks) e; blocks = ap (λ v. b ∷ v) a.blocks ∙ ap (λ v. v ∷ cs) a.block; block = ap (λ v. begun m v) same; state = same }
 
-  clash : (ls ks : List RunLabel) (x y x' y' : S) (l : RunLabel) → x ≡ y → m.act x ≡ Quiet x' → Leads edge ks (m.act y) l y' → ⊥
+  clash : (ls ks : List RunLabel) (x y x' y' : S) (l : RunLabel) → x ≡ y → m.act x ≡ Quiet x' → StepsTo edge ks (m.act y) l y' → ⊥
   clash ls ks x y x' y' l a e h = leads_not_quiet edge ks (m.act y) l y' h (subst (λ v. IsQuiet (m.act v)) a (subst IsQuiet (sym e) tt))
 
   front : (all xs : List RunLabel) (l : RunLabel) (ls : List RunLabel) → all ≡ xs ++ l ∷ ls → all ≡ (xs ++ l ∷ []) ++ ls

@@ -5,8 +5,8 @@ use Rattle.cas_base.specs.declared.kind.Kind.TheVariants.{U32}
 use Rattle.cas_runs.specs.Label.{RunLabel, Lock, Unlock, Out, Done}
 use Rattle.cas_runs.specs.Edge.{LockWord, AreGuarded, AreUnder, IsOfKind}
 use Rattle.cas_runs.specs.Outside.{IsAmong, first, later}
-use Rattle.cas_runs.specs.Machine.{Act, Quiet, Says, Crosses, Locks, Hears, Bad, Stops, CanCross, Halt, Ended, Taken, Saying, Unlocks, Prints, Ends, label_of, Leads, Block, Run, starts, quiet, labelled}
-use Rattle.cas_runs.specs.Rules.{and_lock, except_lock, locks_after, IsShared, MaySay, HasEnded, MayHalt, HasCrossed, IsHearing, KeepsRules, SaysInKind, KeepsKinds, KeepsLocks}
+use Rattle.cas_runs.specs.Machine.{Act, Quiet, Emits, Crosses, Locks, Receives, Bad, Stops, CanCross, Halt, Ended, Taken, Event, Unlocks, Prints, Ends, label_of, StepsTo, Block, Run, starts, quiet, labelled}
+use Rattle.cas_runs.specs.Rules.{and_lock, except_lock, locks_after, IsShared, MayEmit, HasEnded, MayHalt, HasCrossed, IsReceiving, KeepsRules, EmitsInKind, KeepsKinds, KeepsLocks}
 use Rattle.cas_runs.proofs.Composing.{said_stays}
 use Rattle.cas_runs.specs.Sections.{Instruction, Take, Give, Load, Store, Print, Spin, Standing, At, Over, one_lock, first_of_words, act_of, act_at, footprint_at, sections, StoresWords}
 
@@ -44,7 +44,7 @@ locked_holds : (ls : List RunLabel) (rest : List Instruction) (register : ℕ) �
 locked_holds ls rest register s r k [] g = let none = g.kinds in absurd none
 locked_holds ls rest register s r k (w ∷ ws) g = let one = g.kinds in taken s r one.0 (ap (λ v. and_lock 0 v) k)
 
-label_holds : (ls : List RunLabel) (l : RunLabel) (x y : Standing) → Holds ls x → Leads one_lock ls (act_at x) l y → Holds (l ∷ ls) y
+label_holds : (ls : List RunLabel) (l : RunLabel) (x y : Standing) → Holds ls x → StepsTo one_lock ls (act_at x) l y → Holds (l ∷ ls) y
 label_holds ls l x y (free {rest = []} s r k) e = same_locks ls Done l Over y e.0 (over refl) e.1
 label_holds ls l x y (free {rest = Take ∷ rest} {register = register} s r k) e = same_locks ls (Lock 0 e.0) l (At rest register (first_of_words e.0)) y (sym e.1) (locked_holds ls rest register s r k e.0 e.2) e.3
 label_holds ls l x y (free {rest = Give ∷ rest} s r k) e = absurd e
@@ -103,45 +103,45 @@ writes_shared ls x (free {rest = Print ∷ rest} s r k) w h = elim h [ ]
 writes_shared ls x (free {rest = Spin ∷ rest} s r k) w h = elim h [ ]
 writes_shared ls x (over e) w h = elim h [ ]
 
-says_allowed : (ls : List RunLabel) (x : Standing) → Holds ls x → (saying : Saying) (y : Standing) → act_at x ≡ Says saying y → MaySay one_lock ls (label_of saying)
-says_allowed ls x (free {rest = []} s r k) saying y e = subst (λ v. MaySay one_lock ls (label_of v)) (let same : Ends ≡ saying = cc e in same) tt
-says_allowed ls x (free {rest = Take ∷ rest} s r k) saying y e = absurd (cc e)
-says_allowed ls x (free {rest = Give ∷ rest} s r k) saying y e = absurd (cc e)
-says_allowed ls x (free {rest = Load ∷ rest} s r k) saying y e = absurd (cc e)
-says_allowed ls x (free {rest = Store w ∷ rest} s r k) saying y e = absurd (cc e)
-says_allowed ls x (free {rest = Print ∷ rest} {register = register} s r k) saying y e = subst (λ v. MaySay one_lock ls (label_of v)) (let same : Prints register ≡ saying = cc e in same) tt
-says_allowed ls x (free {rest = Spin ∷ rest} s r k) saying y e = absurd (cc e)
-says_allowed ls x (taken {rest = []} s r v k) saying y e = subst (λ v. MaySay one_lock ls (label_of v)) (let same : Ends ≡ saying = cc e in same) tt
-says_allowed ls x (taken {rest = Take ∷ rest} s r v k) saying y e = absurd (cc e)
-says_allowed ls x (taken {rest = Give ∷ rest} {w = w} s r v k) saying y e =
-    let same : Unlocks 0 (w ∷ []) ≡ saying = cc e in
+says_allowed : (ls : List RunLabel) (x : Standing) → Holds ls x → (event : Event) (y : Standing) → act_at x ≡ Emits event y → MayEmit one_lock ls (label_of event)
+says_allowed ls x (free {rest = []} s r k) event y e = subst (λ v. MayEmit one_lock ls (label_of v)) (let same : Ends ≡ event = cc e in same) tt
+says_allowed ls x (free {rest = Take ∷ rest} s r k) event y e = absurd (cc e)
+says_allowed ls x (free {rest = Give ∷ rest} s r k) event y e = absurd (cc e)
+says_allowed ls x (free {rest = Load ∷ rest} s r k) event y e = absurd (cc e)
+says_allowed ls x (free {rest = Store w ∷ rest} s r k) event y e = absurd (cc e)
+says_allowed ls x (free {rest = Print ∷ rest} {register = register} s r k) event y e = subst (λ v. MayEmit one_lock ls (label_of v)) (let same : Prints register ≡ event = cc e in same) tt
+says_allowed ls x (free {rest = Spin ∷ rest} s r k) event y e = absurd (cc e)
+says_allowed ls x (taken {rest = []} s r v k) event y e = subst (λ v. MayEmit one_lock ls (label_of v)) (let same : Ends ≡ event = cc e in same) tt
+says_allowed ls x (taken {rest = Take ∷ rest} s r v k) event y e = absurd (cc e)
+says_allowed ls x (taken {rest = Give ∷ rest} {w = w} s r v k) event y e =
+    let same : Unlocks 0 (w ∷ []) ≡ event = cc e in
     let held : IsAmong 0 (locks_after ls) = subst (λ v. IsAmong 0 v) (sym k) first in
     let words : AreUnder one_lock 0 (w ∷ []) = record { is_lock = refl; count = refl } in
-    subst (λ v. MaySay one_lock ls (label_of v)) same (held, words)
-says_allowed ls x (taken {rest = Load ∷ rest} s r v k) saying y e = absurd (cc e)
-says_allowed ls x (taken {rest = Store w ∷ rest} s r v k) saying y e = absurd (cc e)
-says_allowed ls x (taken {rest = Print ∷ rest} {register = register} s r v k) saying y e = subst (λ v. MaySay one_lock ls (label_of v)) (let same : Prints register ≡ saying = cc e in same) tt
-says_allowed ls x (taken {rest = Spin ∷ rest} s r v k) saying y e = absurd (cc e)
-says_allowed ls x (over h) saying y e = absurd (cc e)
+    subst (λ v. MayEmit one_lock ls (label_of v)) same (held, words)
+says_allowed ls x (taken {rest = Load ∷ rest} s r v k) event y e = absurd (cc e)
+says_allowed ls x (taken {rest = Store w ∷ rest} s r v k) event y e = absurd (cc e)
+says_allowed ls x (taken {rest = Print ∷ rest} {register = register} s r v k) event y e = subst (λ v. MayEmit one_lock ls (label_of v)) (let same : Prints register ≡ event = cc e in same) tt
+says_allowed ls x (taken {rest = Spin ∷ rest} s r v k) event y e = absurd (cc e)
+says_allowed ls x (over h) event y e = absurd (cc e)
 
-says_kinds : (ls : List RunLabel) (x : Standing) → Holds ls x → (saying : Saying) (y : Standing) → act_at x ≡ Says saying y → SaysInKind one_lock ls (label_of saying)
-says_kinds ls x (free {rest = []} s r k) saying y e = subst (λ v. SaysInKind one_lock ls (label_of v)) (let same : Ends ≡ saying = cc e in same) tt
-says_kinds ls x (free {rest = Take ∷ rest} s r k) saying y e = absurd (cc e)
-says_kinds ls x (free {rest = Give ∷ rest} s r k) saying y e = absurd (cc e)
-says_kinds ls x (free {rest = Load ∷ rest} s r k) saying y e = absurd (cc e)
-says_kinds ls x (free {rest = Store w ∷ rest} s r k) saying y e = absurd (cc e)
-says_kinds ls x (free {rest = Print ∷ rest} {register = register} s r k) saying y e = subst (λ v. SaysInKind one_lock ls (label_of v)) (let same : Prints register ≡ saying = cc e in same) r
-says_kinds ls x (free {rest = Spin ∷ rest} s r k) saying y e = absurd (cc e)
-says_kinds ls x (taken {rest = []} s r v k) saying y e = subst (λ v. SaysInKind one_lock ls (label_of v)) (let same : Ends ≡ saying = cc e in same) tt
-says_kinds ls x (taken {rest = Take ∷ rest} s r v k) saying y e = absurd (cc e)
-says_kinds ls x (taken {rest = Give ∷ rest} {w = w} s r v k) saying y e =
-    let same : Unlocks 0 (w ∷ []) ≡ saying = cc e in
-    subst (λ v. SaysInKind one_lock ls (label_of v)) same (v, tt)
-says_kinds ls x (taken {rest = Load ∷ rest} s r v k) saying y e = absurd (cc e)
-says_kinds ls x (taken {rest = Store w ∷ rest} s r v k) saying y e = absurd (cc e)
-says_kinds ls x (taken {rest = Print ∷ rest} {register = register} s r v k) saying y e = subst (λ v. SaysInKind one_lock ls (label_of v)) (let same : Prints register ≡ saying = cc e in same) r
-says_kinds ls x (taken {rest = Spin ∷ rest} s r v k) saying y e = absurd (cc e)
-says_kinds ls x (over h) saying y e = absurd (cc e)
+says_kinds : (ls : List RunLabel) (x : Standing) → Holds ls x → (event : Event) (y : Standing) → act_at x ≡ Emits event y → EmitsInKind one_lock ls (label_of event)
+says_kinds ls x (free {rest = []} s r k) event y e = subst (λ v. EmitsInKind one_lock ls (label_of v)) (let same : Ends ≡ event = cc e in same) tt
+says_kinds ls x (free {rest = Take ∷ rest} s r k) event y e = absurd (cc e)
+says_kinds ls x (free {rest = Give ∷ rest} s r k) event y e = absurd (cc e)
+says_kinds ls x (free {rest = Load ∷ rest} s r k) event y e = absurd (cc e)
+says_kinds ls x (free {rest = Store w ∷ rest} s r k) event y e = absurd (cc e)
+says_kinds ls x (free {rest = Print ∷ rest} {register = register} s r k) event y e = subst (λ v. EmitsInKind one_lock ls (label_of v)) (let same : Prints register ≡ event = cc e in same) r
+says_kinds ls x (free {rest = Spin ∷ rest} s r k) event y e = absurd (cc e)
+says_kinds ls x (taken {rest = []} s r v k) event y e = subst (λ v. EmitsInKind one_lock ls (label_of v)) (let same : Ends ≡ event = cc e in same) tt
+says_kinds ls x (taken {rest = Take ∷ rest} s r v k) event y e = absurd (cc e)
+says_kinds ls x (taken {rest = Give ∷ rest} {w = w} s r v k) event y e =
+    let same : Unlocks 0 (w ∷ []) ≡ event = cc e in
+    subst (λ v. EmitsInKind one_lock ls (label_of v)) same (v, tt)
+says_kinds ls x (taken {rest = Load ∷ rest} s r v k) event y e = absurd (cc e)
+says_kinds ls x (taken {rest = Store w ∷ rest} s r v k) event y e = absurd (cc e)
+says_kinds ls x (taken {rest = Print ∷ rest} {register = register} s r v k) event y e = subst (λ v. EmitsInKind one_lock ls (label_of v)) (let same : Prints register ≡ event = cc e in same) r
+says_kinds ls x (taken {rest = Spin ∷ rest} s r v k) event y e = absurd (cc e)
+says_kinds ls x (over h) event y e = absurd (cc e)
 
 no_lock : (l : ℕ) → IsAmong l [] → ⊥
 no_lock l h = elim h [ ]
@@ -217,7 +217,7 @@ module _ (price : ℕ) (program : List Instruction) (words : StoresWords program
   not_crossing (At rest register held) next e = crossing_none rest register held next e
   not_crossing Over next e = cc e
 
-  not_hearing : (x : Standing) → IsHearing (act_at x) → ⊥
+  not_hearing : (x : Standing) → IsReceiving (act_at x) → ⊥
   not_hearing (At [] register held) h = h
   not_hearing (At (Take ∷ rest) register None) h = h
   not_hearing (At (Take ∷ rest) register (Some w)) h = h
@@ -232,11 +232,11 @@ module _ (price : ℕ) (program : List Instruction) (words : StoresWords program
   not_hearing Over h = h
 
   -- the label of an act that is no Call and no Leave
-  stays_inside : (ls : List RunLabel) (a : Act Standing) (l : RunLabel) (y : Standing) → ((next : RunLabel → Option Standing) → a ≡ Crosses next → ⊥) → (IsHearing a → ⊥) → Leads one_lock ls a l y → CanCross l → ⊥
-  stays_inside ls (Says saying z) l y n m e c = said_stays saying (subst CanCross (sym e.0) c)
+  stays_inside : (ls : List RunLabel) (a : Act Standing) (l : RunLabel) (y : Standing) → ((next : RunLabel → Option Standing) → a ≡ Crosses next → ⊥) → (IsReceiving a → ⊥) → StepsTo one_lock ls a l y → CanCross l → ⊥
+  stays_inside ls (Emits event z) l y n m e c = said_stays event (subst CanCross (sym e.0) c)
   stays_inside ls (Locks lock next) l y n m e c = let no : ⊥ = subst CanCross e.1 c in no
   stays_inside ls (Crosses next) l y n m e c = n next refl
-  stays_inside ls (Hears next) l y n m e c = m tt
+  stays_inside ls (Receives next) l y n m e c = m tt
   stays_inside ls (Quiet z) l y n m e c = e
   stays_inside ls Bad l y n m e c = e
   stays_inside ls (Stops why) l y n m e c = e
@@ -251,17 +251,17 @@ sections_keep price program p words = record {
   proceeds = record { costs = λ x. p; named = λ x next e. absurd (not_crossing price program words x next e) };
   reads = λ ls bs b x r. reads_shared ls x (holds_at price program words r);
   writes = λ ls bs b x r. writes_shared ls x (holds_at price program words r);
-  says = λ ls bs b x r. says_allowed ls x (holds_at price program words r);
+  emits = λ ls bs b x r. says_allowed ls x (holds_at price program words r);
   locks = λ ls bs b x r lock next e. (takes_lock x lock next e, locks_free ls x (holds_at price program words r) lock next e);
   crosses = λ ls bs b x r next e. absurd (not_crossing price program words x next e);
-  hears = λ ls bs b x r h. absurd (not_hearing price program words x h);
+  receives = λ ls bs b x r h. absurd (not_hearing price program words x h);
   listens = λ ls bs b x r c. absurd (never_crossed price program words r c);
   halts = λ ls bs b x r. halts_allowed ls x (holds_at price program words r);
 }
 
 pub sections_in_kind : (price : ℕ) (program : List Instruction) → StoresWords program → KeepsKinds one_lock (sections price program)
 sections_in_kind price program words = record {
-  says = λ ls bs b x r. says_kinds ls x (holds_at price program words r);
+  emits = λ ls bs b x r. says_kinds ls x (holds_at price program words r);
   crosses = λ ls bs b x r next e. absurd (not_crossing price program words x next e);
 }
 

@@ -7,7 +7,7 @@ pub mod Determined
 pub mod Entered
 pub mod Forwarding
 pub mod Found
-pub mod Hearing
+pub mod Receiving
 pub mod Itself
 pub mod Keeping
 pub mod Lifted

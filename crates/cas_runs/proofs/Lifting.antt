@@ -4,14 +4,14 @@ use Rattle.cas_runs.specs.Label.{NameBytes, same_name, Share, Crossing, RunLabel
 use Rattle.cas_runs.specs.Edge.{AreGuarded, returned, results_of}
 use Rattle.cas_runs.specs.Outside.{Brings, crossed, MayBring}
 use Rattle.cas_runs.specs.Naming.{Value, Naming, and_then, all_taken, objects_of}
-use Rattle.cas_runs.specs.Machine.{Act, Quiet, Says, Crosses, Locks, Hears, Bad, Stops, Ended, Taken, Full, Prints, Opened, Open, Between, Machine, CanCross, Leads, IsBad, Block, nothing, begun, onward, and_step}
+use Rattle.cas_runs.specs.Machine.{Act, Quiet, Emits, Crosses, Locks, Receives, Bad, Stops, Ended, Taken, Full, Prints, Opened, Open, Between, Machine, CanCross, StepsTo, IsBad, Block, nothing, begun, onward, and_step}
 use Rattle.cas_runs.specs.Refines.{Within, Subsequence, done, keep, skip, Refines}
-use Rattle.cas_runs.specs.Simulation.{halts, fails_halting, step_halting, BadSoon, now, soon, Follows, related, fails as fails_follows, step, by, fails_before, step_before, waits_too, fails_waiting, step_waiting, hears_too, fails_hearing, step_hearing, crosses, fails_crossing, step_crossing, Answers, Fine, Simulates}
+use Rattle.cas_runs.specs.Simulation.{halts, fails_halting, step_halting, GoesWrong, now, soon, Follows, related, fails as fails_follows, step, by, fails_before, step_before, waits_too, fails_waiting, step_waiting, hears_too, fails_hearing, step_hearing, crosses, fails_crossing, step_crossing, Answers, Fine, Simulates}
 use Rattle.cas_runs.specs.Bounds.{IsTariff, Tariff, BySize, ByForms, step_price, first_price, waiting_price}
 use Rattle.cas_runs.specs.Access.{Holding, Then, Fails, words_in, with_lock, without_lock, performed}
 use Rattle.cas_runs.specs.Unit.{Setting, laid_out, guard_of}
-use Rattle.cas_runs.specs.Calls.{Last, Goes, Takes, Gives, Puts, Calls, Tails, Returns, Scene, Frame, Waits, Outer, Past, Thread, Away, Runs, Leaves, Over, nothing_touched, can_cross, crosses_as, with_naming, to_outside, calls_by, leaves_by, crosses_if, leaves, first_values, kept_results, leaves_with, leaves_later, goes_back, returns, resumes, comes_back, with_share, takes_lock, takes, gives_lock, gives, find, with_own, without_own, set_blocks, gone, one_begun, begins, calls_in, enters_at, enters, below, called, calls_out, calls, acts, hears, machine}
-use Rattle.cas_runs.specs.Passing.{Relation, AllSame, t_step, s_step, Settles, Going, matched, fails, goes, Ready, ReadyIf, WaitAlike, PassesOn, cannot_go_on, fails_then, returns_first, OnlyPasses, TailAlike, tail, passing, LastAlike, Meets, meets, fails_first, goes_first, FailsSoon, fails_now, goes_on, Does, Passes, SameIf, brought_in, heard, Keeps, Pays}
+use Rattle.cas_runs.specs.Calls.{Last, Goes, Takes, Gives, Puts, Calls, Tails, Returns, Scene, Frame, Waits, Outer, Past, Thread, Away, Runs, Leaves, Over, nothing_touched, can_cross, crosses_as, with_naming, to_outside, calls_by, leaves_by, crosses_if, leaves, first_values, kept_results, leaves_with, leaves_later, goes_back, returns, resumes, comes_back, with_share, takes_lock, takes, gives_lock, gives, find, with_own, without_own, set_blocks, gone, one_begun, begins, calls_in, enters_at, enters, below, called, calls_out, calls, acts, receives, machine}
+use Rattle.cas_runs.specs.Passing.{Relation, AllMatch, t_step, s_step, Settles, Going, matched, fails, goes, Ready, ReadyIf, WaitAlike, PassesOn, cannot_go_on, fails_then, returns_first, OnlyPasses, TailAlike, tail, passing, LastAlike, Meets, meets, fails_first, goes_first, FailsSoon, fails_now, goes_on, Does, Passes, MatchIf, brought_in, received, Keeps, Pays}
 use Rattle.cas_runs.proofs.Found.{FoundAlike, AllFound}
 use Rattle.cas_runs.proofs.Refining.{steps_refine, within_more}
 use Rattle.cas_runs.proofs.Showing.{some_crossing, objects_shown}
@@ -59,7 +59,7 @@ module _ {F A G B : Type 0} (r : Relation F A G B) (is : Keeps r) (pays : Pays r
     under : {m n n' : ℕ} {f : F} {g : G} {results : Option ℕ} {next : List Value → Option A} {next' : List Value → Option B} {xs : List (Frame F A)} {ys : List (Frame G B)} → n + 1 ≤ m → n ≡ n' → r.made f g → WaitAlike r f g n h k results next next' → Based outward xs → Frames h k n xs ys → Frames h k m (Waits f n results next ∷ xs) (Waits g n' results next' ∷ ys)
     passed : {m n : ℕ} {g : G} {results : Option ℕ} {next' : List Value → Option B} {xs : List (Frame F A)} {ys : List (Frame G B)} → OnlyPasses r g results next' → Based outward xs → Frames h k m xs ys → Frames h k m xs (Waits g n results next' ∷ ys)
 
-  frames_later : (h k h' k' : Holding) {m : ℕ} {xs : List (Frame F A)} {ys : List (Frame G B)} → Frames h k m xs ys → r.later m h k h' k' → Frames h' k' m xs ys
+  frames_later : (h k h' k' : Holding) {m : ℕ} {xs : List (Frame F A)} {ys : List (Frame G B)} → Frames h k m xs ys → r.frame m h k h' k' → Frames h' k' m xs ys
   frames_later h k h' k' bottom l = bottom
   frames_later h k h' k' (outer o fr) l = outer o (frames_later h k h' k' fr l)
   frames_later h k h' k' {m = m} (under {n = n} le e made wait based fr) l =
@@ -82,8 +82,8 @@ module _ {F A G B : Type 0} (r : Relation F A G B) (is : Keeps r) (pays : Pays r
 
   pub data Lifted (ls : List RunLabel) : Thread F A → Block → Thread G B → Block → Type 0 where
     away : {xs : List (Frame F A)} {ys : List (Frame G B)} {p q : Past} {h k : Holding} {b c : Block} → outward ≡ true → Within b c → r.settled p h q k → crossed ls ≡ objects_of k.memory q.naming → Frames h k p.begun xs ys → Lifted ls (Away xs p h) b (Away ys q k) c
-    runs : {f : F} {g : G} {n n' e e' : ℕ} {x : A} {y : B} {xs : List (Frame F A)} {ys : List (Frame G B)} {p q : Past} {h k : Holding} {b c : Block} → r.made f g → n + 1 ≤ p.begun → n ≡ n' → r.match f g n x h b y k c → r.alike p h q k → Based outward xs → Frames h k n xs ys → Lifted ls (Runs f n x e xs p h) b (Runs g n' y e' ys q k) c
-    leaving : {z : Thread G B} {vs : List Value} {xs : List (Frame F A)} {p : Past} {h : Holding} {b c : Block} (ws : List Value) (ys : List (Frame G B)) (q : Past) (k : Holding) → outward ≡ true → S.act z ≡ leaves r.setting.layout ws ys q k → Subsequence (below r.target xs (Between ∷ [])) (S.open_functions z) → Within b c → AllSame r vs ws → r.settled p h q k → Frames h k p.begun xs ys → Lifted ls (Leaves vs xs p h) b z c
+    runs : {f : F} {g : G} {n n' e e' : ℕ} {x : A} {y : B} {xs : List (Frame F A)} {ys : List (Frame G B)} {p q : Past} {h k : Holding} {b c : Block} → r.made f g → n + 1 ≤ p.begun → n ≡ n' → r.match_states f g n x h b y k c → r.match_memory p h q k → Based outward xs → Frames h k n xs ys → Lifted ls (Runs f n x e xs p h) b (Runs g n' y e' ys q k) c
+    leaving : {z : Thread G B} {vs : List Value} {xs : List (Frame F A)} {p : Past} {h : Holding} {b c : Block} (ws : List Value) (ys : List (Frame G B)) (q : Past) (k : Holding) → outward ≡ true → S.act z ≡ leaves r.setting.layout ws ys q k → Subsequence (below r.target xs (Between ∷ [])) (S.open_functions z) → Within b c → AllMatch r vs ws → r.settled p h q k → Frames h k p.begun xs ys → Lifted ls (Leaves vs xs p h) b z c
     over : {b c : Block} → Within b c → Lifted ls Over b Over c
     broken : {x : Thread F A} {z : Thread G B} {b c : Block} → IsBad (S.act z) → Lifted ls x b z c
 
@@ -100,10 +100,10 @@ module _ {F A G B : Type 0} (r : Relation F A G B) (is : Keeps r) (pays : Pays r
 
   answers_bad : (ls : List RunLabel) (a : Act (Thread F A)) (b : Block) (z : Thread G B) (c : Block) → IsBad (S.act z) → Ans ls a b z c
   answers_bad ls (Quiet x) b z c e = fails_follows e
-  answers_bad ls (Says s x) b z c e = fails_before e
+  answers_bad ls (Emits s x) b z c e = fails_before e
   answers_bad ls (Crosses next) b z c e = fails_crossing e
   answers_bad ls (Locks lock next) b z c e = fails_waiting e
-  answers_bad ls (Hears next) b z c e = fails_hearing e
+  answers_bad ls (Receives next) b z c e = fails_hearing e
   answers_bad ls Bad b z c e = now e
   answers_bad ls (Stops Ended) b z c e = fails_halting e
   answers_bad ls (Stops (Taken lock)) b z c e = fails_halting e
@@ -111,16 +111,16 @@ module _ {F A G B : Type 0} (r : Relation F A G B) (is : Keeps r) (pays : Pays r
 
   answers_quiet : (ls : List RunLabel) (a : Act (Thread F A)) (b : Block) (z z' : Thread G B) (c : Block) → S.act z ≡ Quiet z' → Ans ls a b z' (onward S c z') → Ans ls a b z c
   answers_quiet ls (Quiet x) b z z' c e h = step z' e h
-  answers_quiet ls (Says s x) b z z' c e h = step_before z' e h
+  answers_quiet ls (Emits s x) b z z' c e h = step_before z' e h
   answers_quiet ls (Crosses next) b z z' c e h = step_crossing z' e h
   answers_quiet ls (Locks lock next) b z z' c e h = step_waiting z' e h
-  answers_quiet ls (Hears next) b z z' c e h = step_hearing z' e h
+  answers_quiet ls (Receives next) b z z' c e h = step_hearing z' e h
   answers_quiet ls Bad b z z' c e h = soon z' e h
   answers_quiet ls (Stops Ended) b z z' c e h = step_halting z' e h
   answers_quiet ls (Stops (Taken lock)) b z z' c e h = step_halting z' e h
   answers_quiet ls (Stops Full) b z z' c e h = tt
 
-  soon_bad : (ls : List RunLabel) (a : Act (Thread F A)) (b : Block) (z : Thread G B) (c : Block) → BadSoon S z → Ans ls a b z c
+  soon_bad : (ls : List RunLabel) (a : Act (Thread F A)) (b : Block) (z : Thread G B) (c : Block) → GoesWrong S z → Ans ls a b z c
   soon_bad ls a b z c (now e) = answers_bad ls a b z c e
   soon_bad ls a b z c (soon z' e h) = answers_quiet ls a b z z' c e (soon_bad ls a b z' (onward S c z') h)
 
@@ -134,13 +134,13 @@ module _ {F A G B : Type 0} (r : Relation F A G B) (is : Keeps r) (pays : Pays r
   failing_bad : (o : Option (Last B)) (g : G) (n : ℕ) (ys : List (Frame G B)) (q : Past) (k : Holding) → o ≡ None → IsBad (s_acts o g n ys q k)
   failing_bad o g n ys q k e = subst (λ v. IsBad (s_acts v g n ys q k)) (sym e) tt
 
-  fails_soon : (g : G) (n : ℕ) (ys : List (Frame G B)) (q : Past) {e : ℕ} {y : B} {k : Holding} → FailsSoon r y k → BadSoon S (Runs g n y e ys q k)
+  fails_soon : (g : G) (n : ℕ) (ys : List (Frame G B)) (q : Past) {e : ℕ} {y : B} {k : Holding} → FailsSoon r y k → GoesWrong S (Runs g n y e ys q k)
   fails_soon g n ys q {y = y} {k = k} (fails_now h) = now (failing_bad (s_step r y k).last g n ys q (s_step r y k).holding h)
   fails_soon g n ys q {e = e} {y = y} {k = k} (goes_on y' h m) = soon (Runs g n y' 0 ys q (s_step r y k).holding) (ap (λ (v : Option (Last B)). s_acts v g n ys q (s_step r y k).holding) h) (fails_soon g n ys q {e = 0} m)
 
   -- the source goes on to where the activations match
   going : (ls : List RunLabel) (f : F) (g : G) (n n' e : ℕ) (p q : Past) (h0 k0 : Holding) (x : A) (h : Holding) (b : Block) (xs : List (Frame F A)) (ys : List (Frame G B)) → r.made f g → n + 1 ≤ p.begun → n ≡ n' → Based outward xs → Frames h0 k0 n xs ys → {e' : ℕ} {y : B} {k : Holding} {c : Block} → Going r f g n p q h0 k0 x h b y k c → Fol ls (Runs f n x e xs p h) b (Runs g n' y e' ys q k) c
-  going ls f g n n' e p q h0 k0 x h b xs ys made less same based fr {k = k} (matched m s) = related (runs made less same m s.alike based (frames_later h0 k0 h k fr s.later))
+  going ls f g n n' e p q h0 k0 x h b xs ys made less same based fr {k = k} (matched m s) = related (runs made less same m s.match_memory based (frames_later h0 k0 h k fr s.frame))
   going ls f g n n' e p q h0 k0 x h b xs ys made less same based fr {y = y} {k = k} (fails m) = fails_follows (failing_bad (s_step r y k).last g n' ys q (s_step r y k).holding m)
   going ls f g n n' e p q h0 k0 x h b xs ys made less same based fr {e' = e'} {y = y} {k = k} (goes y' m go) =
       step (Runs g n' y' 0 ys q (s_step r y k).holding) (ap (λ (v : Option (Last B)). s_acts v g n' ys q (s_step r y k).holding) m) (going ls f g n n' e p q h0 k0 x h b xs ys made less same based fr {e' = 0} go)
@@ -156,15 +156,15 @@ module _ {F A G B : Type 0} (r : Relation F A G B) (is : Keeps r) (pays : Pays r
 
   -- Locks.
 
-  module _ (ls : List RunLabel) (b d : Block) (f : F) (g : G) (n n' : ℕ) (p q : Past) (xs : List (Frame F A)) (ys : List (Frame G B)) (made : r.made f g) (less : n + 1 ≤ p.begun) (same : n ≡ n') (based : Based outward xs) (h k : Holding) (alike : r.alike p h q k) (fr : Frames h k n xs ys) (x : A) (y : B) (z : Thread G B) where
+  module _ (ls : List RunLabel) (b d : Block) (f : F) (g : G) (n n' : ℕ) (p q : Past) (xs : List (Frame F A)) (ys : List (Frame G B)) (made : r.made f g) (less : n + 1 ≤ p.begun) (same : n ≡ n') (based : Based outward xs) (h k : Holding) (alike : r.match_memory p h q k) (fr : Frames h k n xs ys) (x : A) (y : B) (z : Thread G B) where
     -- after a label
-    at_label : (l : RunLabel) (h' k' : Holding) → r.later n h k h' k' → Ready r f g n p q x 0 h' y 0 k' → Fol (l ∷ ls) (Runs f n x 0 xs p h') (begun T (Runs f n x 0 xs p h')) (Runs g n' y 0 ys q k') (begun S (Runs g n' y 0 ys q k'))
+    at_label : (l : RunLabel) (h' k' : Holding) → r.frame n h k h' k' → Ready r f g n p q x 0 h' y 0 k' → Fol (l ∷ ls) (Runs f n x 0 xs p h') (begun T (Runs f n x 0 xs p h')) (Runs g n' y 0 ys q k') (begun S (Runs g n' y 0 ys q k'))
     at_label l h' k' later ready = going (l ∷ ls) f g n n' 0 p q h' k' x h' (begun T (Runs f n x 0 xs p h')) xs ys made less same based (frames_later h k h' k' fr later) (ready nothing nothing (nothing_under nothing))
 
     module _ (lock : NameBytes) (ready : (num : ℕ) (ws : List ℕ) → guard_of r.setting.edge r.setting.words lock ≡ Some num → AreGuarded r.setting.edge num ws → Ready r f g n p q x 0 (with_share h (with_lock h.share num ws)) y 0 (with_share k (with_lock k.share num ws))) where
       takes_free : (num : ℕ) → guard_of r.setting.edge r.setting.words lock ≡ Some num → (o : Option (List ℕ)) → S.act z ≡ takes_lock num o (λ ws. Runs g n' y 0 ys q (with_share k (with_lock k.share num ws))) → Ans ls (takes_lock num o (λ ws. Runs f n x 0 xs p (with_share h (with_lock h.share num ws)))) b z d
       takes_free num named None e = waits_too (λ ws. Runs g n' y 0 ys q (with_share k (with_lock k.share num ws))) e
-          (λ ws guarded. at_label (Lock num ws) (with_share h (with_lock h.share num ws)) (with_share k (with_lock k.share num ws)) (is.locks n p q h k alike num ws guarded).later (ready num ws named guarded))
+          (λ ws guarded. at_label (Lock num ws) (with_share h (with_lock h.share num ws)) (with_share k (with_lock k.share num ws)) (is.locks n p q h k alike num ws guarded).frame (ready num ws named guarded))
       takes_free num named (Some held) e = halts e
 
       takes_too : (o : Option ℕ) → guard_of r.setting.edge r.setting.words lock ≡ o → S.act z ≡ takes o y g n' ys q k → Ans ls (takes o x f n xs p h) b z d
@@ -176,16 +176,16 @@ module _ {F A G B : Type 0} (r : Relation F A G B) (is : Keeps r) (pays : Pays r
       gives_held : (num : ℕ) → guard_of r.setting.edge r.setting.words lock ≡ Some num → (o : Option (List ℕ)) → S.act z ≡ gives_lock num o (Runs g n' y 0 ys q (with_share k (without_lock k.share num))) → Ans ls (gives_lock num o (Runs f n x 0 xs p (with_share h (without_lock h.share num)))) b z d
       gives_held num named None e = now (subst (λ (v : Act (Thread G B)). IsBad v) (sym e) tt)
       gives_held num named (Some held) e = by (Runs g n' y 0 ys q (with_share k (without_lock k.share num)))
-          (subst (λ (v : Act (Thread G B)). Leads r.setting.edge ls v (Unlock num held) (Runs g n' y 0 ys q (with_share k (without_lock k.share num)))) (sym e) (refl, refl))
-          (at_label (Unlock num held) (with_share h (without_lock h.share num)) (with_share k (without_lock k.share num)) (is.unlocks n p q h k alike num).later (ready num named))
+          (subst (λ (v : Act (Thread G B)). StepsTo r.setting.edge ls v (Unlock num held) (Runs g n' y 0 ys q (with_share k (without_lock k.share num)))) (sym e) (refl, refl))
+          (at_label (Unlock num held) (with_share h (without_lock h.share num)) (with_share k (without_lock k.share num)) (is.unlocks n p q h k alike num).frame (ready num named))
 
       gives_too : (o : Option ℕ) → guard_of r.setting.edge r.setting.words lock ≡ o → S.act z ≡ gives o y g n' ys q k → Ans ls (gives o x f n xs p h) b z d
       gives_too None named e = now (subst (λ (v : Act (Thread G B)). IsBad v) (sym e) tt)
       gives_too (Some num) named e =
           subst (λ (s : Share). Ans ls (gives_lock num (words_in s num) (Runs f n x 0 xs p (with_share h (without_lock h.share num)))) b z d) (sym (is.shares p q h k alike)) (gives_held num named (words_in k.share num) e)
 
-    puts_too : (word : ℕ) → Ready r f g n p q x 0 h y 0 k → S.act z ≡ Says (Prints word) (Runs g n' y 0 ys q k) → Ans ls (Says (Prints word) (Runs f n x 0 xs p h)) b z d
-    puts_too word ready e = by (Runs g n' y 0 ys q k) (subst (λ (v : Act (Thread G B)). Leads r.setting.edge ls v (Out word) (Runs g n' y 0 ys q k)) (sym e) (refl, refl)) (at_label (Out word) h k (is.at_once n h k) ready)
+    puts_too : (word : ℕ) → Ready r f g n p q x 0 h y 0 k → S.act z ≡ Emits (Prints word) (Runs g n' y 0 ys q k) → Ans ls (Emits (Prints word) (Runs f n x 0 xs p h)) b z d
+    puts_too word ready e = by (Runs g n' y 0 ys q k) (subst (λ (v : Act (Thread G B)). StepsTo r.setting.edge ls v (Out word) (Runs g n' y 0 ys q k)) (sym e) (refl, refl)) (at_label (Out word) h k (is.at_once n h k) ready)
 
   -- What crosses.
 
@@ -195,7 +195,7 @@ module _ {F A G B : Type 0} (r : Relation F A G B) (is : Keeps r) (pays : Pays r
   pub waits_within : Within (and_step nothing (waiting_price r.target.tariff r.targets) nothing_touched) (and_step nothing (waiting_price r.source.tariff r.sources) nothing_touched)
   waits_within = let le = pays.waits in waiting_within _ (omega (arith, le))
 
-  module _ (ls : List RunLabel) (p q : Past) (h k : Holding) (alike : r.settled p h q k) (vs ws : List Value) (same : AllSame r vs ws) (xs : List (Frame F A)) (ys : List (Frame G B)) (fr : Frames h k p.begun xs ys) (out : outward ≡ true) where
+  module _ (ls : List RunLabel) (p q : Past) (h k : Holding) (alike : r.settled p h q k) (vs ws : List Value) (same : AllMatch r vs ws) (xs : List (Frame F A)) (ys : List (Frame G B)) (fr : Frames h k p.begun xs ys) (out : outward ≡ true) where
     abbrev EachOut : RunLabel → Option (Thread F A) → Thread G B → Type 0
     EachOut l o y = (x : Thread F A) × (o ≡ Some x) × Fol (l ∷ ls) x (begun T x) y (begun S y)
 
@@ -243,7 +243,7 @@ module _ {F A G B : Type 0} (r : Relation F A G B) (is : Keeps r) (pays : Pays r
     leaves_too : (b d : Block) (z : Thread G B) → S.act z ≡ leaves r.setting.layout ws ys q k → Ans ls (leaves r.placed vs xs p h) b z d
     leaves_too b d z e = crosses_too (leaves_by r.placed vs xs p h) (leaves_by r.setting.layout ws ys q k) (λ crossing. Leave crossing) (λ crossing. tt) (λ crossing. refl) each_leave b d z (can_cross r.setting.layout q ws) refl e
 
-  each_calls : (ls : List RunLabel) (p q : Past) (h k : Holding) → r.settled p h q k → (vs ws : List Value) → AllSame r vs ws → (xs : List (Frame F A)) (ys : List (Frame G B)) → Frames h k p.begun xs ys → (function : NameBytes) (b d : Block) (z : Thread G B) → (o : Bool) → outward ≡ o → S.act z ≡ calls_out r.source r.setting scene_s o function ws ys q k → Ans ls (calls_out r.target there scene_t o function vs xs p h) b z d
+  each_calls : (ls : List RunLabel) (p q : Past) (h k : Holding) → r.settled p h q k → (vs ws : List Value) → AllMatch r vs ws → (xs : List (Frame F A)) (ys : List (Frame G B)) → Frames h k p.begun xs ys → (function : NameBytes) (b d : Block) (z : Thread G B) → (o : Bool) → outward ≡ o → S.act z ≡ calls_out r.source r.setting scene_s o function ws ys q k → Ans ls (calls_out r.target there scene_t o function vs xs p h) b z d
   each_calls ls p q h k alike vs ws same xs ys fr function b d z false out e = now (subst (λ (v : Act (Thread G B)). IsBad v) (sym e) tt)
   each_calls ls p q h k alike vs ws same xs ys fr function b d z true out e =
       crosses_too ls p q h k alike vs ws same xs ys fr out (calls_by r.placed function vs xs p h) (calls_by r.setting.layout function ws ys q k) (λ crossing. Call function crossing) (λ crossing. tt)
@@ -257,7 +257,7 @@ module _ {F A G B : Type 0} (r : Relation F A G B) (is : Keeps r) (pays : Pays r
       let h' = with_own r.target f p.begun h in
       let k' = with_own r.source g q.begun k in
       going ls f g p.begun q.begun (first_price r.target.tariff r.target.blocks f) (one_begun r.target p) (one_begun r.source q) h' k' x h' (onward T b (begins r.target f x xs p h)) xs ys made (omega arith) (is.begun p q h k (is.alikes p q h k alike)) based
-      (frames_later h k h' k' fr (is.begins f g made p q h k alike).later) (ready b d w)
+      (frames_later h k h' k' fr (is.begins f g made p q h k alike).frame) (ready b d w)
 
   begins_too : (ls : List RunLabel) (f : F) (g : G) → r.made f g → (p q : Past) (h k : Holding) → r.settled p h q k → (xs : List (Frame F A)) (ys : List (Frame G B)) → Based outward xs → Frames h k p.begun xs ys → (b d : Block) (z : Thread G B) → Within b d → (o : Option A) (o' : Option B) → ReadyIf r f g p.begun (one_begun r.target p) (one_begun r.source q) o (first_price r.target.tariff r.target.blocks f) (with_own r.target f p.begun h) o' (first_price r.source.tariff r.source.blocks g) (with_own r.source g q.begun k) → S.act z ≡ calls_in r.source g o' ys q k → Ans ls (calls_in r.target f o xs p h) b z d
   begins_too ls f g made p q h k alike xs ys based fr b d z w None None ready e = now (subst (λ (v : Act (Thread G B)). IsBad v) (sym e) tt)
@@ -265,7 +265,7 @@ module _ {F A G B : Type 0} (r : Relation F A G B) (is : Keeps r) (pays : Pays r
   begins_too ls f g made p q h k alike xs ys based fr b d z w None (Some y) ready e = absurd ready
   begins_too ls f g made p q h k alike xs ys based fr b d z w (Some x) (Some y) ready e = step (begins r.source g y ys q k) e (begins_going ls f g made p q h k alike xs ys based fr x y b d w ready)
 
-  calls_too : (ls : List RunLabel) (p q : Past) (h k : Holding) → r.settled p h q k → (vs ws : List Value) → AllSame r vs ws → (xs : List (Frame F A)) (ys : List (Frame G B)) → Based outward xs → Frames h k p.begun xs ys → (function : NameBytes) (b d : Block) (z : Thread G B) → Within b d → (o : Option F) (o' : Option G) → FoundAlike r.made o o' → S.act z ≡ calls r.source r.setting scene_s o' function ws ys q k → Ans ls (calls r.target there scene_t o function vs xs p h) b z d
+  calls_too : (ls : List RunLabel) (p q : Past) (h k : Holding) → r.settled p h q k → (vs ws : List Value) → AllMatch r vs ws → (xs : List (Frame F A)) (ys : List (Frame G B)) → Based outward xs → Frames h k p.begun xs ys → (function : NameBytes) (b d : Block) (z : Thread G B) → Within b d → (o : Option F) (o' : Option G) → FoundAlike r.made o o' → S.act z ≡ calls r.source r.setting scene_s o' function ws ys q k → Ans ls (calls r.target there scene_t o function vs xs p h) b z d
   calls_too ls p q h k alike vs ws same xs ys based fr function b d z w None None found e = each_calls ls p q h k alike vs ws same xs ys fr function b d z outward refl e
   calls_too ls p q h k alike vs ws same xs ys based fr function b d z w None (Some g) found e = absurd found
   calls_too ls p q h k alike vs ws same xs ys based fr function b d z w (Some f) None found e = absurd found
@@ -293,9 +293,9 @@ module _ {F A G B : Type 0} (r : Relation F A G B) (is : Keeps r) (pays : Pays r
   abbrev FirstSame : List Value → List Value → Type 0
   FirstSame vs [] = Unit {0}
   FirstSame [] (w ∷ ws) = ⊥
-  FirstSame (v ∷ vs) (w ∷ ws) = r.same v w × FirstSame vs ws
+  FirstSame (v ∷ vs) (w ∷ ws) = r.match_values v w × FirstSame vs ws
 
-  all_first : (vs ws : List Value) → AllSame r vs ws → FirstSame vs ws
+  all_first : (vs ws : List Value) → AllMatch r vs ws → FirstSame vs ws
   all_first [] [] s = tt
   all_first [] (w ∷ ws) s = absurd s
   all_first (v ∷ vs) [] s = tt
@@ -306,23 +306,23 @@ module _ {F A G B : Type 0} (r : Relation F A G B) (is : Keeps r) (pays : Pays r
   fewer_first [] (u ∷ us) more s = absurd s
   fewer_first (v ∷ vs) (u ∷ us) more s = (s.0, fewer_first vs us more s.1)
 
-  none_same : (o : Option (List Value)) → SameIf r o None
+  none_same : (o : Option (List Value)) → MatchIf r o None
   none_same None = tt
   none_same (Some vs) = tt
 
-  first_kept : (c : ℕ) (vs ws : List Value) → FirstSame vs ws → SameIf r (first_values c vs) (first_values c ws)
+  first_kept : (c : ℕ) (vs ws : List Value) → FirstSame vs ws → MatchIf r (first_values c vs) (first_values c ws)
   first_kept zero vs ws s = tt
   first_kept (suc c) [] [] s = tt
   first_kept (suc c) (v ∷ vs) [] s = none_same (first_values (suc c) (v ∷ vs))
   first_kept (suc c) [] (w ∷ ws) s = absurd s
   first_kept (suc c) (v ∷ vs) (w ∷ ws) s = add (first_values c vs) (first_values c ws) (first_kept c vs ws s.1)
     where
-      add : (o o' : Option (List Value)) → SameIf r o o' → SameIf r (and_then o (λ us. Some (v ∷ us))) (and_then o' (λ us. Some (w ∷ us)))
+      add : (o o' : Option (List Value)) → MatchIf r o o' → MatchIf r (and_then o (λ us. Some (v ∷ us))) (and_then o' (λ us. Some (w ∷ us)))
       add o None i = none_same (and_then o (λ us. Some (v ∷ us)))
       add None (Some xs) i = absurd i
       add (Some us) (Some xs) i = (s.0, i)
 
-  kept_same : (results : Option ℕ) (vs ws : List Value) → FirstSame vs ws → SameIf r (kept_results results vs) (kept_results results ws)
+  kept_same : (results : Option ℕ) (vs ws : List Value) → FirstSame vs ws → MatchIf r (kept_results results vs) (kept_results results ws)
   kept_same None vs ws s = tt
   kept_same (Some c) vs ws s = first_kept c vs ws s
 
@@ -354,7 +354,7 @@ module _ {F A G B : Type 0} (r : Relation F A G B) (is : Keeps r) (pays : Pays r
   none_ready f g n p q (Some x) h k = tt
 
   -- both go on with what is kept
-  ready_kept : (f : F) (g : G) (n : ℕ) (p q : Past) (h k : Holding) → r.settled p h q k → (results : Option ℕ) (next : List Value → Option A) (next' : List Value → Option B) → WaitAlike r f g n h k results next next' → (o o' : Option (List Value)) → SameIf r o o' → ((us : List Value) → o' ≡ Some us → results ≡ Some (length us)) → ReadyIf r f g n p q (and_then o next) 0 h (and_then o' next') 0 k
+  ready_kept : (f : F) (g : G) (n : ℕ) (p q : Past) (h k : Holding) → r.settled p h q k → (results : Option ℕ) (next : List Value → Option A) (next' : List Value → Option B) → WaitAlike r f g n h k results next next' → (o o' : Option (List Value)) → MatchIf r o o' → ((us : List Value) → o' ≡ Some us → results ≡ Some (length us)) → ReadyIf r f g n p q (and_then o next) 0 h (and_then o' next') 0 k
   ready_kept f g n p q h k alike results next next' wait o None same count = none_ready f g n p q (and_then o next) h k
   ready_kept f g n p q h k alike results next next' wait None (Some ws) same count = absurd same
   ready_kept f g n p q h k alike results next next' wait (Some vs) (Some ws) same count = wait p q h k (is.at_once (n + 1) h k) alike vs ws same (count ws refl)
@@ -371,7 +371,7 @@ module _ {F A G B : Type 0} (r : Relation F A G B) (is : Keeps r) (pays : Pays r
     over_within : Within (begun T Over) (begun S Over)
     over_within = waits_within
 
-    leaves_kept : (xs : List (Frame F A)) (ys : List (Frame G B)) → Frames h k p.begun xs ys → outward ≡ true → (o o' : Option (List Value)) → SameIf r o o' → (d : Block) (z : Thread G B) → S.act z ≡ leaves_with r.setting.layout o' ys q k → Ans ls (leaves_with r.placed o xs p h) b z d
+    leaves_kept : (xs : List (Frame F A)) (ys : List (Frame G B)) → Frames h k p.begun xs ys → outward ≡ true → (o o' : Option (List Value)) → MatchIf r o o' → (d : Block) (z : Thread G B) → S.act z ≡ leaves_with r.setting.layout o' ys q k → Ans ls (leaves_with r.placed o xs p h) b z d
     leaves_kept xs ys fr out o None same d z e = answers_bad ls (leaves_with r.placed o xs p h) b z d (subst (λ (v : Act (Thread G B)). IsBad v) (sym e) tt)
     leaves_kept xs ys fr out None (Some ws) same d z e = absurd same
     leaves_kept xs ys fr out (Some us) (Some ws) same d z e = leaves_too ls p q h k alike us ws same xs ys fr out b d z e
@@ -394,7 +394,7 @@ module _ {F A G B : Type 0} (r : Relation F A G B) (is : Keeps r) (pays : Pays r
         kept (Some ws') i f = let kept = kept_of results ws ws' i in on ws' (fewer_first vs ws' kept.more (subst (λ v. FirstSame vs v) kept.are s)) (next ws') (only.1 ws' kept.count) f
 
     returns_too : {m : ℕ} {xs : List (Frame F A)} {ys : List (Frame G B)} → Frames h k m xs ys → m ≤ p.begun → Based outward xs → (ws : List Value) → FirstSame vs ws → (d : Block) (z : Thread G B) → Within b d → S.act z ≡ returns r.setting.layout ws ys q k → Ans ls (returns r.placed vs xs p h) b z d
-    returns_too bottom less based ws s d z w e = by Over (subst (λ (v : Act (Thread G B)). Leads r.setting.edge ls v Done Over) (sym e) (refl, refl)) (related (over over_within))
+    returns_too bottom less based ws s d z w e = by Over (subst (λ (v : Act (Thread G B)). StepsTo r.setting.edge ls v Done Over) (sym e) (refl, refl)) (related (over over_within))
     returns_too (outer {results = results} {xs = xs} {ys = ys} out fr) less based ws s d z w e = leaves_kept xs ys (frames_wider h k p.begun less fr) out (kept_results results vs) (kept_results results ws) (kept_same results vs ws s) d z e
     returns_too (under {n = n} {n' = n'} {f = f} {g = g} {results = results} {next = next} {next' = next'} {xs = xs} {ys = ys} below' equal made wait under' fr) less based ws s d z w e =
         goes_back_too ls f g n n' p q h k made (omega (arith, below', less)) equal xs ys under' fr b d z w (and_then (kept_results results vs) next) (and_then (kept_results results ws) next') (waits_ready f g n p q h k alike results next next' wait vs ws s) e
@@ -404,9 +404,9 @@ module _ {F A G B : Type 0} (r : Relation F A G B) (is : Keeps r) (pays : Pays r
   -- A step of the target's activation.
 
   module _ (all_t : AllFound r.target r.source r.made ins_t ins_s) where
-    module _ (ls : List RunLabel) (b c : Block) (f : F) (g : G) (n n' e' : ℕ) (p q : Past) (xs : List (Frame F A)) (ys : List (Frame G B)) (made : r.made f g) (less : n + 1 ≤ p.begun) (same : n ≡ n') (based : Based outward xs) (h0 k0 : Holding) (alike : r.alike p h0 q k0) (fr : Frames h0 k0 n xs ys) (w : Within b c) where
+    module _ (ls : List RunLabel) (b c : Block) (f : F) (g : G) (n n' e' : ℕ) (p q : Past) (xs : List (Frame F A)) (ys : List (Frame G B)) (made : r.made f g) (less : n + 1 ≤ p.begun) (same : n ≡ n') (based : Based outward xs) (h0 k0 : Holding) (alike : r.match_memory p h0 q k0) (fr : Frames h0 k0 n xs ys) (w : Within b c) where
       -- the moment at which the step's accesses are made
-      frames_now : (h k : Holding) → r.later n h0 k0 h k → Frames h k n xs ys
+      frames_now : (h k : Holding) → r.frame n h0 k0 h k → Frames h k n xs ys
       frames_now h k l = frames_later h0 k0 h k fr l
 
       act_is : (y : B) (k : Holding) (e : ℕ) (last : Last B) → (s_step r y k).last ≡ Some last → S.act (Runs g n' y e ys q k) ≡ s_acts (Some last) g n' ys q (s_step r y k).holding
@@ -418,22 +418,22 @@ module _ {F A G B : Type 0} (r : Relation F A G B) (is : Keeps r) (pays : Pays r
       at_takes : (lock : NameBytes) (x : A) (h : Holding) (y : B) (k : Holding) (e : ℕ) (d : Block) → Within b d → LastAlike r n p q h0 k0 f g (Takes lock x) h (s_step r y k).last (s_step r y k).holding → Ans ls (t_acts (Some (Takes lock x)) f n xs p h) b (Runs g n' y e ys q k) d
       at_takes lock x h y k e d v m =
           let k' = (s_step r y k).holding in
-          takes_too ls b d f g n n' p q xs ys made less same based h k' m.2.alike (frames_now h k' m.2.later) x m.0 (Runs g n' y e ys q k) lock m.3 (guard_of r.setting.edge r.setting.words lock) refl (act_is y k e (Takes lock m.0) m.1)
+          takes_too ls b d f g n n' p q xs ys made less same based h k' m.2.match_memory (frames_now h k' m.2.frame) x m.0 (Runs g n' y e ys q k) lock m.3 (guard_of r.setting.edge r.setting.words lock) refl (act_is y k e (Takes lock m.0) m.1)
 
       at_gives : (lock : NameBytes) (x : A) (h : Holding) (y : B) (k : Holding) (e : ℕ) (d : Block) → Within b d → LastAlike r n p q h0 k0 f g (Gives lock x) h (s_step r y k).last (s_step r y k).holding → Ans ls (t_acts (Some (Gives lock x)) f n xs p h) b (Runs g n' y e ys q k) d
       at_gives lock x h y k e d v m =
           let k' = (s_step r y k).holding in
-          gives_too ls b d f g n n' p q xs ys made less same based h k' m.2.alike (frames_now h k' m.2.later) x m.0 (Runs g n' y e ys q k) lock m.3 (guard_of r.setting.edge r.setting.words lock) refl (act_is y k e (Gives lock m.0) m.1)
+          gives_too ls b d f g n n' p q xs ys made less same based h k' m.2.match_memory (frames_now h k' m.2.frame) x m.0 (Runs g n' y e ys q k) lock m.3 (guard_of r.setting.edge r.setting.words lock) refl (act_is y k e (Gives lock m.0) m.1)
 
       at_puts : (word : ℕ) (x : A) (h : Holding) (y : B) (k : Holding) (e : ℕ) (d : Block) → Within b d → LastAlike r n p q h0 k0 f g (Puts word x) h (s_step r y k).last (s_step r y k).holding → Ans ls (t_acts (Some (Puts word x)) f n xs p h) b (Runs g n' y e ys q k) d
       at_puts word x h y k e d v m =
           let k' = (s_step r y k).holding in
-          puts_too ls b d f g n n' p q xs ys made less same based h k' m.2.alike (frames_now h k' m.2.later) x m.0 (Runs g n' y e ys q k) word m.3 (act_is y k e (Puts word m.0) m.1)
+          puts_too ls b d f g n n' p q xs ys made less same based h k' m.2.match_memory (frames_now h k' m.2.frame) x m.0 (Runs g n' y e ys q k) word m.3 (act_is y k e (Puts word m.0) m.1)
 
       at_calls : (function : NameBytes) (vs : List Value) (next : List Value → Option A) (h : Holding) (y : B) (k : Holding) (e : ℕ) (d : Block) → Within b d → LastAlike r n p q h0 k0 f g (Calls function vs next) h (s_step r y k).last (s_step r y k).holding → Ans ls (t_acts (Some (Calls function vs next)) f n xs p h) b (Runs g n' y e ys q k) d
       at_calls function vs next h y k e d v m =
           let k' = (s_step r y k).holding in
-          calls_too ls p q h k' m.4.settled vs m.0 m.3 (Waits f n (results_of r.setting.edge function) next ∷ xs) (Waits g n' (results_of r.setting.edge function) m.1 ∷ ys) based (under less same made m.5 based (frames_now h k' m.4.later)) function b d (Runs g n' y e ys q k) v
+          calls_too ls p q h k' m.4.settled vs m.0 m.3 (Waits f n (results_of r.setting.edge function) next ∷ xs) (Waits g n' (results_of r.setting.edge function) m.1 ∷ ys) based (under less same made m.5 based (frames_now h k' m.4.frame)) function b d (Runs g n' y e ys q k) v
           (find r.target ins_t function) (find r.source ins_s function) (all_t function) (act_is y k e (Calls function m.0 m.1) m.2)
 
       at_tail : (function : NameBytes) (vs : List Value) (h : Holding) (y : B) (k : Holding) (e : ℕ) (d : Block) → Within b d → (o : Option (Last B)) (k' : Holding) → S.act (Runs g n' y e ys q k) ≡ s_acts o g n' ys q k' → TailAlike r n p q h0 k0 f g function vs h k' o → Ans ls (t_acts (Some (Tails function vs)) f n xs p h) b (Runs g n' y e ys q k) d
@@ -441,11 +441,11 @@ module _ {F A G B : Type 0} (r : Relation F A G B) (is : Keeps r) (pays : Pays r
           let ends = ends_stands h k' s.settled in
           let h1 = without_own r.target f n h in
           let k1 = without_own r.source g n' k' in
-          calls_too ls p q h1 k1 ends.settled vs ws alike' xs ys based (frames_wider h1 k1 p.begun (omega (arith, less)) (frames_later h k' h1 k1 (frames_now h k' s.later) ends.later)) function b d (Runs g n' y e ys q k) v
+          calls_too ls p q h1 k1 ends.settled vs ws alike' xs ys based (frames_wider h1 k1 p.begun (omega (arith, less)) (frames_later h k' h1 k1 (frames_now h k' s.frame) ends.frame)) function b d (Runs g n' y e ys q k) v
           (find r.target ins_t function) (find r.source ins_s function) (all_t function) a
       at_tail function vs h y k e d v o k' a (passing ws next alike' s only) =
           let h1 = without_own r.target f n h in
-          calls_too ls p q h1 k' s.settled vs ws alike' xs (Waits g n' (results_of r.setting.edge function) next ∷ ys) based (passed only based (frames_wider h1 k' p.begun (omega (arith, less)) (frames_now h1 k' s.later))) function b d (Runs g n' y e ys q k) v
+          calls_too ls p q h1 k' s.settled vs ws alike' xs (Waits g n' (results_of r.setting.edge function) next ∷ ys) based (passed only based (frames_wider h1 k' p.begun (omega (arith, less)) (frames_now h1 k' s.frame))) function b d (Runs g n' y e ys q k) v
           (find r.target ins_t function) (find r.source ins_s function) (all_t function) a
 
       at_returns : (vs : List Value) (h : Holding) (y : B) (k : Holding) (e : ℕ) (d : Block) → Within b d → LastAlike r n p q h0 k0 f g (Returns vs) h (s_step r y k).last (s_step r y k).holding → Ans ls (t_acts (Some (Returns vs)) f n xs p h) b (Runs g n' y e ys q k) d
@@ -454,7 +454,7 @@ module _ {F A G B : Type 0} (r : Relation F A G B) (is : Keeps r) (pays : Pays r
           let ends = ends_stands h k' m.3.settled in
           let h1 = without_own r.target f n h in
           let k1 = without_own r.source g n' k' in
-          returns_too ls p q h1 k1 ends.settled vs b (frames_later h k' h1 k1 (frames_now h k' m.3.later) ends.later) (omega (arith, less)) based m.0 (all_first vs m.0 m.2) d (Runs g n' y e ys q k) v (act_is y k e (Returns m.0) m.1)
+          returns_too ls p q h1 k1 ends.settled vs b (frames_later h k' h1 k1 (frames_now h k' m.3.frame) ends.frame) (omega (arith, less)) based m.0 (all_first vs m.0 m.2) d (Runs g n' y e ys q k) v (act_is y k e (Returns m.0) m.1)
 
       at_last : (y : B) (o : Option (Last A)) (h : Holding) → Does r n p q h0 k0 f g o h b y c → Ans ls (t_acts o f n xs p h) b (Runs g n' y e' ys q k0) c
       at_last y None h m = fails_soon g n' ys q m
@@ -469,7 +469,7 @@ module _ {F A G B : Type 0} (r : Relation F A G B) (is : Keeps r) (pays : Pays r
 
   -- What the outside brings.
 
-  pub enters_too : (ls : List RunLabel) (p q : Past) (h k : Holding) → r.settled p h q k → (xs : List (Frame F A)) (ys : List (Frame G B)) → Based outward xs → Frames h k p.begun xs ys → (o : Option F) (o' : Option G) (vs ws : Option (List Value)) → FoundAlike r.made o o' → SameIf r vs ws → Fol ls (enters r.target o vs xs p h) (begun T (enters r.target o vs xs p h)) (enters r.source o' ws ys q k) (begun S (enters r.source o' ws ys q k))
+  pub enters_too : (ls : List RunLabel) (p q : Past) (h k : Holding) → r.settled p h q k → (xs : List (Frame F A)) (ys : List (Frame G B)) → Based outward xs → Frames h k p.begun xs ys → (o : Option F) (o' : Option G) (vs ws : Option (List Value)) → FoundAlike r.made o o' → MatchIf r vs ws → Fol ls (enters r.target o vs xs p h) (begun T (enters r.target o vs xs p h)) (enters r.source o' ws ys q k) (begun S (enters r.source o' ws ys q k))
   enters_too ls p q h k alike xs ys based fr None None vs ws found same = related (broken tt)
   enters_too ls p q h k alike xs ys based fr None (Some g) vs ws found same = absurd found
   enters_too ls p q h k alike xs ys based fr (Some f) None vs ws found same = absurd found
@@ -497,7 +497,7 @@ module _ {F A G B : Type 0} (r : Relation F A G B) (is : Keeps r) (pays : Pays r
     Back_to xs z c = Fol ls (comes_back (Some vs) xs p h) (begun T (comes_back (Some vs) xs p h)) z c
 
     -- the source is about to return to the outside what came back
-    leaving_later : (xs : List (Frame F A)) (ys : List (Frame G B)) → Frames h k p.begun xs ys → (o o' : Option (List Value)) → SameIf r o o' → (c : Block) (z : Thread G B) → waiting_price r.target.tariff r.targets ≤ c.price → Subsequence (below r.target xs (Between ∷ [])) (S.open_functions z) → S.act z ≡ leaves_with r.setting.layout o' ys q k → Fol ls (leaves_later o xs p h) (begun T (leaves_later o xs p h)) z c
+    leaving_later : (xs : List (Frame F A)) (ys : List (Frame G B)) → Frames h k p.begun xs ys → (o o' : Option (List Value)) → MatchIf r o o' → (c : Block) (z : Thread G B) → waiting_price r.target.tariff r.targets ≤ c.price → Subsequence (below r.target xs (Between ∷ [])) (S.open_functions z) → S.act z ≡ leaves_with r.setting.layout o' ys q k → Fol ls (leaves_later o xs p h) (begun T (leaves_later o xs p h)) z c
     leaving_later xs ys fr o None same c z w opened e = fails_follows (subst (λ (v : Act (Thread G B)). IsBad v) (sym e) tt)
     leaving_later xs ys fr None (Some ws) same c z w opened e = absurd same
     leaving_later xs ys fr (Some us) (Some ws) same c z w opened e = related (leaving ws ys q k out e opened (waiting_within c w) same alike fr)
@@ -532,7 +532,7 @@ module _ {F A G B : Type 0} (r : Relation F A G B) (is : Keeps r) (pays : Pays r
     back_too bottom less ws s = related (broken tt)
     back_too (outer {results = results} {xs = xs} {ys = ys} o fr) less ws s = by (kept_results results vs) (kept_results results ws) (kept_same results vs ws s)
       where
-        by : (o o' : Option (List Value)) → SameIf r o o' → Fol ls (leaves_later o xs p h) (begun T (leaves_later o xs p h)) (leaves_later o' ys q k) (begun S (leaves_later o' ys q k))
+        by : (o o' : Option (List Value)) → MatchIf r o o' → Fol ls (leaves_later o xs p h) (begun T (leaves_later o xs p h)) (leaves_later o' ys q k) (begun S (leaves_later o' ys q k))
         by o None same = related (broken tt)
         by None (Some us) same = absurd same
         by (Some us) (Some ws') same = related (leaving ws' ys q k out refl (frames_open fr (Between ∷ []) (Between ∷ []) (keep done)) waits_within same alike (frames_wider h k p.begun less fr))
@@ -555,20 +555,20 @@ module _ {F A G B : Type 0} (r : Relation F A G B) (is : Keeps r) (pays : Pays r
         by None i = related (broken tt)
         by (Some ws') i = let kept = kept_of results ws ws' i in on ws' (fewer_first vs ws' kept.more (subst (λ v. FirstSame vs v) kept.are s)) (next' ws') (only.1 ws' kept.count)
 
-  backs_too : (ls : List RunLabel) (p q : Past) (h k : Holding) → r.settled p h q k → outward ≡ true → (xs : List (Frame F A)) (ys : List (Frame G B)) → Frames h k p.begun xs ys → (vs ws : Option (List Value)) → SameIf r vs ws → Fol ls (comes_back vs xs p h) (begun T (comes_back vs xs p h)) (comes_back ws ys q k) (begun S (comes_back ws ys q k))
+  backs_too : (ls : List RunLabel) (p q : Past) (h k : Holding) → r.settled p h q k → outward ≡ true → (xs : List (Frame F A)) (ys : List (Frame G B)) → Frames h k p.begun xs ys → (vs ws : Option (List Value)) → MatchIf r vs ws → Fol ls (comes_back vs xs p h) (begun T (comes_back vs xs p h)) (comes_back ws ys q k) (begun S (comes_back ws ys q k))
   backs_too ls p q h k alike out xs ys fr vs None same = related (broken tt)
   backs_too ls p q h k alike out xs ys fr None (Some ws) same = absurd same
   backs_too ls p q h k alike out xs ys fr (Some vs) (Some ws) same = back_too ls p q h k alike vs out fr (omega arith) ws (all_first vs ws same)
 
   module _ (all : AllFound r.target r.source r.made r.targets r.sources) (all_t : AllFound r.target r.source r.made ins_t ins_s) where
-    heard_too : (ls : List RunLabel) (p q : Past) (h k : Holding) → r.settled p h q k → crossed ls ≡ objects_of k.memory q.naming → outward ≡ true → (xs : List (Frame F A)) (ys : List (Frame G B)) → Frames h k p.begun xs ys → (l : RunLabel) → MayBring r.setting.edge ls l → Fol (l ∷ ls) (hears r.target there scene_t xs p h l) (begun T (hears r.target there scene_t xs p h l)) (hears r.source r.setting scene_s ys q k l) (begun S (hears r.source r.setting scene_s ys q k l))
+    heard_too : (ls : List RunLabel) (p q : Past) (h k : Holding) → r.settled p h q k → crossed ls ≡ objects_of k.memory q.naming → outward ≡ true → (xs : List (Frame F A)) (ys : List (Frame G B)) → Frames h k p.begun xs ys → (l : RunLabel) → MayBring r.setting.edge ls l → Fol (l ∷ ls) (receives r.target there scene_t xs p h l) (begun T (receives r.target there scene_t xs p h l)) (receives r.source r.setting scene_s ys q k l) (begun S (receives r.source r.setting scene_s ys q k l))
     heard_too ls p q h k alike shown out xs ys fr (Enter name crossing) m =
-        let s = is.hears p.begun p q h k alike m.signature.params crossing (subst (λ os. Brings r.setting.edge os crossing) shown m.brings) m.values in
+        let s = is.receives p.begun p q h k alike m.signature.params crossing (subst (λ os. Brings r.setting.edge os crossing) shown m.brings) m.values in
         let p' = with_naming p (brought_in r p h crossing).naming in
         let q' = with_naming q (brought_in r q k crossing).naming in
-        let h' = heard r p h crossing in
-        let k' = heard r q k crossing in
-        (enters_too (Enter name crossing ∷ ls) p' q' h' k' s.0.settled (Outer (results_of r.setting.edge name) ∷ xs) (Outer (results_of r.setting.edge name) ∷ ys) outer_based (outer out (frames_later h k h' k' fr s.0.later)) (find r.target r.targets name) (find r.source r.sources name)
+        let h' = received r p h crossing in
+        let k' = received r q k crossing in
+        (enters_too (Enter name crossing ∷ ls) p' q' h' k' s.0.settled (Outer (results_of r.setting.edge name) ∷ xs) (Outer (results_of r.setting.edge name) ∷ ys) outer_based (outer out (frames_later h k h' k' fr s.0.frame)) (find r.target r.targets name) (find r.source r.sources name)
         (all_taken (brought_in r p h crossing).naming crossing.values) (all_taken (brought_in r q k crossing).naming crossing.values) (all name) s.1)
       where
         outer_based : Based outward (Outer (results_of r.setting.edge name) ∷ xs)
@@ -578,12 +578,12 @@ module _ {F A G B : Type 0} (r : Relation F A G B) (is : Keeps r) (pays : Pays r
             on true = tt
             on false = tt
     heard_too ls p q h k alike shown out xs ys fr (Back crossing) m =
-        let s = is.hears p.begun p q h k alike (returned m.signature.ret) crossing (subst (λ os. Brings r.setting.edge os crossing) shown m.brings) m.values in
+        let s = is.receives p.begun p q h k alike (returned m.signature.ret) crossing (subst (λ os. Brings r.setting.edge os crossing) shown m.brings) m.values in
         let p' = with_naming p (brought_in r p h crossing).naming in
         let q' = with_naming q (brought_in r q k crossing).naming in
-        let h' = heard r p h crossing in
-        let k' = heard r q k crossing in
-        (backs_too (Back crossing ∷ ls) p' q' h' k' s.0.settled out xs ys (frames_later h k h' k' fr s.0.later)
+        let h' = received r p h crossing in
+        let k' = received r q k crossing in
+        (backs_too (Back crossing ∷ ls) p' q' h' k' s.0.settled out xs ys (frames_later h k h' k' fr s.0.frame)
         (all_taken (brought_in r p h crossing).naming crossing.values) (all_taken (brought_in r q k crossing).naming crossing.values) s.1)
     heard_too ls p q h k alike shown out xs ys fr (Lock lock words) m = absurd m
     heard_too ls p q h k alike shown out xs ys fr (Unlock lock words) m = absurd m
@@ -597,7 +597,7 @@ module _ {F A G B : Type 0} (r : Relation F A G B) (is : Keeps r) (pays : Pays r
     open_runs : (f : F) (g : G) (x : A) (h : Holding) (y : B) (k : Holding) → r.made f g → Subsequence (called (t_step r x h).last) (called (s_step r y k).last) → Subsequence (Open (r.target.name f) ∷ called (t_step r x h).last) (Open (r.source.name g) ∷ called (s_step r y k).last)
     open_runs f g x h y k made s = subst (λ v. Subsequence (Open (r.target.name f) ∷ called (t_step r x h).last) (Open v ∷ called (s_step r y k).last)) (is.names f g made) (keep s)
 
-    fine_of : (ls : List RunLabel) (x : Thread F A) (b : Block) (z : Thread G B) (c : Block) → Lifted ls x b z c → BadSoon S z ⊎ Fine r.setting.edge T S Rel x b z c
+    fine_of : (ls : List RunLabel) (x : Thread F A) (b : Block) (z : Thread G B) (c : Block) → Lifted ls x b z c → GoesWrong S z ⊎ Fine r.setting.edge T S Rel x b z c
     fine_of ls x b z c (away out w alike shown fr) = inr (record { costs = waiting_costs r.target.tariff r.targets; within = w; opened = frames_open fr [] [] done })
     fine_of ls x b z c (runs {f = f} {g = g} {n = n} {n' = n'} {e = e} {x = a} {y = y} {ys = ys} {p = p} {q = q} {h = h} {k = k} made less same m alike based fr) =
         ⊎_elim (λ bad. inl (fails_soon g n' ys q bad))
@@ -608,13 +608,13 @@ module _ {F A G B : Type 0} (r : Relation F A G B) (is : Keeps r) (pays : Pays r
     fine_of ls x b z c (broken e) = inl (now e)
 
     answers_of : (ls : List RunLabel) (x : Thread F A) (b : Block) (z : Thread G B) (c : Block) → Lifted ls x b z c → Ans ls (T.act x) b z c
-    answers_of ls x b z c (away {xs = xs} {ys = ys} {p = p} {q = q} {h = h} {k = k} out w alike shown fr) = hears_too (hears r.source r.setting scene_s ys q k) refl (heard_too ls p q h k alike shown out xs ys fr)
+    answers_of ls x b z c (away {xs = xs} {ys = ys} {p = p} {q = q} {h = h} {k = k} out w alike shown fr) = hears_too (receives r.source r.setting scene_s ys q k) refl (heard_too ls p q h k alike shown out xs ys fr)
     answers_of ls x b z c (runs {f = f} {g = g} {n = n} {n' = n'} {e' = e'} {x = a} {y = y} {xs = xs} {ys = ys} {p = p} {q = q} {h = h} {k = k} made less same m alike based fr) =
         ⊎_elim (λ bad. bad_answers (T.act (Runs f n a e' xs p h)) (fails_soon g n' ys q bad))
         (λ fine. at_last all_t ls b c f g n n' e' p q xs ys made less same based h k alike fr fine.within y (t_step r a h).last (t_step r a h).holding (ok.does n f g made p q a h b y k c m alike))
         (ok.fine n f g made p q a h b y k c m alike)
       where
-        bad_answers : (act : Act (Thread F A)) → BadSoon S (Runs g n' y e' ys q k) → Ans ls act b (Runs g n' y e' ys q k) c
+        bad_answers : (act : Act (Thread F A)) → GoesWrong S (Runs g n' y e' ys q k) → Ans ls act b (Runs g n' y e' ys q k) c
         bad_answers act bad = soon_bad ls act b (Runs g n' y e' ys q k) c bad
     answers_of ls x b z c (leaving {vs = vs} {xs = xs} {p = p} {h = h} ws ys q k out e opened w same alike fr) = leaves_too ls p q h k alike vs ws same xs ys fr out b c z e
     answers_of ls x b z c (over w) = halts refl

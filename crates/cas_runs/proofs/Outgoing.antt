@@ -4,7 +4,7 @@ use Rattle.cas_runs.specs.Label.{NameBytes, same_name, Shown, Word, Place, Objec
 use Rattle.cas_runs.specs.Edge.{Signature, signature_of}
 use Rattle.cas_runs.specs.Outside.{numbered}
 use Rattle.cas_runs.specs.Naming.{Home, Own, Theirs, Value, Number, Pointer, Hidden, Part, Layout, Named, Naming, Memory, number_of, is_place, part_by, again, if_new, first_time, named_by, and_then, all_named_by, same_home, objects_of}
-use Rattle.cas_runs.specs.Machine.{Act, Quiet, Says, Crosses, Locks, Hears, Bad, Stops, Machine}
+use Rattle.cas_runs.specs.Machine.{Act, Quiet, Emits, Crosses, Locks, Receives, Bad, Stops, Machine}
 use Rattle.cas_runs.specs.Rules.{CallsOut}
 use Rattle.cas_runs.specs.Access.{Holding, words_in, with_lock, without_lock}
 use Rattle.cas_runs.specs.Unit.{Setting, guard_of, has_function, OnlyInside}
@@ -83,9 +83,9 @@ module _ {F A : Type 0} (l : Activations F A) (setting : Setting) (fs : List F) 
   abbrev Out : Act (Thread F A) → Type 0
   Out (Crosses next) = (function : NameBytes) (crossing : Crossing) (y : Thread F A) → next (Call function crossing) ≡ Some y → has_function (language l) fs function ≡ false
   Out (Quiet y) = Unit {0}
-  Out (Says saying y) = Unit {0}
+  Out (Emits event y) = Unit {0}
   Out (Locks lock next) = Unit {0}
-  Out (Hears next) = Unit {0}
+  Out (Receives next) = Unit {0}
   Out Bad = Unit {0}
   Out (Stops why) = Unit {0}
 

@@ -2,10 +2,10 @@
 use Rattle.std.proofs.Common.{◌≡◌, ℕ, [], ◌∷◌, Option, Some, None, refl, sym, ap, ◌∙◌, subst, ⊎_elim, arith}
 use Rattle.cas_base.specs.declared.kind.Kind.TheVariants.{I32}
 use Rattle.cas_runs.specs.Label.{Place, Inside, RunLabel, Enter, Call}
-use Rattle.cas_runs.specs.Machine.{Act, Quiet, Says, Crosses, Locks, Hears, Bad, Stops}
+use Rattle.cas_runs.specs.Machine.{Act, Quiet, Emits, Crosses, Locks, Receives, Bad, Stops}
 use Rattle.cas_runs.specs.Outside.{MayBring}
 use Rattle.cas_runs.specs.Refines.{CrossesAs, Refines}
-use Rattle.cas_runs.specs.Calls.{Thread, hears, of_unit, no_past, no_holding}
+use Rattle.cas_runs.specs.Calls.{Thread, receives, of_unit, no_past, no_holding}
 use Rattle.cas_runs.specs.Pointing.{main_name, show_name, Pointing, pointing, edge, setting, shows}
 use Rattle.cas_runs.proofs.Refining.{IsQuiet, one_state}
 use Rattle.cas_runs.proofs.Sanity.{Comes, comes_first, comes_by, has_of, not_bad, bad_first, bad_last}
@@ -20,7 +20,7 @@ shown = Call show_name (record { values = Place 0 1 ∷ []; share = []; objects 
 
 -- where the unit stands then, at its call
 abbrev after : (place : ℕ) → Thread ℕ Pointing
-after place = hears pointing setting (of_unit (place ∷ [])) [] no_past no_holding entered
+after place = receives pointing setting (of_unit (place ∷ [])) [] no_past no_holding entered
 
 may_enter : MayBring edge [] entered
 may_enter = record { signature = _; known = refl; inside = refl; values = tt; holds = tt; brings = record { share = tt; objects = tt; room = omega arith; numbers = refl } }
@@ -32,9 +32,9 @@ comes place = comes_by edge (shows place) [] entered (shows place).start (after 
 abbrev next_of : Act (Thread ℕ Pointing) → RunLabel → Option (Thread ℕ Pointing)
 next_of (Crosses next) = next
 next_of (Quiet y) = λ l. None
-next_of (Says saying y) = λ l. None
+next_of (Emits event y) = λ l. None
 next_of (Locks lock next) = λ l. None
-next_of (Hears next) = λ l. None
+next_of (Receives next) = λ l. None
 next_of Bad = λ l. None
 next_of (Stops why) = λ l. None
 

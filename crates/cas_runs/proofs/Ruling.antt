@@ -4,13 +4,13 @@ use Rattle.cas_runs.specs.Label.{NameBytes, same_name, Share, Object, Crossing, 
 use Rattle.cas_runs.specs.Edge.{Cell, LockWord, SharedWord, TableWord, Edge, AreGuarded, IsOrdered, results_of}
 use Rattle.cas_runs.specs.Outside.{Pending, Called, Entered, without_newest, pending, crossed, numbered, IsAmong, Brings, MayBring}
 use Rattle.cas_runs.specs.Naming.{Value, Number, ArePlaced, Part, parts_at, Naming, and_then, all_named_by, objects_of, same_objects, all_taken, brought}
-use Rattle.cas_runs.specs.Machine.{Act, Quiet, Says, Crosses, Locks, Hears, Bad, Stops, label_of, Machine, CanCross, Leads, Block, Run, starts as begins_run, quiet, labelled}
-use Rattle.cas_runs.specs.Rules.{and_lock, locks_after, IsShared, Leaves, LeavesAll, Carries, IsReturn, MaySay, MayCross, HasEnded, MayHalt, Proceeds, KeepsRules}
+use Rattle.cas_runs.specs.Machine.{Act, Quiet, Emits, Crosses, Locks, Receives, Bad, Stops, label_of, Machine, CanCross, StepsTo, Block, Run, starts as begins_run, quiet, labelled}
+use Rattle.cas_runs.specs.Rules.{and_lock, locks_after, IsShared, Leaves, LeavesAll, Carries, IsReturn, MayEmit, MayCross, HasEnded, MayHalt, Proceeds, KeepsRules}
 use Rattle.cas_runs.specs.Rules as rules
 use Rattle.cas_runs.specs.Bounds.{IsTariff}
 use Rattle.cas_runs.specs.Access.{Stretch, Holding, words_in, with_lock, without_lock}
 use Rattle.cas_runs.specs.Unit.{Setting, AreLaidOut, IsLayout, lock_at, lock_number, guard_of}
-use Rattle.cas_runs.specs.Calls.{Last, Goes, Takes, Gives, Puts, Calls, Tails, Returns, Activations, Scene, Frame, Waits, Outer, Past, Thread, Away, Runs, Leaves as LeavesNow, Over, Wrong, nothing_touched, same_share, if_shown, crosses_as, can_cross, with_naming, to_outside, calls_by, leaves_by, crosses_if, leaves, kept_results, leaves_with, leaves_later, goes_back, returns, resumes, comes_back, with_share, takes_lock, takes, gives_lock, gives, find, with_own, without_own, one_begun, calls_in, enters_at, enters, step_at, calls_out, calls, acts, hears, machine, no_past, no_holding, outside_first, starts, language}
+use Rattle.cas_runs.specs.Calls.{Last, Goes, Takes, Gives, Puts, Calls, Tails, Returns, Activations, Scene, Frame, Waits, Outer, Past, Thread, Away, Runs, Leaves as LeavesNow, Over, Wrong, nothing_touched, same_share, if_shown, crosses_as, can_cross, with_naming, to_outside, calls_by, leaves_by, crosses_if, leaves, kept_results, leaves_with, leaves_later, goes_back, returns, resumes, comes_back, with_share, takes_lock, takes, gives_lock, gives, find, with_own, without_own, one_begun, calls_in, enters_at, enters, step_at, calls_out, calls, acts, receives, machine, no_past, no_holding, outside_first, starts, language}
 use Rattle.cas_runs.proofs.Found.{found_named}
 use Rattle.cas_runs.proofs.Tests.{objects_from, share_from, same_name_self}
 use Rattle.cas_runs.proofs.Showing.{some_crossing}
@@ -67,10 +67,10 @@ module _ {F A : Type 0} (l : Activations F A) (setting : Setting) (scene : Scene
   -- what an act has to meet, and that what follows it holds on
   abbrev Sound : List RunLabel → Act (Thread F A) → Type 0
   Sound ls (Quiet y) = Inv ls y
-  Sound ls (Says saying y) = MaySay E ls (label_of saying) × Inv (label_of saying ∷ ls) y
+  Sound ls (Emits event y) = MayEmit E ls (label_of event) × Inv (label_of event ∷ ls) y
   Sound ls (Crosses next) = (k : RunLabel) (y : Thread F A) → CanCross k → next k ≡ Some y → MayCross E ls k × Inv (k ∷ ls) y
   Sound ls (Locks lock next) = (slice_get E.cells lock ≡ Some LockWord) × (IsAmong lock (locks_after ls) → ⊥) × ((ws : List ℕ) → AreGuarded E lock ws → Inv (Lock lock ws ∷ ls) (next ws))
-  Sound ls (Hears next) = (k : RunLabel) → MayBring E ls k → Inv (k ∷ ls) (next k)
+  Sound ls (Receives next) = (k : RunLabel) → MayBring E ls k → Inv (k ∷ ls) (next k)
   Sound ls Bad = Unit {0}
   Sound ls (Stops why) = MayHalt ls why
 
@@ -314,7 +314,7 @@ module _ {F A : Type 0} (l : Activations F A) (setting : Setting) (scene : Scene
       by None = wrong
       by (Some kept) = leaving g locks older c (ap without_newest e) w
 
-  hears_inv : (ls : List RunLabel) (p : Past) (h : Holding) → Common ls p h → ExactAll setting.layout (crossed ls) h.memory p.naming → (ps : List Pending) (stack : List (Frame F A)) → pending ls ≡ ps → AwayFor ps stack → (k : RunLabel) → MayBring E ls k → Inv (k ∷ ls) (hears l setting scene stack p h k)
+  hears_inv : (ls : List RunLabel) (p : Past) (h : Holding) → Common ls p h → ExactAll setting.layout (crossed ls) h.memory p.naming → (ps : List Pending) (stack : List (Frame F A)) → pending ls ≡ ps → AwayFor ps stack → (k : RunLabel) → MayBring E ls k → Inv (k ∷ ls) (receives l setting scene stack p h k)
   hears_inv ls p h c exact ps stack e w (Enter name crossing) m =
       let d = in_common ls (Enter name crossing) p h c exact crossing m.brings refl refl in
       enters_inv (Enter name crossing ∷ ls) _ _ d (Outer (results_of E name) ∷ stack) (subst (λ v. RunsFor (Entered name (locks_of crossing.share) ∷ v) (Outer (results_of E name) ∷ stack)) (sym e) (at_outer w)) (all_taken (brought h.memory p.naming 0 crossing.objects).naming crossing.values) (find l scene.functions name)
@@ -335,12 +335,12 @@ module _ {F A : Type 0} (l : Activations F A) (setting : Setting) (scene : Scene
   sound ls x (over e) = e
   sound ls x wrong = tt
 
-  follows : (ls : List RunLabel) (a : Act (Thread F A)) (k : RunLabel) (y : Thread F A) → Sound ls a → Leads E ls a k y → Inv (k ∷ ls) y
+  follows : (ls : List RunLabel) (a : Act (Thread F A)) (k : RunLabel) (y : Thread F A) → Sound ls a → StepsTo E ls a k y → Inv (k ∷ ls) y
   follows ls (Quiet z) k y s e = absurd e
-  follows ls (Says saying z) k y s e = subst (λ v. Inv (v ∷ ls) y) e.0 (subst (λ v. Inv (label_of saying ∷ ls) v) e.1 s.1)
+  follows ls (Emits event z) k y s e = subst (λ v. Inv (v ∷ ls) y) e.0 (subst (λ v. Inv (label_of event ∷ ls) v) e.1 s.1)
   follows ls (Crosses next) k y s e = let both = s k y e.0 e.1 in both.1
   follows ls (Locks lock next) k y s e = subst (λ v. Inv (v ∷ ls) y) (sym e.1) (subst (λ v. Inv (Lock lock e.0 ∷ ls) v) e.3 (s.2 e.0 e.2))
-  follows ls (Hears next) k y s e = subst (λ v. Inv (k ∷ ls) v) e.1 (s k e.0)
+  follows ls (Receives next) k y s e = subst (λ v. Inv (k ∷ ls) v) e.1 (s k e.0)
   follows ls Bad k y s e = absurd e
   follows ls (Stops why) k y s e = absurd e
 
@@ -362,9 +362,9 @@ module _ {F A : Type 0} (l : Activations F A) (setting : Setting) (scene : Scene
   abbrev HasLabel : Act (Thread F A) → Type 0
   HasLabel (Crosses next) = (k : RunLabel) × (y : Thread F A) × CanCross k × (next k ≡ Some y)
   HasLabel (Quiet y) = Unit {0}
-  HasLabel (Says saying y) = Unit {0}
+  HasLabel (Emits event y) = Unit {0}
   HasLabel (Locks lock next) = Unit {0}
-  HasLabel (Hears next) = Unit {0}
+  HasLabel (Receives next) = Unit {0}
   HasLabel Bad = Unit {0}
   HasLabel (Stops why) = Unit {0}
 
@@ -455,10 +455,10 @@ module _ {F A : Type 0} (l : Activations F A) (setting : Setting) (scene : Scene
     proceeds = proceeds_always;
     reads = λ ls bs b x r. let both = touched first ls x (holds first r) in both.0;
     writes = λ ls bs b x r. let both = touched first ls x (holds first r) in both.1;
-    says = λ ls bs b x r saying y e. let s : Sound ls (Says saying y) = subst (λ (v : Act (Thread F A)). Sound ls v) e (sound ls x (holds first r)) in s.0;
+    emits = λ ls bs b x r event y e. let s : Sound ls (Emits event y) = subst (λ (v : Act (Thread F A)). Sound ls v) e (sound ls x (holds first r)) in s.0;
     locks = λ ls bs b x r lock next e. let s : Sound ls (Locks lock next) = subst (λ (v : Act (Thread F A)). Sound ls v) e (sound ls x (holds first r)) in (s.0, s.1);
     crosses = λ ls bs b x r next e k y can g. let s : Sound ls (Crosses next) = subst (λ (v : Act (Thread F A)). Sound ls v) e (sound ls x (holds first r)) in let both = s k y can g in both.0;
-    hears = hears_outside l setting scene start;
+    receives = hears_outside l setting scene start;
     listens = listens_after l setting scene start;
     halts = λ ls bs b x r why e. let s : Sound ls (Stops why) = subst (λ (v : Act (Thread F A)). Sound ls v) e (sound ls x (holds first r)) in s;
   }

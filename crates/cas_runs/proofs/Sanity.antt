@@ -3,7 +3,7 @@ use Rattle.std.proofs.Common.{◌≡◌, ℕ, zero, suc, ◌+◌, ◌≤◌, Lis
 use Rattle.cas_base.specs.declared.kind.Kind.TheVariants.{U32}
 use Rattle.cas_runs.specs.Label.{RunLabel, Lock, Unlock, Out}
 use Rattle.cas_runs.specs.Edge.{Edge, AreGuarded, IsOfKind}
-use Rattle.cas_runs.specs.Machine.{Act, Quiet, Says, Crosses, Locks, Hears, Bad, Stops, Machine, Leads, IsBad, Block, begun, onward, Run, starts, quiet, labelled, quiet_now, Halt, Taken}
+use Rattle.cas_runs.specs.Machine.{Act, Quiet, Emits, Crosses, Locks, Receives, Bad, Stops, Machine, StepsTo, IsBad, Block, begun, onward, Run, starts, quiet, labelled, quiet_now, Halt, Taken}
 use Rattle.cas_runs.specs.Refines.{Halted, HasRun, BadBefore, PaysMore, Refines}
 use Rattle.cas_runs.specs.Sections.{Instruction, Take, Give, Load, Store, Print, Spin, Standing, one_lock, standing, sections}
 use Rattle.cas_runs.proofs.Refining.{IsQuiet, leads_not_quiet, one_state, before_label}
@@ -48,10 +48,10 @@ module _ {S : Type 0} (edge : Edge) (s : Machine S) where
   bad_not_quiet : (a : Act S) → IsBad a → IsQuiet a → ⊥
   bad_not_quiet Bad b q = q
   bad_not_quiet (Quiet n) b q = b
-  bad_not_quiet (Says k n) b q = b
+  bad_not_quiet (Emits k n) b q = b
   bad_not_quiet (Crosses n) b q = b
   bad_not_quiet (Locks k n) b q = b
-  bad_not_quiet (Hears n) b q = b
+  bad_not_quiet (Receives n) b q = b
   bad_not_quiet (Stops w) b q = b
 
   -- after these labels the source comes to a step that has a label, and so to no Bad one
@@ -61,11 +61,11 @@ module _ {S : Type 0} (edge : Edge) (s : Machine S) where
       m (subst (λ v. IsBad (s.act v)) same b.bad)
 
   -- and has no label by which that step doesn't lead
-  no_other_label : (ls : List RunLabel) (cs : List Block) (c : Block) (y : S) → Run edge s ls cs c y → (IsQuiet (s.act y) → ⊥) → (l : RunLabel) → ((z : S) → Leads edge ls (s.act y) l z → ⊥) → HasRun edge s (l ∷ ls) → ⊥
+  no_other_label : (ls : List RunLabel) (cs : List Block) (c : Block) (y : S) → Run edge s ls cs c y → (IsQuiet (s.act y) → ⊥) → (l : RunLabel) → ((z : S) → StepsTo edge ls (s.act y) l z → ⊥) → HasRun edge s (l ∷ ls) → ⊥
   no_other_label ls cs c y r n l m has =
       let before = before_label edge s l ls has.run refl in
       let same : before.at ≡ y = one_state edge s before.run r (leads_not_quiet edge ls (s.act before.at) l before.to before.leads) n in
-      m before.to (subst (λ v. Leads edge ls (s.act v) l before.to) same before.leads)
+      m before.to (subst (λ v. StepsTo edge ls (s.act v) l before.to) same before.leads)
 
 -- A unit that drops a store to a guarded word before its Unlock doesn't refine.
 
@@ -97,7 +97,7 @@ module _ {S : Type 0} (edge : Edge) (m : Machine S) where
   pub comes_on : (ls : List RunLabel) (x y : S) → Comes edge m ls x → m.act x ≡ Quiet y → Comes edge m ls y
   comes_on ls x y c e = record { blocks = c.blocks; block = onward m c.block y; run = quiet y c.run e }
 
-  pub comes_by : (ls : List RunLabel) (l : RunLabel) (x y : S) → Comes edge m ls x → Leads edge ls (m.act x) l y → Comes edge m (l ∷ ls) y
+  pub comes_by : (ls : List RunLabel) (l : RunLabel) (x y : S) → Comes edge m ls x → StepsTo edge ls (m.act x) l y → Comes edge m (l ∷ ls) y
   comes_by ls l x y c e = record { blocks = c.block ∷ c.blocks; block = begun m y; run = labelled l y c.run e }
 
   pub has_of : (ls : List RunLabel) (x : S) → Comes edge m ls x → HasRun edge m ls
@@ -106,7 +106,7 @@ module _ {S : Type 0} (edge : Edge) (m : Machine S) where
   pub not_bad : (ls : List RunLabel) (y : S) → Comes edge m ls y → (IsQuiet (m.act y) → ⊥) → (IsBad (m.act y) → ⊥) → BadAt edge m ls → ⊥
   not_bad ls y c n b h = not_bad_at edge m ls c.blocks c.block y c.run n b h
 
-  pub no_label : (ls : List RunLabel) (y : S) → Comes edge m ls y → (IsQuiet (m.act y) → ⊥) → (l : RunLabel) → ((z : S) → Leads edge ls (m.act y) l z → ⊥) → HasRun edge m (l ∷ ls) → ⊥
+  pub no_label : (ls : List RunLabel) (y : S) → Comes edge m ls y → (IsQuiet (m.act y) → ⊥) → (l : RunLabel) → ((z : S) → StepsTo edge ls (m.act y) l z → ⊥) → HasRun edge m (l ∷ ls) → ⊥
   no_label ls y c n l h has = no_other_label edge m ls c.blocks c.block y c.run n l h has
 
 pub dropped_store : (p q : ℕ) → Refines one_lock (sections q not_storing) (sections p storing) → ⊥

@@ -3,11 +3,11 @@ use Rattle.std.proofs.Common.{◌≡◌, ℕ, List, [], ◌∷◌, Option, Some,
 use Rattle.cas_runs.specs.Label.{NameBytes, same_name, RunLabel, Lock, Unlock, Out, Done, Enter, Back, Call, Leave}
 use Rattle.cas_runs.specs.Edge.{results_of}
 use Rattle.cas_runs.specs.Naming.{Value, Naming, and_then, all_taken, brought}
-use Rattle.cas_runs.specs.Machine.{Act, Quiet, Says, Crosses, Locks, Hears, Bad, Stops, Machine, CanCross, Leads, Block, Run, starts as begins_run, quiet, labelled}
-use Rattle.cas_runs.specs.Rules.{HasCrossed, MayHear, IsHearing}
+use Rattle.cas_runs.specs.Machine.{Act, Quiet, Emits, Crosses, Locks, Receives, Bad, Stops, Machine, CanCross, StepsTo, Block, Run, starts as begins_run, quiet, labelled}
+use Rattle.cas_runs.specs.Rules.{HasCrossed, MayReceive, IsReceiving}
 use Rattle.cas_runs.specs.Access.{Holding, words_in, with_lock, without_lock}
 use Rattle.cas_runs.specs.Unit.{Setting, guard_of}
-use Rattle.cas_runs.specs.Calls.{Last, Goes, Takes, Gives, Puts, Calls, Tails, Returns, Activations, Scene, Frame, Waits, Outer, Past, Thread, Away, Runs, Leaves, Over, Wrong, can_cross, crosses_as, with_naming, to_outside, calls_by, leaves_by, crosses_if, kept_results, leaves_with, leaves_later, goes_back, returns, resumes, comes_back, with_share, takes_lock, takes, gives_lock, gives, find, without_own, calls_in, enters_at, enters, step_at, calls_out, calls, acts, hears, machine}
+use Rattle.cas_runs.specs.Calls.{Last, Goes, Takes, Gives, Puts, Calls, Tails, Returns, Activations, Scene, Frame, Waits, Outer, Past, Thread, Away, Runs, Leaves, Over, Wrong, can_cross, crosses_as, with_naming, to_outside, calls_by, leaves_by, crosses_if, kept_results, leaves_with, leaves_later, goes_back, returns, resumes, comes_back, with_share, takes_lock, takes, gives_lock, gives, find, without_own, calls_in, enters_at, enters, step_at, calls_out, calls, acts, receives, machine}
 use Rattle.cas_runs.proofs.Composing.{said_stays, brought_stays}
 
 module _ {F A : Type 0} (l : Activations F A) (setting : Setting) (scene : Scene F) (start : Thread F A) where
@@ -25,10 +25,10 @@ module _ {F A : Type 0} (l : Activations F A) (setting : Setting) (scene : Scene
   -- the act is one of the unit's, and leads to the outside by a Call or a Leave alone
   abbrev Own : Act (Thread F A) → Type 0
   Own (Quiet y) = IsAway y → ⊥
-  Own (Says saying y) = IsAway y → ⊥
+  Own (Emits event y) = IsAway y → ⊥
   Own (Crosses next) = (k : RunLabel) (y : Thread F A) → next k ≡ Some y → IsAway y
   Own (Locks lock next) = (ws : List ℕ) → IsAway (next ws) → ⊥
-  Own (Hears next) = ⊥
+  Own (Receives next) = ⊥
   Own Bad = Unit {0}
   Own (Stops why) = Unit {0}
 
@@ -151,7 +151,7 @@ module _ {F A : Type 0} (l : Activations F A) (setting : Setting) (scene : Scene
       by None away = away
       by (Some a) away = away
 
-  heard_stays : (stack : List (Frame F A)) (p : Past) (h : Holding) (k : RunLabel) → IsAway (hears l setting scene stack p h k) → ⊥
+  heard_stays : (stack : List (Frame F A)) (p : Past) (h : Holding) (k : RunLabel) → IsAway (receives l setting scene stack p h k) → ⊥
   heard_stays stack p h (Enter name crossing) away = entered_stays (find l scene.functions name) (all_taken (brought h.memory p.naming 0 crossing.objects).naming crossing.values) (Outer (results_of setting.edge name) ∷ stack) _ _ away
   heard_stays stack p h (Back crossing) away = back_stays (all_taken (brought h.memory p.naming 0 crossing.objects).naming crossing.values) stack _ _ away
   heard_stays stack p h (Lock lock ws) away = away
@@ -165,19 +165,19 @@ module _ {F A : Type 0} (l : Activations F A) (setting : Setting) (scene : Scene
 
   -- whose turn it is after these labels
   pub record Turn (ls : List RunLabel) (x : Thread F A) : Type 0 where
-    pub may_hear : IsAway x → MayHear ls
+    pub may_hear : IsAway x → MayReceive ls
     pub has_crossed : HasCrossed ls → IsAway x
 
-  by_own : (ls : List RunLabel) (a : Act (Thread F A)) (k : RunLabel) (y : Thread F A) → Own a → Leads setting.edge ls a k y → Turn (k ∷ ls) y
+  by_own : (ls : List RunLabel) (a : Act (Thread F A)) (k : RunLabel) (y : Thread F A) → Own a → StepsTo setting.edge ls a k y → Turn (k ∷ ls) y
   by_own ls (Quiet z) k y o e = absurd e
-  by_own ls (Says saying z) k y o e = record { may_hear = λ away. absurd (o (subst IsAway (sym e.1) away)); has_crossed = λ c. absurd (said_stays saying (subst CanCross (sym e.0) c)) }
+  by_own ls (Emits event z) k y o e = record { may_hear = λ away. absurd (o (subst IsAway (sym e.1) away)); has_crossed = λ c. absurd (said_stays event (subst CanCross (sym e.0) c)) }
   by_own ls (Crosses next) k y o e = record { may_hear = λ away. e.0; has_crossed = λ c. o k y e.1 }
   by_own ls (Locks lock next) k y o e = record { may_hear = λ away. absurd (o e.0 (subst IsAway (sym e.3) away)); has_crossed = λ c. let no : ⊥ = subst CanCross e.1 c in absurd no }
-  by_own ls (Hears next) k y o e = absurd o
+  by_own ls (Receives next) k y o e = absurd o
   by_own ls Bad k y o e = absurd e
   by_own ls (Stops why) k y o e = absurd e
 
-  by_label : (ls : List RunLabel) (x : Thread F A) (k : RunLabel) (y : Thread F A) → Leads setting.edge ls (M.act x) k y → Turn (k ∷ ls) y
+  by_label : (ls : List RunLabel) (x : Thread F A) (k : RunLabel) (y : Thread F A) → StepsTo setting.edge ls (M.act x) k y → Turn (k ∷ ls) y
   by_label ls (Away stack p h) k y e = record { may_hear = λ away. absurd (heard_stays stack p h k (subst IsAway (sym e.1) away)); has_crossed = λ c. absurd (brought_stays setting.edge ls k e.0 c) }
   by_label ls (Runs f n a x stack p h) k y e = by_own ls (M.act (Runs f n a x stack p h)) k y (act_own (Runs f n a x stack p h) (λ away. away)) e
   by_label ls (Leaves values stack p h) k y e = by_own ls (M.act (Leaves values stack p h)) k y (act_own (Leaves values stack p h) (λ away. away)) e
@@ -203,31 +203,31 @@ module _ {F A : Type 0} (l : Activations F A) (setting : Setting) (scene : Scene
       record { may_hear = λ away. absurd (stays.1 away); has_crossed = λ c. absurd (stays.0 (t.has_crossed c)) }
   turn (labelled {ls = ls} {x = x} k y r e) = by_label ls x k y e
 
-  own_hears : (a : Act (Thread F A)) → Own a → IsHearing a → ⊥
+  own_hears : (a : Act (Thread F A)) → Own a → IsReceiving a → ⊥
   own_hears (Quiet y) o h = h
-  own_hears (Says saying y) o h = h
+  own_hears (Emits event y) o h = h
   own_hears (Crosses next) o h = h
   own_hears (Locks lock next) o h = h
-  own_hears (Hears next) o h = o
+  own_hears (Receives next) o h = o
   own_hears Bad o h = h
   own_hears (Stops why) o h = h
 
-  hearing_away : (x : Thread F A) → IsHearing (M.act x) → IsAway x
+  hearing_away : (x : Thread F A) → IsReceiving (M.act x) → IsAway x
   hearing_away (Away stack p h) e = tt
   hearing_away (Runs f n a x stack p h) e = absurd (own_hears (M.act (Runs f n a x stack p h)) (act_own (Runs f n a x stack p h) (λ away. away)) e)
   hearing_away (Leaves values stack p h) e = absurd (own_hears (M.act (Leaves values stack p h)) (act_own (Leaves values stack p h) (λ away. away)) e)
   hearing_away Over e = absurd e
   hearing_away Wrong e = absurd e
 
-  away_hearing : (x : Thread F A) → IsAway x → IsHearing (M.act x)
+  away_hearing : (x : Thread F A) → IsAway x → IsReceiving (M.act x)
   away_hearing (Away stack p h) away = tt
   away_hearing (Runs f n a x stack p h) away = absurd away
   away_hearing (Leaves values stack p h) away = absurd away
   away_hearing Over away = absurd away
   away_hearing Wrong away = absurd away
 
-  pub hears_outside : (ls : List RunLabel) (bs : List Block) (b : Block) (x : Thread F A) → Run setting.edge M ls bs b x → IsHearing (M.act x) → MayHear ls
+  pub hears_outside : (ls : List RunLabel) (bs : List Block) (b : Block) (x : Thread F A) → Run setting.edge M ls bs b x → IsReceiving (M.act x) → MayReceive ls
   hears_outside ls bs b x r e = let t = turn r in t.may_hear (hearing_away x e)
 
-  pub listens_after : (ls : List RunLabel) (bs : List Block) (b : Block) (x : Thread F A) → Run setting.edge M ls bs b x → HasCrossed ls → IsHearing (M.act x)
+  pub listens_after : (ls : List RunLabel) (bs : List Block) (b : Block) (x : Thread F A) → Run setting.edge M ls bs b x → HasCrossed ls → IsReceiving (M.act x)
   listens_after ls bs b x r c = let t = turn r in away_hearing x (t.has_crossed c)

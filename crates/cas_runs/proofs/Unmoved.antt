@@ -6,7 +6,7 @@ use Rattle.cas_runs.specs.Machine.{Block}
 use Rattle.cas_runs.specs.Access.{Holding, with_lock, without_lock, value_in, length_of}
 use Rattle.cas_runs.specs.Unit.{Setting}
 use Rattle.cas_runs.specs.Calls.{Activations, Past, set_blocks, fresh, gone, one_begun, with_share, can_cross, crosses_as, with_naming}
-use Rattle.cas_runs.specs.Passing.{Relation, AllSame, SameIf, brought_in, heard, Keeps}
+use Rattle.cas_runs.specs.Passing.{Relation, AllMatch, MatchIf, brought_in, received, Keeps}
 use Rattle.cas_runs.specs.Unmoved.{keeps_values}
 use Rattle.cas_runs.specs.Forms.{LengthsAlike, Stored, MemoryKeeps}
 
@@ -14,18 +14,18 @@ module _ {F A G B : Type 0} (target : Activations F A) (source : Activations G B
   abbrev R : Relation F A G B
   R = keeps_values target source setting ts ss made match
 
-  pub to_equal : (vs ws : List Value) → AllSame R vs ws → vs ≡ ws
+  pub to_equal : (vs ws : List Value) → AllMatch R vs ws → vs ≡ ws
   to_equal [] [] h = refl
   to_equal [] (w ∷ ws) h = absurd h
   to_equal (v ∷ vs) [] h = absurd h
   to_equal (v ∷ vs) (w ∷ ws) h = ap (λ u. u ∷ vs) h.0 ∙ ap (λ us. w ∷ us) (to_equal vs ws h.1)
 
-  pub all_equal : (vs : List Value) → AllSame R vs vs
+  pub all_equal : (vs : List Value) → AllMatch R vs vs
   all_equal [] = tt
   all_equal (v ∷ vs) = (refl, all_equal vs)
 
-  pub from_equal : (vs ws : List Value) → vs ≡ ws → AllSame R vs ws
-  from_equal vs ws e = subst (λ us. AllSame R vs us) e (all_equal vs)
+  pub from_equal : (vs ws : List Value) → vs ≡ ws → AllMatch R vs ws
+  from_equal vs ws e = subst (λ us. AllMatch R vs us) e (all_equal vs)
 
   -- the holding with other blocks of an activation
   abbrev with_set : (ℕ → Option (List Value)) → NameBytes → ℕ → List ℕ → Holding → Holding
@@ -36,10 +36,10 @@ module _ {F A G B : Type 0} (target : Activations F A) (source : Activations G B
       ap (λ v. with_set words v n (target.blocks f) h) (names f g m) ∙ ap (λ v. with_set words (source.name g) n v h) (blocks f g m)
       ∙ ap (λ v. with_set words (source.name g) v (source.blocks g) h) e ∙ ap (λ v. with_set words (source.name g) n' (source.blocks g) v) e'
 
-  same_if : (o o' : Option (List Value)) → o ≡ o' → SameIf R o o'
-  same_if o o' e = subst (λ v. SameIf R o v) e (itself o)
+  same_if : (o o' : Option (List Value)) → o ≡ o' → MatchIf R o o'
+  same_if o o' e = subst (λ v. MatchIf R o v) e (itself o)
     where
-      itself : (o : Option (List Value)) → SameIf R o o
+      itself : (o : Option (List Value)) → MatchIf R o o
       itself None = tt
       itself (Some vs) = all_equal vs
 
@@ -54,10 +54,10 @@ module _ {F A G B : Type 0} (target : Activations F A) (source : Activations G B
     at_once = λ n h k. tt;
     then_later = λ n h k h' k' h'' k'' l m. tt;
     fewer = λ m n h k h' k' le l. tt;
-    locks = λ n p q h k a lock words g. record { alike = record { past = a.past; holding = ap (λ (v : Holding). with_share v (with_lock v.share lock words)) a.holding }; later = tt };
-    unlocks = λ n p q h k a lock. record { alike = record { past = a.past; holding = ap (λ (v : Holding). with_share v (without_lock v.share lock)) a.holding }; later = tt };
-    begins = λ f g m p q h k a. record { alike = record { past = ap (λ v. one_begun target v) a.past; holding = ap (λ v. with_set (fresh v) (target.name f) p.begun (target.blocks f) h) first_words ∙ set_equal (fresh source.first_word) f g m p.begun q.begun (ap (λ (v : Past). v.begun) a.past) h k a.holding }; later = tt };
-    ends = λ n f g m p q h k a. record { settled = record { past = a.past; holding = set_equal gone f g m n n refl h k a.holding }; later = tt };
+    locks = λ n p q h k a lock words g. record { match_memory = record { past = a.past; holding = ap (λ (v : Holding). with_share v (with_lock v.share lock words)) a.holding }; frame = tt };
+    unlocks = λ n p q h k a lock. record { match_memory = record { past = a.past; holding = ap (λ (v : Holding). with_share v (without_lock v.share lock)) a.holding }; frame = tt };
+    begins = λ f g m p q h k a. record { match_memory = record { past = ap (λ v. one_begun target v) a.past; holding = ap (λ v. with_set (fresh v) (target.name f) p.begun (target.blocks f) h) first_words ∙ set_equal (fresh source.first_word) f g m p.begun q.begun (ap (λ (v : Past). v.begun) a.past) h k a.holding }; frame = tt };
+    ends = λ n f g m p q h k a. record { settled = record { past = a.past; holding = set_equal gone f g m n n refl h k a.holding }; frame = tt };
     shows = λ p q h k a vs ws s e.
         let past : p ≡ q = a.past in
         subst (λ (v : Past). can_cross setting.layout v vs ≡ true) (sym past) (subst (λ us. can_cross setting.layout q us ≡ true) (sym (to_equal vs ws s)) e);
@@ -68,11 +68,11 @@ module _ {F A G B : Type 0} (target : Activations F A) (source : Activations G B
           ap (λ us. crosses_as setting.layout us p h crossing) (to_equal vs ws s) ∙ ap (λ v. crosses_as setting.layout ws v h crossing) past ∙ ap (λ v. crosses_as setting.layout ws q v crossing) holding ∙ e,
           record { past = ap (λ v. with_naming v ns) past; holding = holding },
         );
-    hears = λ n p q h k a types crossing brings typed.
+    receives = λ n p q h k a types crossing brings typed.
         let past : p ≡ q = a.past in
         let holding : h ≡ k = a.holding in
         let both : brought_in R p h crossing ≡ brought_in R q k crossing = ap (λ v. brought_in R v h crossing) past ∙ ap (λ v. brought_in R q v crossing) holding in (
-          record { settled = record { past = ap (λ (v : Past). with_naming v (brought_in R v h crossing).naming) past ∙ ap (λ (v : Holding). with_naming q (brought_in R q v crossing).naming) holding; holding = ap (λ (v : Past). heard R v h crossing) past ∙ ap (λ v. heard R q v crossing) holding }; later = tt },
+          record { settled = record { past = ap (λ (v : Past). with_naming v (brought_in R v h crossing).naming) past ∙ ap (λ (v : Holding). with_naming q (brought_in R q v crossing).naming) holding; holding = ap (λ (v : Past). received R v h crossing) past ∙ ap (λ v. received R q v crossing) holding }; frame = tt },
           same_if (all_taken (brought_in R p h crossing).naming crossing.values) (all_taken (brought_in R q k crossing).naming crossing.values)
               (ap (λ (v : Past). all_taken (brought_in R v h crossing).naming crossing.values) past ∙ ap (λ (v : Holding). all_taken (brought_in R q v crossing).naming crossing.values) holding),
         );

@@ -13,7 +13,7 @@ use Rattle.cas_runs.specs.Access.{Holding, with_lock, without_lock, value_in}
 use Rattle.cas_runs.specs.Unit.{Setting}
 use Rattle.cas_runs.specs.Forms.{MemoryKeeps, ShareSelfSame}
 use Rattle.cas_runs.specs.Calls.{Activations, Past, so_many, set_blocks, fresh, gone, one_begun, with_share, can_cross, crosses_as, with_naming}
-use Rattle.cas_runs.specs.Passing.{Relation, AllSame, SameIf, brought_in, heard, Keeps}
+use Rattle.cas_runs.specs.Passing.{Relation, AllMatch, MatchIf, brought_in, received, Keeps}
 use Rattle.cas_runs.specs.Worded.{IsWord, AreWords, HasWords, SameWord, keeps_words}
 use Rattle.cas_runs.proofs.Words.{kind_word, guarded_self, self_with_lock, self_without_lock}
 use Rattle.cas_runs.proofs.Unmoved.{memory_equal}
@@ -176,20 +176,20 @@ module _ {F A G B : Type 0} (target : Activations F A) (source : Activations G B
   abbrev R : Relation F A G B
   R = keeps_words target source setting ts ss made match
 
-  pub to_equal : (vs ws : List Value) → AllSame R vs ws → vs ≡ ws
+  pub to_equal : (vs ws : List Value) → AllMatch R vs ws → vs ≡ ws
   to_equal [] [] h = refl
   to_equal [] (w ∷ ws) h = absurd h
   to_equal (v ∷ vs) [] h = absurd h
   to_equal (v ∷ vs) (w ∷ ws) h = ap (λ u. u ∷ vs) h.0.0 ∙ ap (λ us. w ∷ us) (to_equal vs ws h.1)
 
-  pub all_equal : (vs : List Value) → AreWords vs → AllSame R vs vs
+  pub all_equal : (vs : List Value) → AreWords vs → AllMatch R vs vs
   all_equal [] h = tt
   all_equal (v ∷ vs) h = ((refl, h.0), all_equal vs h.1)
 
-  same_if : (o o' : Option (List Value)) → o ≡ o' → AllTaken o → SameIf R o o'
-  same_if o o' e h = subst (λ v. SameIf R o v) e (itself o h)
+  same_if : (o o' : Option (List Value)) → o ≡ o' → AllTaken o → MatchIf R o o'
+  same_if o o' e h = subst (λ v. MatchIf R o v) e (itself o h)
     where
-      itself : (o : Option (List Value)) → AllTaken o → SameIf R o o
+      itself : (o : Option (List Value)) → AllTaken o → MatchIf R o o
       itself None h = tt
       itself (Some vs) h = all_equal vs h
 
@@ -213,31 +213,31 @@ module _ {F A G B : Type 0} (target : Activations F A) (source : Activations G B
     then_later = λ n h k h' k' h'' k'' l m. tt;
     fewer = λ m n h k h' k' le l. tt;
     locks = λ n p q h k a lock words g. record {
-      alike = record {
+      match_memory = record {
         past = a.past;
         holding = ap (λ (v : Holding). with_share v (with_lock v.share lock words)) a.holding;
         share = self_with_lock SameWord k.share a.share lock words (guarded_self SameWord (λ w word. (refl, word)) setting.edge lock words g);
         memory = a.memory;
       };
-      later = tt;
+      frame = tt;
     };
     unlocks = λ n p q h k a lock. record {
-      alike = record {
+      match_memory = record {
         past = a.past;
         holding = ap (λ (v : Holding). with_share v (without_lock v.share lock)) a.holding;
         share = self_without_lock SameWord k.share a.share lock;
         memory = a.memory;
       };
-      later = tt;
+      frame = tt;
     };
     begins = λ f g m p q h k a. record {
-      alike = record {
+      match_memory = record {
         past = ap (λ v. one_begun target v) a.past;
         holding = ap (λ v. with_set (fresh v) (target.name f) p.begun (target.blocks f) h) first_words ∙ set_equal (fresh source.first_word) f g m p.begun q.begun (ap (λ (v : Past). v.begun) a.past) h k a.holding;
         share = a.share;
         memory = set_words (fresh source.first_word) (fresh_words source.first_word first_is) k.memory a.memory (source.name g) q.begun 0 (source.blocks g);
       };
-      later = tt;
+      frame = tt;
     };
     ends = λ n f g m p q h k a. record {
       settled = record {
@@ -246,7 +246,7 @@ module _ {F A G B : Type 0} (target : Activations F A) (source : Activations G B
         share = a.share;
         memory = set_words gone (λ size. tt) k.memory a.memory (source.name g) n 0 (source.blocks g);
       };
-      later = tt;
+      frame = tt;
     };
     shows = λ p q h k a vs ws s e.
         let past : p ≡ q = a.past in
@@ -258,18 +258,18 @@ module _ {F A G B : Type 0} (target : Activations F A) (source : Activations G B
           ap (λ us. crosses_as setting.layout us p h crossing) (to_equal vs ws s) ∙ ap (λ v. crosses_as setting.layout ws v h crossing) past ∙ ap (λ v. crosses_as setting.layout ws q v crossing) holding ∙ e,
           record { past = ap (λ v. with_naming v ns) past; holding = holding; share = a.share; memory = a.memory },
         );
-    hears = λ n p q h k a types crossing brings typed.
+    receives = λ n p q h k a types crossing brings typed.
         let past : p ≡ q = a.past in
         let holding : h ≡ k = a.holding in
         let both : brought_in R p h crossing ≡ brought_in R q k crossing = ap (λ v. brought_in R v h crossing) past ∙ ap (λ v. brought_in R q v crossing) holding in (
           record {
             settled = record {
               past = ap (λ (v : Past). with_naming v (brought_in R v h crossing).naming) past ∙ ap (λ (v : Holding). with_naming q (brought_in R q v crossing).naming) holding;
-              holding = ap (λ (v : Past). heard R v h crossing) past ∙ ap (λ v. heard R q v crossing) holding;
+              holding = ap (λ (v : Past). received R v h crossing) past ∙ ap (λ v. received R q v crossing) holding;
               share = share_brought setting.edge crossing.share brings.share;
               memory = memory_brought crossing.objects (brought_words (objects_of k.memory q.naming) crossing.objects brings.objects) k.memory a.memory q.naming 0;
             };
-            later = tt;
+            frame = tt;
           },
           same_if (all_taken (brought_in R p h crossing).naming crossing.values) (all_taken (brought_in R q k crossing).naming crossing.values)
               (ap (λ (v : Past). all_taken (brought_in R v h crossing).naming crossing.values) past ∙ ap (λ (v : Holding). all_taken (brought_in R q v crossing).naming crossing.values) holding)

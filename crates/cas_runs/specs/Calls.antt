@@ -3,7 +3,7 @@ use Rattle.std.specs.Prelude.{ℕ, zero, suc, ◌+◌, nat_eq, Bool, true, false
 use Rattle.cas_runs.specs.Label.{NameBytes, same_name, Share, Crossing, RunLabel, Enter, Back, Call, Leave}
 use Rattle.cas_runs.specs.Edge.{results_of}
 use Rattle.cas_runs.specs.Naming.{Own, Value, Number, Layout, parts_at, Naming, Memory, and_then, all_named_by, can_show_all, objects_of, same_objects, all_taken, with_block, brought}
-use Rattle.cas_runs.specs.Machine.{Footprint, Act, Quiet, Says, Crosses, Locks, Hears, Bad, Stops, Ended, Taken, Unlocks, Prints, Ends, Opened, Open, Between, Machine}
+use Rattle.cas_runs.specs.Machine.{Footprint, Act, Quiet, Emits, Crosses, Locks, Receives, Bad, Stops, Ended, Taken, Unlocks, Prints, Ends, Opened, Open, Between, Machine}
 use Rattle.cas_runs.specs.Bounds.{Tariff, step_price, first_price, waiting_price}
 use Rattle.cas_runs.specs.Access.{Accesses, Holding, words_in, with_lock, without_lock, Performed, performed}
 use Rattle.cas_runs.specs.Unit.{Setting, Language, found, guard_of}
@@ -166,7 +166,7 @@ module _ {F A : Type 0} where
 
   -- the newest activation has returned: to one that waits, to the outside, or the thread has ended
   abbrev pub returns : Layout → List Value → List (Frame F A) → Past → Holding → Act (Thread F A)
-  returns layout values [] past h = Says Ends Over
+  returns layout values [] past h = Emits Ends Over
   returns layout values (Outer results ∷ stack) past h = leaves_with layout (kept_results results values) stack past h
   returns layout values (Waits f serial results next ∷ stack) past h = goes_back f serial (and_then (kept_results results values) next) stack past h
 
@@ -206,7 +206,7 @@ module _ {F A : Type 0} where
   -- an Unlock of a lock that isn't in the share has no meaning
   abbrev pub gives_lock : ℕ → Option (List ℕ) → Thread F A → Act (Thread F A)
   gives_lock lock None next = Bad
-  gives_lock lock (Some words) next = Says (Unlocks lock words) next
+  gives_lock lock (Some words) next = Emits (Unlocks lock words) next
 
   abbrev pub gives : Option ℕ → A → F → (serial : ℕ) → List (Frame F A) → Past → Holding → Act (Thread F A)
   gives None a f serial stack past h = Bad
@@ -287,24 +287,24 @@ module _ {F A : Type 0} (l : Activations F A) (setting : Setting) (scene : Scene
   acts (Some (Goes next)) f serial stack past h = Quiet (Runs f serial next 0 stack past h)
   acts (Some (Takes lock next)) f serial stack past h = takes (guard_of setting.edge setting.words lock) next f serial stack past h
   acts (Some (Gives lock next)) f serial stack past h = gives (guard_of setting.edge setting.words lock) next f serial stack past h
-  acts (Some (Puts word next)) f serial stack past h = Says (Prints word) (Runs f serial next 0 stack past h)
+  acts (Some (Puts word next)) f serial stack past h = Emits (Prints word) (Runs f serial next 0 stack past h)
   acts (Some (Calls function values next)) f serial stack past h = calls (find l scene.within function) function values (Waits f serial (results_of setting.edge function) next ∷ stack) past h
   acts (Some (Tails function values)) f serial stack past h = calls (find l scene.within function) function values stack past (without_own l f serial h)
   acts (Some (Returns values)) f serial stack past h = returns setting.layout values stack past (without_own l f serial h)
 
   -- what the outside brings: the share, and what it left of the objects that have crossed
-  abbrev pub hears : List (Frame F A) → Past → Holding → RunLabel → Thread F A
-  hears stack past h (Enter f crossing) =
+  abbrev pub receives : List (Frame F A) → Past → Holding → RunLabel → Thread F A
+  receives stack past h (Enter f crossing) =
       let c = brought h.memory past.naming 0 crossing.objects in
       enters l (find l scene.functions f) (all_taken c.naming crossing.values) (Outer (results_of setting.edge f) ∷ stack) (with_naming past c.naming) (record { share = crossing.share; memory = c.memory })
-  hears stack past h (Back crossing) =
+  receives stack past h (Back crossing) =
       let c = brought h.memory past.naming 0 crossing.objects in
       comes_back (all_taken c.naming crossing.values) stack (with_naming past c.naming) (record { share = crossing.share; memory = c.memory })
-  hears stack past h _ = Wrong
+  receives stack past h _ = Wrong
 
   -- the act, the price and the footprint at a state
   abbrev pub act_at : Thread F A → Act (Thread F A)
-  act_at (Away stack past h) = Hears (hears stack past h)
+  act_at (Away stack past h) = Receives (receives stack past h)
   act_at (Runs f serial now extra stack past h) = acts (step_at l setting now h).last f serial stack past (step_at l setting now h).holding
   act_at (Leaves values stack past h) = leaves setting.layout values stack past h
   act_at Over = Stops Ended

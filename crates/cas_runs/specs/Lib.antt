@@ -5,7 +5,7 @@ pub mod Determined
 pub mod Edge
 pub mod Forms
 pub mod Forward
-pub mod Hearing
+pub mod Receiving
 pub mod Label
 pub mod Legal
 pub mod Machine

@@ -10,12 +10,12 @@ pub record Footprint : Type 0 where
   pub writes : List ℕ
 
 -- what a unit says of itself alone
-pub data Saying : Type 0 where
-  Unlocks : (lock : ℕ) (words : List ℕ) → Saying
-  Prints : (word : ℕ) → Saying
-  Ends : Saying
+pub data Event : Type 0 where
+  Unlocks : (lock : ℕ) (words : List ℕ) → Event
+  Prints : (word : ℕ) → Event
+  Ends : Event
 
-abbrev pub label_of : Saying → RunLabel
+abbrev pub label_of : Event → RunLabel
 label_of (Unlocks lock words) = Unlock lock words
 label_of (Prints word) = Out word
 label_of Ends = Done
@@ -42,13 +42,13 @@ pub data Act (S : Type 0) : Type 0 where
   -- a step without a label
   Quiet : (next : S) → Act S
   -- an Unlock, an Out or a Done
-  Says : (saying : Saying) (next : S) → Act S
+  Emits : (event : Event) (next : S) → Act S
   -- a Call or a Leave, with each label that can name what crosses
   Crosses : (next : RunLabel → Option S) → Act S
   -- a Lock, whose words come from the outside
   Locks : (lock : ℕ) (next : List ℕ → S) → Act S
   -- an Enter or a Back, which comes from the outside
-  Hears : (next : RunLabel → S) → Act S
+  Receives : (next : RunLabel → S) → Act S
   -- a step without a meaning
   Bad : Act S
   -- no next step
@@ -69,23 +69,23 @@ pub record Machine (S : Type 0) : Type 0 where
   pub open_functions : S → List Opened
 
 -- after these labels, the act leads by this label to this state
-abbrev pub Leads : {S : Type 0} → Edge → List RunLabel → Act S → RunLabel → S → Type 0
-Leads edge before (Says saying next) l y = (label_of saying ≡ l) × (next ≡ y)
-Leads edge before (Crosses next) l y = CanCross l × (next l ≡ Some y)
-Leads edge before (Locks lock next) l y = (words : List ℕ) × (l ≡ Lock lock words) × AreGuarded edge lock words × (next words ≡ y)
-Leads edge before (Hears next) l y = MayBring edge before l × (next l ≡ y)
-Leads edge before (Quiet next) l y = ⊥
-Leads edge before Bad l y = ⊥
-Leads edge before (Stops why) l y = ⊥
+abbrev pub StepsTo : {S : Type 0} → Edge → List RunLabel → Act S → RunLabel → S → Type 0
+StepsTo edge before (Emits event next) l y = (label_of event ≡ l) × (next ≡ y)
+StepsTo edge before (Crosses next) l y = CanCross l × (next l ≡ Some y)
+StepsTo edge before (Locks lock next) l y = (words : List ℕ) × (l ≡ Lock lock words) × AreGuarded edge lock words × (next words ≡ y)
+StepsTo edge before (Receives next) l y = MayBring edge before l × (next l ≡ y)
+StepsTo edge before (Quiet next) l y = ⊥
+StepsTo edge before Bad l y = ⊥
+StepsTo edge before (Stops why) l y = ⊥
 
 -- the step has no meaning
 abbrev pub IsBad : {S : Type 0} → Act S → Type 0
 IsBad Bad = Unit {0}
 IsBad (Quiet next) = ⊥
-IsBad (Says saying next) = ⊥
+IsBad (Emits event next) = ⊥
 IsBad (Crosses next) = ⊥
 IsBad (Locks lock next) = ⊥
-IsBad (Hears next) = ⊥
+IsBad (Receives next) = ⊥
 IsBad (Stops why) = ⊥
 
 -- the part of a run between two labels: what its steps, and the step at which it stands, have paid and touched
@@ -114,7 +114,7 @@ begun m x = onward m nothing x
 pub data Run {S : Type 0} (edge : Edge) (m : Machine S) : List RunLabel → List Block → Block → S → Type 0 where
   starts : Run edge m [] [] (begun m m.start) m.start
   quiet : {ls : List RunLabel} {bs : List Block} {b : Block} {x : S} (y : S) → Run edge m ls bs b x → m.act x ≡ Quiet y → Run edge m ls bs (onward m b y) y
-  labelled : {ls : List RunLabel} {bs : List Block} {b : Block} {x : S} (l : RunLabel) (y : S) → Run edge m ls bs b x → Leads edge ls (m.act x) l y → Run edge m (l ∷ ls) (b ∷ bs) (begun m y) y
+  labelled : {ls : List RunLabel} {bs : List Block} {b : Block} {x : S} (l : RunLabel) (y : S) → Run edge m ls bs b x → StepsTo edge ls (m.act x) l y → Run edge m (l ∷ ls) (b ∷ bs) (begun m y) y
 
 -- how many quiet steps a run has
 abbrev pub quiet_steps : {S : Type 0} {edge : Edge} {m : Machine S} {ls : List RunLabel} {bs : List Block} {b : Block} {x : S} → Run edge m ls bs b x → ℕ

@@ -24,23 +24,23 @@ pub record Relation (F A G B : Type 0) : Type 1 where
   -- the target's function is made of the source's
   pub made : F → G → Type 0
   -- the values are the same
-  pub same : Value → Value → Type 0
+  pub match_values : Value → Value → Type 0
   -- what both threads hold is alike, as far as the activations that match don't tell the rest
-  pub alike : Past → Holding → Past → Holding → Type 0
+  pub match_memory : Past → Holding → Past → Holding → Type 0
   -- and all of it is, where a call, a return or the outside follows
   pub settled : Past → Holding → Past → Holding → Type 0
   -- between two moments nothing has touched what the activations with smaller serial numbers have for themselves
-  pub later : ℕ → Holding → Holding → Holding → Holding → Type 0
+  pub frame : ℕ → Holding → Holding → Holding → Holding → Type 0
   -- where the activations of these functions and of this serial number stand, with the blocks so far
-  pub match : F → G → ℕ → A → Holding → Block → B → Holding → Block → Type 0
+  pub match_states : F → G → ℕ → A → Holding → Block → B → Holding → Block → Type 0
 
 module _ {F A G B : Type 0} (r : Relation F A G B) where
   -- as many, each the same
-  abbrev pub AllSame : List Value → List Value → Type 0
-  AllSame [] [] = Unit {0}
-  AllSame [] (w ∷ ws) = ⊥
-  AllSame (v ∷ vs) [] = ⊥
-  AllSame (v ∷ vs) (w ∷ ws) = r.same v w × AllSame vs ws
+  abbrev pub AllMatch : List Value → List Value → Type 0
+  AllMatch [] [] = Unit {0}
+  AllMatch [] (w ∷ ws) = ⊥
+  AllMatch (v ∷ vs) [] = ⊥
+  AllMatch (v ∷ vs) (w ∷ ws) = r.match_values v w × AllMatch vs ws
 
   -- the steps, and the blocks with them
   abbrev pub t_step : A → Holding → Performed (Last A)
@@ -57,17 +57,17 @@ module _ {F A G B : Type 0} (r : Relation F A G B) where
 
   -- both threads are alike, and nothing was touched of others since the moment h, k
   pub record Stands (n : ℕ) (p q : Past) (h k h' k' : Holding) : Type 0 where
-    pub alike : r.alike p h' q k'
-    pub later : r.later n h k h' k'
+    pub match_memory : r.match_memory p h' q k'
+    pub frame : r.frame n h k h' k'
 
   -- the same where all is alike
   pub record Settles (n : ℕ) (p q : Past) (h k h' k' : Holding) : Type 0 where
     pub settled : r.settled p h' q k'
-    pub later : r.later n h k h' k'
+    pub frame : r.frame n h k h' k'
 
   -- from y the source goes on quietly to where it matches x, or it fails
   pub data Going (f : F) (g : G) (n : ℕ) (p q : Past) (h k : Holding) (x : A) (h' : Holding) (b : Block) : B → Holding → Block → Type 0 where
-    matched : {y : B} {k' : Holding} {c : Block} → r.match f g n x h' b y k' c → Stands n p q h k h' k' → Going f g n p q h k x h' b y k' c
+    matched : {y : B} {k' : Holding} {c : Block} → r.match_states f g n x h' b y k' c → Stands n p q h k h' k' → Going f g n p q h k x h' b y k' c
     fails : {y : B} {k' : Holding} {c : Block} → (s_step y k').last ≡ None → Going f g n p q h k x h' b y k' c
     goes : {y : B} {k' : Holding} {c : Block} (y' : B) → (s_step y k').last ≡ Some (Goes y') → Going f g n p q h k x h' b y' (s_step y k').holding (s_on c y' 0 (s_step y k').holding) → Going f g n p q h k x h' b y k' c
 
@@ -84,7 +84,7 @@ module _ {F A G B : Type 0} (r : Relation F A G B) where
   -- two activations that wait for the same results, of this number, and go on with them at any later moment
   abbrev pub WaitAlike : F → G → ℕ → Holding → Holding → Option ℕ → (List Value → Option A) → (List Value → Option B) → Type 0
   WaitAlike f g n h k results next next' =
-      (p q : Past) (h' k' : Holding) → r.later (n + 1) h k h' k' → r.settled p h' q k' → (vs ws : List Value) → AllSame vs ws → results ≡ Some (length ws) → ReadyIf f g n p q (next vs) 0 h' (next' ws) 0 k'
+      (p q : Past) (h' k' : Holding) → r.frame (n + 1) h k h' k' → r.settled p h' q k' → (vs ws : List Value) → AllMatch vs ws → results ≡ Some (length ws) → ReadyIf f g n p q (next vs) 0 h' (next' ws) 0 k'
 
   -- the source's activation does nothing with these results but return them, or the first of them, as where it returns none; or it fails
   pub data PassesOn (ws : List Value) : Option B → Type 0 where
@@ -98,8 +98,8 @@ module _ {F A G B : Type 0} (r : Relation F A G B) where
 
   -- the tail call of the target is one of the source, or a call whose result is only passed on
   pub data TailAlike (n : ℕ) (p q : Past) (h k : Holding) (f : F) (g : G) (function : NameBytes) (vs : List Value) (h' k' : Holding) : Option (Last B) → Type 0 where
-    tail : (ws : List Value) → AllSame vs ws → Settles n p q h k h' k' → TailAlike n p q h k f g function vs h' k' (Some (Tails function ws))
-    passing : (ws : List Value) (next : List Value → Option B) → AllSame vs ws → Settles n p q h k (without_own r.target f n h') k' → OnlyPasses g (results_of r.setting.edge function) next → TailAlike n p q h k f g function vs h' k' (Some (Calls function ws next))
+    tail : (ws : List Value) → AllMatch vs ws → Settles n p q h k h' k' → TailAlike n p q h k f g function vs h' k' (Some (Tails function ws))
+    passing : (ws : List Value) (next : List Value → Option B) → AllMatch vs ws → Settles n p q h k (without_own r.target f n h') k' → OnlyPasses g (results_of r.setting.edge function) next → TailAlike n p q h k f g function vs h' k' (Some (Calls function ws next))
 
   -- what the source does at last where the target does this, but for a step that only goes on
   abbrev pub LastAlike : ℕ → Past → Past → Holding → Holding → F → G → Last A → Holding → Option (Last B) → Holding → Type 0
@@ -110,9 +110,9 @@ module _ {F A G B : Type 0} (r : Relation F A G B) where
       (y : B) × (o ≡ Some (Gives lock y)) × Stands n p q h k h' k' × ((num : ℕ) → guard_of r.setting.edge r.setting.words lock ≡ Some num → Ready f g n p q x 0 (with_share h' (without_lock h'.share num)) y 0 (with_share k' (without_lock k'.share num)))
   LastAlike n p q h k f g (Puts word x) h' o k' = (y : B) × (o ≡ Some (Puts word y)) × Stands n p q h k h' k' × Ready f g n p q x 0 h' y 0 k'
   LastAlike n p q h k f g (Calls function vs next) h' o k' =
-      (ws : List Value) × (next' : List Value → Option B) × (o ≡ Some (Calls function ws next')) × AllSame vs ws × Settles n p q h k h' k' × WaitAlike f g n h' k' (results_of r.setting.edge function) next next'
+      (ws : List Value) × (next' : List Value → Option B) × (o ≡ Some (Calls function ws next')) × AllMatch vs ws × Settles n p q h k h' k' × WaitAlike f g n h' k' (results_of r.setting.edge function) next next'
   LastAlike n p q h k f g (Tails function vs) h' o k' = TailAlike n p q h k f g function vs h' k' o
-  LastAlike n p q h k f g (Returns vs) h' o k' = (ws : List Value) × (o ≡ Some (Returns ws)) × AllSame vs ws × Settles n p q h k h' k'
+  LastAlike n p q h k f g (Returns vs) h' o k' = (ws : List Value) × (o ≡ Some (Returns ws)) × AllMatch vs ws × Settles n p q h k h' k'
 
   -- from y the source goes on quietly to a step that does the same at last, or it fails
   pub data Meets (n : ℕ) (p q : Past) (h k : Holding) (f : F) (g : G) (last : Last A) (h' : Holding) : B → Holding → Type 0 where
@@ -143,42 +143,42 @@ module _ {F A G B : Type 0} (r : Relation F A G B) where
 
   -- of the activations: one case for each step of the target
   pub record Passes : Type 0 where
-    pub enters : (f : F) (g : G) → r.made f g → (p q : Past) (h k : Holding) → r.settled p h q k → (vs ws : List Value) → AllSame vs ws → ReadyIf f g p.begun (one_begun r.target p) (one_begun r.source q) (r.target.enter f p.begun vs) (first_price r.target.tariff r.target.blocks f) (with_own r.target f p.begun h) (r.source.enter g q.begun ws) (first_price r.source.tariff r.source.blocks g) (with_own r.source g q.begun k)
-    pub fine : (n : ℕ) (f : F) (g : G) → r.made f g → (p q : Past) (x : A) (h : Holding) (b : Block) (y : B) (k : Holding) (c : Block) → r.match f g n x h b y k c → r.alike p h q k → FailsSoon y k ⊎ FineAt x h b y k c
-    pub does : (n : ℕ) (f : F) (g : G) → r.made f g → (p q : Past) (x : A) (h : Holding) (b : Block) (y : B) (k : Holding) (c : Block) → r.match f g n x h b y k c → r.alike p h q k → Does n p q h k f g (t_step x h).last (t_step x h).holding b y c
+    pub enters : (f : F) (g : G) → r.made f g → (p q : Past) (h k : Holding) → r.settled p h q k → (vs ws : List Value) → AllMatch vs ws → ReadyIf f g p.begun (one_begun r.target p) (one_begun r.source q) (r.target.enter f p.begun vs) (first_price r.target.tariff r.target.blocks f) (with_own r.target f p.begun h) (r.source.enter g q.begun ws) (first_price r.source.tariff r.source.blocks g) (with_own r.source g q.begun k)
+    pub fine : (n : ℕ) (f : F) (g : G) → r.made f g → (p q : Past) (x : A) (h : Holding) (b : Block) (y : B) (k : Holding) (c : Block) → r.match_states f g n x h b y k c → r.match_memory p h q k → FailsSoon y k ⊎ FineAt x h b y k c
+    pub does : (n : ℕ) (f : F) (g : G) → r.made f g → (p q : Past) (x : A) (h : Holding) (b : Block) (y : B) (k : Holding) (c : Block) → r.match_states f g n x h b y k c → r.match_memory p h q k → Does n p q h k f g (t_step x h).last (t_step x h).holding b y c
 
   -- what the outside left is the same value, or none where the source has none
-  abbrev pub SameIf : Option (List Value) → Option (List Value) → Type 0
-  SameIf (Some vs) (Some ws) = AllSame vs ws
-  SameIf None (Some ws) = ⊥
-  SameIf vs None = Unit {0}
+  abbrev pub MatchIf : Option (List Value) → Option (List Value) → Type 0
+  MatchIf (Some vs) (Some ws) = AllMatch vs ws
+  MatchIf None (Some ws) = ⊥
+  MatchIf vs None = Unit {0}
 
   -- the holdings with what the outside brings
   abbrev pub brought_in : Past → Holding → Crossing → Crossed
   brought_in p h crossing = brought h.memory p.naming 0 crossing.objects
 
   -- with the share that comes
-  abbrev pub heard : Past → Holding → Crossing → Holding
-  heard p h crossing = record { share = crossing.share; memory = (brought_in p h crossing).memory }
+  abbrev pub received : Past → Holding → Crossing → Holding
+  received p h crossing = record { share = crossing.share; memory = (brought_in p h crossing).memory }
 
   -- of what both threads hold: the layer's steps keep it alike. What comes from the outside is in kind
   pub record Keeps : Type 0 where
     pub names : (f : F) (g : G) → r.made f g → r.target.name f ≡ r.source.name g
-    pub numbers : (w : ℕ) → IsOfKind w U32 → r.same (Number w) (Number w)
+    pub numbers : (w : ℕ) → IsOfKind w U32 → r.match_values (Number w) (Number w)
     pub first : r.settled no_past no_holding no_past no_holding
-    pub alikes : (p q : Past) (h k : Holding) → r.settled p h q k → r.alike p h q k
-    pub begun : (p q : Past) (h k : Holding) → r.alike p h q k → p.begun ≡ q.begun
-    pub shares : (p q : Past) (h k : Holding) → r.alike p h q k → h.share ≡ k.share
-    pub at_once : (n : ℕ) (h k : Holding) → r.later n h k h k
-    pub then_later : (n : ℕ) (h k h' k' h'' k'' : Holding) → r.later n h k h' k' → r.later n h' k' h'' k'' → r.later n h k h'' k''
-    pub fewer : (m n : ℕ) (h k h' k' : Holding) → m ≤ n → r.later n h k h' k' → r.later m h k h' k'
-    pub locks : (n : ℕ) (p q : Past) (h k : Holding) → r.alike p h q k → (lock : ℕ) (words : List ℕ) → AreGuarded r.setting.edge lock words → Stands n p q h k (with_share h (with_lock h.share lock words)) (with_share k (with_lock k.share lock words))
-    pub unlocks : (n : ℕ) (p q : Past) (h k : Holding) → r.alike p h q k → (lock : ℕ) → Stands n p q h k (with_share h (without_lock h.share lock)) (with_share k (without_lock k.share lock))
+    pub alikes : (p q : Past) (h k : Holding) → r.settled p h q k → r.match_memory p h q k
+    pub begun : (p q : Past) (h k : Holding) → r.match_memory p h q k → p.begun ≡ q.begun
+    pub shares : (p q : Past) (h k : Holding) → r.match_memory p h q k → h.share ≡ k.share
+    pub at_once : (n : ℕ) (h k : Holding) → r.frame n h k h k
+    pub then_later : (n : ℕ) (h k h' k' h'' k'' : Holding) → r.frame n h k h' k' → r.frame n h' k' h'' k'' → r.frame n h k h'' k''
+    pub fewer : (m n : ℕ) (h k h' k' : Holding) → m ≤ n → r.frame n h k h' k' → r.frame m h k h' k'
+    pub locks : (n : ℕ) (p q : Past) (h k : Holding) → r.match_memory p h q k → (lock : ℕ) (words : List ℕ) → AreGuarded r.setting.edge lock words → Stands n p q h k (with_share h (with_lock h.share lock words)) (with_share k (with_lock k.share lock words))
+    pub unlocks : (n : ℕ) (p q : Past) (h k : Holding) → r.match_memory p h q k → (lock : ℕ) → Stands n p q h k (with_share h (without_lock h.share lock)) (with_share k (without_lock k.share lock))
     pub begins : (f : F) (g : G) → r.made f g → (p q : Past) (h k : Holding) → r.settled p h q k → Stands p.begun (one_begun r.target p) (one_begun r.source q) h k (with_own r.target f p.begun h) (with_own r.source g q.begun k)
     pub ends : (n : ℕ) (f : F) (g : G) → r.made f g → (p q : Past) (h k : Holding) → r.settled p h q k → Settles n p q h k (without_own r.target f n h) (without_own r.source g n k)
-    pub shows : (p q : Past) (h k : Holding) → r.settled p h q k → (vs ws : List Value) → AllSame vs ws → can_cross r.setting.layout q ws ≡ true → can_cross r.placed p vs ≡ true
-    pub crosses : (p q : Past) (h k : Holding) → r.settled p h q k → (vs ws : List Value) → AllSame vs ws → (crossing : Crossing) (ns : Naming) → crosses_as r.setting.layout ws q k crossing ≡ Some ns → (ms : Naming) × (crosses_as r.placed vs p h crossing ≡ Some ms) × r.settled (with_naming p ms) h (with_naming q ns) k
-    pub hears : (n : ℕ) (p q : Past) (h k : Holding) → r.settled p h q k → (types : List Ty) (crossing : Crossing) → Brings r.setting.edge (objects_of k.memory q.naming) crossing → AreOfTypes crossing.objects types crossing.values → Settles n (with_naming p (brought_in p h crossing).naming) (with_naming q (brought_in q k crossing).naming) h k (heard p h crossing) (heard q k crossing) × SameIf (all_taken (brought_in p h crossing).naming crossing.values) (all_taken (brought_in q k crossing).naming crossing.values)
+    pub shows : (p q : Past) (h k : Holding) → r.settled p h q k → (vs ws : List Value) → AllMatch vs ws → can_cross r.setting.layout q ws ≡ true → can_cross r.placed p vs ≡ true
+    pub crosses : (p q : Past) (h k : Holding) → r.settled p h q k → (vs ws : List Value) → AllMatch vs ws → (crossing : Crossing) (ns : Naming) → crosses_as r.setting.layout ws q k crossing ≡ Some ns → (ms : Naming) × (crosses_as r.placed vs p h crossing ≡ Some ms) × r.settled (with_naming p ms) h (with_naming q ns) k
+    pub receives : (n : ℕ) (p q : Past) (h k : Holding) → r.settled p h q k → (types : List Ty) (crossing : Crossing) → Brings r.setting.edge (objects_of k.memory q.naming) crossing → AreOfTypes crossing.objects types crossing.values → Settles n (with_naming p (brought_in p h crossing).naming) (with_naming q (brought_in q k crossing).naming) h k (received p h crossing) (received q k crossing) × MatchIf (all_taken (brought_in p h crossing).naming crossing.values) (all_taken (brought_in q k crossing).naming crossing.values)
 
   -- the constants are prices, and waiting costs no more than in the source
   pub record Pays : Type 0 where
@@ -215,9 +215,9 @@ relation target source made naming same alike settled later match ts ss setting 
   targets = ts;
   sources = ss;
   made = MadeAmong target source made ts ss;
-  same = same setting ts ss;
-  alike = alike setting ts ss;
+  match_values = same setting ts ss;
+  match_memory = alike setting ts ss;
   settled = settled setting ts ss;
-  later = later setting ts ss;
-  match = match setting ts ss;
+  frame = later setting ts ss;
+  match_states = match setting ts ss;
 }

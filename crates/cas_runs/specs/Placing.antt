@@ -100,7 +100,7 @@ pub record IsPlacing {F A G B : Type 0} (target : Activations F A) (source : Act
 
 -- the relation of such a pass, by where activations match
 abbrev pub moves_blocks : {F A G B : Type 0} → Activations F A → Activations G B → Setting → Layout → List F → List G → (F → G → Type 0) → Placing → (NameBytes → ℕ → ℕ) → (F → G → ℕ → A → Holding → Block → B → Holding → Block → Type 0) → Relation F A G B
-moves_blocks target source setting placed ts ss made place sizes match = record {
+moves_blocks target source setting placed ts ss made place sizes match_states = record {
   target = target;
   source = source;
   setting = setting;
@@ -108,9 +108,9 @@ moves_blocks target source setting placed ts ss made place sizes match = record 
   targets = ts;
   sources = ss;
   made = made;
-  same = SameMoved place;
-  alike = AlikeMoved place sizes;
+  match_values = SameMoved place;
+  match_memory = AlikeMoved place sizes;
   settled = AlikeMoved place sizes;
-  later = KeepsUnplaced place;
-  match = match;
+  frame = KeepsUnplaced place;
+  match_states = match_states;
 }

@@ -3,7 +3,7 @@ use Rattle.std.specs.Prelude.{◌≡◌, ℕ, ◌<◌, ◌≤◌, List, [], ◌�
 use Rattle.cas_runs.specs.Label.{NameBytes, RunLabel}
 use Rattle.cas_runs.specs.Edge.{Edge}
 use Rattle.cas_runs.specs.Outside.{IsAmong}
-use Rattle.cas_runs.specs.Machine.{Act, Quiet, Says, Crosses, Locks, Hears, Bad, Stops, Halt, Ended, Taken, Full, Opened, Open, Machine, CanCross, Leads, IsBad, Block, Run}
+use Rattle.cas_runs.specs.Machine.{Act, Quiet, Emits, Crosses, Locks, Receives, Bad, Stops, Halt, Ended, Taken, Full, Opened, Open, Machine, CanCross, StepsTo, IsBad, Block, Run}
 
 -- the same functions in order, with some left out, between the same calls of the outside
 pub data Subsequence : List Opened → List Opened → Type 0 where
@@ -90,21 +90,21 @@ pub record AtLock {S : Type 0} (edge : Edge) (s : Machine S) (labels : List RunL
   pub waits : s.act at ≡ Locks lock next
 
 -- the source has a run with these labels that waits for the outside
-pub record AtHearing {S : Type 0} (edge : Edge) (s : Machine S) (labels : List RunLabel) : Type 0 where
+pub record AtReceiving {S : Type 0} (edge : Edge) (s : Machine S) (labels : List RunLabel) : Type 0 where
   pub blocks : List Block
   pub block : Block
   pub at : S
   pub run : Run edge s labels blocks block at
   pub next : RunLabel → S
-  pub waits : s.act at ≡ Hears next
+  pub waits : s.act at ≡ Receives next
 
 -- the act is a Call or a Leave
 abbrev pub IsCrossing : {S : Type 0} → Act S → Type 0
 IsCrossing (Crosses next) = Unit {0}
 IsCrossing (Quiet next) = ⊥
-IsCrossing (Says saying next) = ⊥
+IsCrossing (Emits event next) = ⊥
 IsCrossing (Locks lock next) = ⊥
-IsCrossing (Hears next) = ⊥
+IsCrossing (Receives next) = ⊥
 IsCrossing Bad = ⊥
 IsCrossing (Stops why) = ⊥
 
@@ -114,13 +114,13 @@ pub record Refines {T S : Type 0} (edge : Edge) (t : Machine T) (s : Machine S) 
   -- each run of the target is kept by the source
   pub kept : (ls : List RunLabel) (bs : List Block) (b : Block) (x : T) → Run edge t ls bs b x → HasRun edge s ls → BadBefore edge s ls ⊎ Kept edge t s ls bs b x
   -- each further label of the target, but a Call or a Leave, is one of the source
-  pub follows : (ls : List RunLabel) (bs : List Block) (b : Block) (x : T) → Run edge t ls bs b x → HasRun edge s ls → (IsCrossing (t.act x) → ⊥) → (l : RunLabel) (y : T) → Leads edge ls (t.act x) l y → BadBefore edge s ls ⊎ HasRun edge s (l ∷ ls)
+  pub follows : (ls : List RunLabel) (bs : List Block) (b : Block) (x : T) → Run edge t ls bs b x → HasRun edge s ls → (IsCrossing (t.act x) → ⊥) → (l : RunLabel) (y : T) → StepsTo edge ls (t.act x) l y → BadBefore edge s ls ⊎ HasRun edge s (l ∷ ls)
   -- where the target is at a Call or a Leave, the source comes to one, and names what crosses in a way that the target can
   pub crosses : (ls : List RunLabel) (bs : List Block) (b : Block) (x : T) → Run edge t ls bs b x → HasRun edge s ls → (next : RunLabel → Option T) → t.act x ≡ Crosses next → BadBefore edge s ls ⊎ CrossesAs edge s ls next
   -- where the target waits for a lock, the source comes to wait for it, also where no words may come
   pub locks : (ls : List RunLabel) (bs : List Block) (b : Block) (x : T) → Run edge t ls bs b x → HasRun edge s ls → (lock : ℕ) (next : List ℕ → T) → t.act x ≡ Locks lock next → BadBefore edge s ls ⊎ AtLock edge s ls lock
   -- where the target waits for the outside, the source comes to wait for it, also where no label may come
-  pub hears : (ls : List RunLabel) (bs : List Block) (b : Block) (x : T) → Run edge t ls bs b x → HasRun edge s ls → (next : RunLabel → T) → t.act x ≡ Hears next → BadBefore edge s ls ⊎ AtHearing edge s ls
+  pub receives : (ls : List RunLabel) (bs : List Block) (b : Block) (x : T) → Run edge t ls bs b x → HasRun edge s ls → (next : RunLabel → T) → t.act x ≡ Receives next → BadBefore edge s ls ⊎ AtReceiving edge s ls
   -- where the target has no next step, the source has none, unless the target's stack is full
   pub halts : (ls : List RunLabel) (bs : List Block) (b : Block) (x : T) → Run edge t ls bs b x → HasRun edge s ls → (why : Halt) → t.act x ≡ Stops why → BadBefore edge s ls ⊎ HaltsToo edge s ls why
 

@@ -6,7 +6,7 @@ use Rattle.cas_base.specs.declared.kind.Ty.{Ty}
 use Rattle.cas_runs.specs.Label.{NameBytes, Inside, Object, Crossing, RunLabel, Lock, Unlock, Out, Done, Enter, Back, Call, Leave, locks_of}
 use Rattle.cas_runs.specs.Edge.{LockWord, SharedWord, Signature, Edge, AreOfTypes, returned, signature_of, IsOfKind, AreOfKinds, guarded, AreUnder, IsOrdered, IsShare, most_cells}
 use Rattle.cas_runs.specs.Outside.{Pending, Entered, AreWordsOf, IsAmong, Holds, pending, crossed, numbered}
-use Rattle.cas_runs.specs.Machine.{Act, Quiet, Says, Crosses, Locks, Hears, Bad, Stops, Halt, Ended, Taken, Full, Machine, Saying, label_of, CanCross, Block, Run}
+use Rattle.cas_runs.specs.Machine.{Act, Quiet, Emits, Crosses, Locks, Receives, Bad, Stops, Halt, Ended, Taken, Full, Machine, Event, label_of, CanCross, Block, Run}
 
 -- the lock and these, in ascending order
 abbrev pub and_lock : ℕ → List ℕ → List ℕ
@@ -86,15 +86,15 @@ pub record IsReturn (before : List RunLabel) : Type 0 where
   pub newest : pending before ≡ Entered function locks ∷ older
 
 -- a label that the unit may say after these. An Unlock is of a lock in the share, and carries as many words as that guards
-abbrev pub MaySay : Edge → List RunLabel → RunLabel → Type 0
-MaySay edge before (Unlock l words) = IsAmong l (locks_after before) × AreUnder edge l words
-MaySay edge before (Out w) = Unit {0}
-MaySay edge before Done = Unit {0}
-MaySay edge before (Lock l words) = ⊥
-MaySay edge before (Enter f crossing) = ⊥
-MaySay edge before (Back crossing) = ⊥
-MaySay edge before (Call f crossing) = ⊥
-MaySay edge before (Leave crossing) = ⊥
+abbrev pub MayEmit : Edge → List RunLabel → RunLabel → Type 0
+MayEmit edge before (Unlock l words) = IsAmong l (locks_after before) × AreUnder edge l words
+MayEmit edge before (Out w) = Unit {0}
+MayEmit edge before Done = Unit {0}
+MayEmit edge before (Lock l words) = ⊥
+MayEmit edge before (Enter f crossing) = ⊥
+MayEmit edge before (Back crossing) = ⊥
+MayEmit edge before (Call f crossing) = ⊥
+MayEmit edge before (Leave crossing) = ⊥
 
 abbrev pub MayCross : Edge → List RunLabel → RunLabel → Type 0
 MayCross edge before (Call f crossing) = Carries edge before crossing
@@ -123,19 +123,19 @@ HasCrossed [] = ⊥
 HasCrossed (l ∷ before) = CanCross l
 
 -- the outside may run: no label has come yet, or the newest is a Call or a Leave
-abbrev pub MayHear : List RunLabel → Type 0
-MayHear [] = Unit {0}
-MayHear (l ∷ before) = CanCross l
+abbrev pub MayReceive : List RunLabel → Type 0
+MayReceive [] = Unit {0}
+MayReceive (l ∷ before) = CanCross l
 
 -- an Enter or a Back is next
-abbrev pub IsHearing : {S : Type 0} → Act S → Type 0
-IsHearing (Hears next) = Unit {0}
-IsHearing (Quiet next) = ⊥
-IsHearing (Says saying next) = ⊥
-IsHearing (Crosses next) = ⊥
-IsHearing (Locks lock next) = ⊥
-IsHearing Bad = ⊥
-IsHearing (Stops why) = ⊥
+abbrev pub IsReceiving : {S : Type 0} → Act S → Type 0
+IsReceiving (Receives next) = Unit {0}
+IsReceiving (Quiet next) = ⊥
+IsReceiving (Emits event next) = ⊥
+IsReceiving (Crosses next) = ⊥
+IsReceiving (Locks lock next) = ⊥
+IsReceiving Bad = ⊥
+IsReceiving (Stops why) = ⊥
 
 -- no step is free, and what crosses has a label
 pub record Proceeds {S : Type 0} (m : Machine S) : Type 0 where
@@ -148,11 +148,11 @@ pub record KeepsRules {S : Type 0} (edge : Edge) (m : Machine S) : Type 0 where
   pub proceeds : Proceeds m
   pub reads : (ls : List RunLabel) (bs : List Block) (b : Block) (x : S) → Run edge m ls bs b x → (w : ℕ) → IsAmong w (m.footprint x).reads → IsShared edge (locks_after ls) w
   pub writes : (ls : List RunLabel) (bs : List Block) (b : Block) (x : S) → Run edge m ls bs b x → (w : ℕ) → IsAmong w (m.footprint x).writes → IsShared edge (locks_after ls) w
-  pub says : (ls : List RunLabel) (bs : List Block) (b : Block) (x : S) → Run edge m ls bs b x → (saying : Saying) (y : S) → m.act x ≡ Says saying y → MaySay edge ls (label_of saying)
+  pub emits : (ls : List RunLabel) (bs : List Block) (b : Block) (x : S) → Run edge m ls bs b x → (event : Event) (y : S) → m.act x ≡ Emits event y → MayEmit edge ls (label_of event)
   pub locks : (ls : List RunLabel) (bs : List Block) (b : Block) (x : S) → Run edge m ls bs b x → (lock : ℕ) (next : List ℕ → S) → m.act x ≡ Locks lock next → (slice_get edge.cells lock ≡ Some LockWord) × (IsAmong lock (locks_after ls) → ⊥)
   pub crosses : (ls : List RunLabel) (bs : List Block) (b : Block) (x : S) → Run edge m ls bs b x → (next : RunLabel → Option S) → m.act x ≡ Crosses next → (l : RunLabel) (y : S) → CanCross l → next l ≡ Some y → MayCross edge ls l
-  pub hears : (ls : List RunLabel) (bs : List Block) (b : Block) (x : S) → Run edge m ls bs b x → IsHearing (m.act x) → MayHear ls
-  pub listens : (ls : List RunLabel) (bs : List Block) (b : Block) (x : S) → Run edge m ls bs b x → HasCrossed ls → IsHearing (m.act x)
+  pub receives : (ls : List RunLabel) (bs : List Block) (b : Block) (x : S) → Run edge m ls bs b x → IsReceiving (m.act x) → MayReceive ls
+  pub listens : (ls : List RunLabel) (bs : List Block) (b : Block) (x : S) → Run edge m ls bs b x → HasCrossed ls → IsReceiving (m.act x)
   pub halts : (ls : List RunLabel) (bs : List Block) (b : Block) (x : S) → Run edge m ls bs b x → (why : Halt) → m.act x ≡ Stops why → MayHalt ls why
 
 -- what calls over the edge is no function inside. So it is of a unit; a function alone calls itself over its edge
@@ -181,33 +181,33 @@ pub record CrossInKind (edge : Edge) (types : List Ty) (crossing : Crossing) : T
   pub sizes : AreSized crossing.objects
 
 -- what the label carries is in kind: arguments are of the parameters' types, and a result is of the type of the function that was entered
-abbrev pub SaysInKind : Edge → List RunLabel → RunLabel → Type 0
-SaysInKind edge before (Unlock l words) = AreOfKinds words (guarded l edge.cells)
-SaysInKind edge before (Out w) = IsOfKind w U32
-SaysInKind edge before (Call f crossing) = (s : Signature) → signature_of edge.functions f ≡ Some s → CrossInKind edge s.params crossing
-SaysInKind edge before (Leave crossing) = (g : NameBytes) (locks : List ℕ) (older : List Pending) (s : Signature) → pending before ≡ Entered g locks ∷ older → signature_of edge.functions g ≡ Some s → CrossInKind edge (returned s.ret) crossing
-SaysInKind edge before (Lock l words) = Unit {0}
-SaysInKind edge before Done = Unit {0}
-SaysInKind edge before (Enter f crossing) = Unit {0}
-SaysInKind edge before (Back crossing) = Unit {0}
+abbrev pub EmitsInKind : Edge → List RunLabel → RunLabel → Type 0
+EmitsInKind edge before (Unlock l words) = AreOfKinds words (guarded l edge.cells)
+EmitsInKind edge before (Out w) = IsOfKind w U32
+EmitsInKind edge before (Call f crossing) = (s : Signature) → signature_of edge.functions f ≡ Some s → CrossInKind edge s.params crossing
+EmitsInKind edge before (Leave crossing) = (g : NameBytes) (locks : List ℕ) (older : List Pending) (s : Signature) → pending before ≡ Entered g locks ∷ older → signature_of edge.functions g ≡ Some s → CrossInKind edge (returned s.ret) crossing
+EmitsInKind edge before (Lock l words) = Unit {0}
+EmitsInKind edge before Done = Unit {0}
+EmitsInKind edge before (Enter f crossing) = Unit {0}
+EmitsInKind edge before (Back crossing) = Unit {0}
 
 -- what the source keeps besides: what it says and shows is in kind, since it is typed and converts what it writes. A language between may keep any
 -- words in a cell, and says what its source says
 pub record KeepsKinds {S : Type 0} (edge : Edge) (m : Machine S) : Type 0 where
-  pub says : (ls : List RunLabel) (bs : List Block) (b : Block) (x : S) → Run edge m ls bs b x → (saying : Saying) (y : S) → m.act x ≡ Says saying y → SaysInKind edge ls (label_of saying)
-  pub crosses : (ls : List RunLabel) (bs : List Block) (b : Block) (x : S) → Run edge m ls bs b x → (next : RunLabel → Option S) → m.act x ≡ Crosses next → (l : RunLabel) (y : S) → CanCross l → next l ≡ Some y → SaysInKind edge ls l
+  pub emits : (ls : List RunLabel) (bs : List Block) (b : Block) (x : S) → Run edge m ls bs b x → (event : Event) (y : S) → m.act x ≡ Emits event y → EmitsInKind edge ls (label_of event)
+  pub crosses : (ls : List RunLabel) (bs : List Block) (b : Block) (x : S) → Run edge m ls bs b x → (next : RunLabel → Option S) → m.act x ≡ Crosses next → (l : RunLabel) (y : S) → CanCross l → next l ≡ Some y → EmitsInKind edge ls l
 
 -- at a Call the share has the locks that the called function holds, and at a Leave those that it had at its Enter
-abbrev pub SaysLocks : Edge → List RunLabel → RunLabel → Type 0
-SaysLocks edge before (Call f crossing) = (s : Signature) → signature_of edge.functions f ≡ Some s → Holds (locks_of crossing.share) s.holds
-SaysLocks edge before (Leave crossing) = (g : NameBytes) (locks : List ℕ) (older : List Pending) → pending before ≡ Entered g locks ∷ older → locks_of crossing.share ≡ locks
-SaysLocks edge before (Lock l words) = Unit {0}
-SaysLocks edge before (Unlock l words) = Unit {0}
-SaysLocks edge before (Out w) = Unit {0}
-SaysLocks edge before Done = Unit {0}
-SaysLocks edge before (Enter f crossing) = Unit {0}
-SaysLocks edge before (Back crossing) = Unit {0}
+abbrev pub EmitsLocks : Edge → List RunLabel → RunLabel → Type 0
+EmitsLocks edge before (Call f crossing) = (s : Signature) → signature_of edge.functions f ≡ Some s → Holds (locks_of crossing.share) s.holds
+EmitsLocks edge before (Leave crossing) = (g : NameBytes) (locks : List ℕ) (older : List Pending) → pending before ≡ Entered g locks ∷ older → locks_of crossing.share ≡ locks
+EmitsLocks edge before (Lock l words) = Unit {0}
+EmitsLocks edge before (Unlock l words) = Unit {0}
+EmitsLocks edge before (Out w) = Unit {0}
+EmitsLocks edge before Done = Unit {0}
+EmitsLocks edge before (Enter f crossing) = Unit {0}
+EmitsLocks edge before (Back crossing) = Unit {0}
 
 -- and what the source keeps of locks, since its ownership is checked: a language between goes over its edge where its source does
 pub record KeepsLocks {S : Type 0} (edge : Edge) (m : Machine S) : Type 0 where
-  pub crosses : (ls : List RunLabel) (bs : List Block) (b : Block) (x : S) → Run edge m ls bs b x → (next : RunLabel → Option S) → m.act x ≡ Crosses next → (l : RunLabel) (y : S) → CanCross l → next l ≡ Some y → SaysLocks edge ls l
+  pub crosses : (ls : List RunLabel) (bs : List Block) (b : Block) (x : S) → Run edge m ls bs b x → (next : RunLabel → Option S) → m.act x ≡ Crosses next → (l : RunLabel) (y : S) → CanCross l → next l ≡ Some y → EmitsLocks edge ls l

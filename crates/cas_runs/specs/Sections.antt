@@ -2,7 +2,7 @@
 use Rattle.std.specs.Prelude.{ℕ, List, [], ◌∷◌, Option, Some, None}
 use Rattle.cas_base.specs.declared.kind.Kind.TheVariants.{U32}
 use Rattle.cas_runs.specs.Edge.{Edge, LockWord, SharedWord, IsOfKind}
-use Rattle.cas_runs.specs.Machine.{Act, Quiet, Says, Locks, Bad, Stops, Taken, Ended, Unlocks, Prints, Ends, Footprint, Machine}
+use Rattle.cas_runs.specs.Machine.{Act, Quiet, Emits, Locks, Bad, Stops, Taken, Ended, Unlocks, Prints, Ends, Footprint, Machine}
 
 pub data Instruction : Type 0 where
   Take : Instruction
@@ -30,7 +30,7 @@ first_of_words [] = None
 first_of_words (w ∷ ws) = Some w
 
 abbrev pub gives : List Instruction → ℕ → Option ℕ → Act Standing
-gives rest register (Some w) = Says (Unlocks 0 (w ∷ [])) (standing rest register None)
+gives rest register (Some w) = Emits (Unlocks 0 (w ∷ [])) (standing rest register None)
 gives rest register None = Bad
 
 abbrev pub takes : List Instruction → ℕ → Option ℕ → Act Standing
@@ -46,12 +46,12 @@ stores rest register word (Some w) = Quiet (standing rest register (Some word))
 stores rest register word None = Bad
 
 abbrev pub act_of : List Instruction → ℕ → Option ℕ → Act Standing
-act_of [] register held = Says Ends Over
+act_of [] register held = Emits Ends Over
 act_of (Take ∷ rest) register held = takes rest register held
 act_of (Give ∷ rest) register held = gives rest register held
 act_of (Load ∷ rest) register held = loads rest held
 act_of (Store word ∷ rest) register held = stores rest register word held
-act_of (Print ∷ rest) register held = Says (Prints register) (standing rest register held)
+act_of (Print ∷ rest) register held = Emits (Prints register) (standing rest register held)
 act_of (Spin ∷ rest) register held = Quiet (standing (Spin ∷ rest) register held)
 
 abbrev pub no_footprint : Footprint

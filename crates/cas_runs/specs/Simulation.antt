@@ -3,13 +3,13 @@ use Rattle.std.specs.Prelude.{◌≡◌, ℕ, ◌≤◌, List, [], ◌∷◌, Op
 use Rattle.cas_runs.specs.Label.{RunLabel, Lock}
 use Rattle.cas_runs.specs.Edge.{Edge, AreGuarded}
 use Rattle.cas_runs.specs.Outside.{MayBring}
-use Rattle.cas_runs.specs.Machine.{Act, Quiet, Says, Crosses, Locks, Hears, Bad, Stops, Halt, Ended, Taken, Full, Machine, label_of, CanCross, Leads, IsBad, Block, begun, onward}
+use Rattle.cas_runs.specs.Machine.{Act, Quiet, Emits, Crosses, Locks, Receives, Bad, Stops, Halt, Ended, Taken, Full, Machine, label_of, CanCross, StepsTo, IsBad, Block, begun, onward}
 use Rattle.cas_runs.specs.Refines.{Within, Subsequence}
 
 -- quiet steps lead to a step that is Bad
-pub data BadSoon {S : Type 0} (m : Machine S) : S → Type 0 where
-  now : {y : S} → IsBad (m.act y) → BadSoon m y
-  soon : {y : S} (y' : S) → m.act y ≡ Quiet y' → BadSoon m y' → BadSoon m y
+pub data GoesWrong {S : Type 0} (m : Machine S) : S → Type 0 where
+  now : {y : S} → IsBad (m.act y) → GoesWrong m y
+  soon : {y : S} (y' : S) → m.act y ≡ Quiet y' → GoesWrong m y' → GoesWrong m y
 
 -- quiet steps lead to a state without a next step, for this reason, or to a step that is Bad
 pub data HaltsSoon {S : Type 0} (m : Machine S) (why : Halt) : S → Type 0 where
@@ -23,16 +23,16 @@ StopsToo m Ended y = HaltsSoon m Ended y
 StopsToo m (Taken lock) y = HaltsSoon m (Taken lock) y
 StopsToo m Full y = Unit {0}
 
-module _ {T S : Type 0} (edge : Edge) (t : Machine T) (s : Machine S) (Related : List RunLabel → T → Block → S → Block → Type 0) where
+module _ {T S : Type 0} (edge : Edge) (t : Machine T) (s : Machine S) (match_states : List RunLabel → T → Block → S → Block → Type 0) where
   -- from y the source goes by quiet steps to a state that is related to x, or reaches a step that is Bad
   pub data Follows (ls : List RunLabel) (x : T) (b : Block) : S → Block → Type 0 where
-    related : {y : S} {c : Block} → Related ls x b y c → Follows ls x b y c
+    related : {y : S} {c : Block} → match_states ls x b y c → Follows ls x b y c
     fails : {y : S} {c : Block} → IsBad (s.act y) → Follows ls x b y c
     step : {y : S} {c : Block} (y' : S) → s.act y ≡ Quiet y' → Follows ls x b y' (onward s c y') → Follows ls x b y c
 
   -- the same, with one label on the way, which is this one, unless the Bad step comes before it
   pub data FollowsBy (ls : List RunLabel) (l : RunLabel) (x : T) : S → Type 0 where
-    by : {y : S} (y' : S) → Leads edge ls (s.act y) l y' → Follows (l ∷ ls) x (begun t x) y' (begun s y') → FollowsBy ls l x y
+    by : {y : S} (y' : S) → StepsTo edge ls (s.act y) l y' → Follows (l ∷ ls) x (begun t x) y' (begun s y') → FollowsBy ls l x y
     fails_before : {y : S} → IsBad (s.act y) → FollowsBy ls l x y
     step_before : {y : S} (y' : S) → s.act y ≡ Quiet y' → FollowsBy ls l x y' → FollowsBy ls l x y
 
@@ -54,18 +54,18 @@ module _ {T S : Type 0} (edge : Edge) (t : Machine T) (s : Machine S) (Related :
 
   -- the source comes to wait for the outside, and both go on with the label that comes, unless the Bad step comes before
   pub data FollowsHearing (ls : List RunLabel) (next : RunLabel → T) : S → Type 0 where
-    hears_too : {y : S} (s_next : RunLabel → S) → s.act y ≡ Hears s_next → ((l : RunLabel) → MayBring edge ls l → Follows (l ∷ ls) (next l) (begun t (next l)) (s_next l) (begun s (s_next l))) → FollowsHearing ls next y
+    hears_too : {y : S} (s_next : RunLabel → S) → s.act y ≡ Receives s_next → ((l : RunLabel) → MayBring edge ls l → Follows (l ∷ ls) (next l) (begun t (next l)) (s_next l) (begun s (s_next l))) → FollowsHearing ls next y
     fails_hearing : {y : S} → IsBad (s.act y) → FollowsHearing ls next y
     step_hearing : {y : S} (y' : S) → s.act y ≡ Quiet y' → FollowsHearing ls next y' → FollowsHearing ls next y
 
   -- what the source does where the target stands at this act
   abbrev pub Answers : List RunLabel → Act T → Block → S → Block → Type 0
   Answers ls (Quiet x) b y c = Follows ls x (onward t b x) y c
-  Answers ls (Says saying x) b y c = FollowsBy ls (label_of saying) x y
+  Answers ls (Emits event x) b y c = FollowsBy ls (label_of event) x y
   Answers ls (Crosses next) b y c = FollowsCrossing ls next y
   Answers ls (Locks lock next) b y c = FollowsLock ls lock next y
-  Answers ls (Hears next) b y c = FollowsHearing ls next y
-  Answers ls Bad b y c = BadSoon s y
+  Answers ls (Receives next) b y c = FollowsHearing ls next y
+  Answers ls Bad b y c = GoesWrong s y
   Answers ls (Stops why) b y c = StopsToo s why y
 
   -- what is asked of the blocks, of the price and of the open functions
@@ -77,5 +77,5 @@ module _ {T S : Type 0} (edge : Edge) (t : Machine T) (s : Machine S) (Related :
   -- what a pass shows of a relation between a state of t and a state of s, each with its block so far, after the same labels
   pub record Simulates : Type 0 where
     pub starts : Follows [] t.start (begun t t.start) s.start (begun s s.start)
-    pub fine : (ls : List RunLabel) (x : T) (b : Block) (y : S) (c : Block) → Related ls x b y c → BadSoon s y ⊎ Fine x b y c
-    pub answers : (ls : List RunLabel) (x : T) (b : Block) (y : S) (c : Block) → Related ls x b y c → Answers ls (t.act x) b y c
+    pub fine : (ls : List RunLabel) (x : T) (b : Block) (y : S) (c : Block) → match_states ls x b y c → GoesWrong s y ⊎ Fine x b y c
+    pub answers : (ls : List RunLabel) (x : T) (b : Block) (y : S) (c : Block) → match_states ls x b y c → Answers ls (t.act x) b y c

@@ -13,7 +13,7 @@ pub record Equal (p : Past) (h : Holding) (q : Past) (k : Holding) : Type 0 wher
 
 -- the relation of such a pass, by where activations match
 abbrev pub keeps_values : {F A G B : Type 0} → Activations F A → Activations G B → Setting → List F → List G → (F → G → Type 0) → (F → G → ℕ → A → Holding → Block → B → Holding → Block → Type 0) → Relation F A G B
-keeps_values target source setting ts ss made match = record {
+keeps_values target source setting ts ss made match_states = record {
   target = target;
   source = source;
   setting = setting;
@@ -21,9 +21,9 @@ keeps_values target source setting ts ss made match = record {
   targets = ts;
   sources = ss;
   made = made;
-  same = λ v w. v ≡ w;
-  alike = Equal;
+  match_values = λ v w. v ≡ w;
+  match_memory = Equal;
   settled = Equal;
-  later = λ n h k h' k'. Unit {0};
-  match = match;
+  frame = λ n h k h' k'. Unit {0};
+  match_states = match_states;
 }

@@ -37,7 +37,7 @@ pub record EqualWords (p : Past) (h : Holding) (q : Past) (k : Holding) : Type 0
 
 -- the relation of such a pass, by where activations match
 abbrev pub keeps_words : {F A G B : Type 0} → Activations F A → Activations G B → Setting → List F → List G → (F → G → Type 0) → (F → G → ℕ → A → Holding → Block → B → Holding → Block → Type 0) → Relation F A G B
-keeps_words target source setting ts ss made match = record {
+keeps_words target source setting ts ss made match_states = record {
   target = target;
   source = source;
   setting = setting;
@@ -45,9 +45,9 @@ keeps_words target source setting ts ss made match = record {
   targets = ts;
   sources = ss;
   made = made;
-  same = SameWord;
-  alike = EqualWords;
+  match_values = SameWord;
+  match_memory = EqualWords;
   settled = EqualWords;
-  later = λ n h k h' k'. Unit {0};
-  match = match;
+  frame = λ n h k h' k'. Unit {0};
+  match_states = match_states;
 }

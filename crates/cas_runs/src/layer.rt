@@ -46,21 +46,21 @@ pub trait FunctionPass {
     ghost naming: { List Self.Source → Layout → Layout };
 
     /// A value of the target is that of the source, where these functions run together.
-    ghost same: { Setting → List Self.Target → List Self.Source → Value → Value → Type 0 };
+    ghost match_values: { Setting → List Self.Target → List Self.Source → Value → Value → Type 0 };
 
     /// What the target's thread holds is that of the source's, as far as the activations that match don't tell the rest.
-    ghost alike: { Setting → List Self.Target → List Self.Source → Past → Holding → Past → Holding → Type 0 };
+    ghost match_memory: { Setting → List Self.Target → List Self.Source → Past → Holding → Past → Holding → Type 0 };
 
     /// The same of all that both threads hold, where a call, a return or the outside follows.
     ghost settled: { Setting → List Self.Target → List Self.Source → Past → Holding → Past → Holding → Type 0 };
 
     /// Between two moments, at each of which the target's and the source's thread hold so much, nothing touched what the
     /// activations with serial numbers below this one have for themselves.
-    ghost later: { Setting → List Self.Target → List Self.Source → ℕ → Holding → Holding → Holding → Holding → Type 0 };
+    ghost frame: { Setting → List Self.Target → List Self.Source → ℕ → Holding → Holding → Holding → Holding → Type 0 };
 
     /// Where the activations of these two functions and of this serial number stand, each with what its thread holds and its
     /// block so far: from there on each step of the target is one that the source can follow.
-    ghost matches: { Setting → List Self.Target → List Self.Source → Self.Target → Self.Source → ℕ → target_activation → Holding → Block → source_activation → Holding → Block → Type 0 };
+    ghost match_states: { Setting → List Self.Target → List Self.Source → Self.Target → Self.Source → ℕ → target_activation → Holding → Block → source_activation → Holding → Block → Type 0 };
 
     /// What the pass makes of the function.
     fn translate(&self, alloc: Global, from: &Self::Source) -> Result<Self::Target, NoMemory>
@@ -77,7 +77,7 @@ pub trait FunctionPass {
     /// The law that what is related so is a pass, at an edge that has what the functions' unit or program
     /// declares.
     fn passes()
-        ensures { (setting : Setting) (ts : List Self.Target) (ss : List Self.Source) (decls : List Decl) → AllMade made ts ss → IsEdge setting.edge → AreKnown (language source) setting.edge setting.words decls ss → IsLayout (language source) ss setting.layout → IsPass (relation target source made naming same alike settled later matches ts ss setting) };
+        ensures { (setting : Setting) (ts : List Self.Target) (ss : List Self.Source) (decls : List Decl) → AllMade made ts ss → IsEdge setting.edge → AreKnown (language source) setting.edge setting.words decls ss → IsLayout (language source) ss setting.layout → IsPass (relation target source made naming match_values match_memory settled frame match_states ts ss setting) };
 }
 
 /// What a pass makes of a function refines it, where each runs alone, among the declarations of its unit.

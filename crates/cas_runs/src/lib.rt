@@ -22,7 +22,7 @@ pub use refused::{
     wrong_place_refused,
 };
 pub use rules::{
-    crossings_are_heard, functions_keep_rules, programs_know_results, sections_keep_kinds,
+    crossings_are_received, functions_keep_rules, programs_know_results, sections_keep_kinds,
     sections_keep_locks, sections_keep_rules, threads_keep_rules, threads_never_cross,
     units_call_out, units_in_order_are_defined, units_keep_rules,
 };

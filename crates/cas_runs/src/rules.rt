@@ -11,7 +11,7 @@ ghost use Rattle.cas_runs.specs.Calls.{Activations, Thread, language};
 ghost use Rattle.cas_runs.specs.Edge.{Edge, results_of};
 ghost use Rattle.cas_runs.specs.Label.{ArePlain, NameBytes, RunLabel};
 ghost use Rattle.cas_runs.specs.Machine.{Block, Run};
-ghost use Rattle.cas_runs.specs.Hearing.{CallsAreHeard, ReturnsAreHeard};
+ghost use Rattle.cas_runs.specs.Receiving.{CallsAreReceived, ReturnsAreReceived};
 ghost use Rattle.cas_runs.specs.Rules.{CallsOut, KeepsKinds, KeepsLocks, KeepsRules};
 ghost use Rattle.cas_runs.specs.Sections.{Instruction, StoresWords, one_lock, sections};
 ghost use Rattle.cas_runs.specs.Unit.{AreDefined, FitsProgram, FitsUnit, IsLayout, Language, Setting, all_decls, all_functions, has_function};
@@ -21,7 +21,7 @@ pub fn sections_keep_rules()
     ensures { (price : ℕ) (program : List Instruction) → 1 ≤ price → StoresWords program → KeepsRules one_lock (sections price program) }
 {}
 
-/// So can the rule on kinds: where the program stores words, it says words of their kinds.
+/// So can the rule on kinds: where the program stores words, it emits words of their kinds.
 #[tactic(auto, using(crate::proofs::Keeping::sections_in_kind))]
 pub fn sections_keep_kinds()
     ensures { (price : ℕ) (program : List Instruction) → StoresWords program → KeepsKinds one_lock (sections price program) }
@@ -74,10 +74,10 @@ pub fn programs_know_results<F, S>()
     ensures { (l : Language F S) (edge : Edge) (words : Words) (units : List (UnitOf F)) (entry : NameBytes) → FitsProgram l edge words units entry → (name : NameBytes) → has_function l (all_functions units) name ≡ true → (n : ℕ) × (results_of edge name ≡ Some n) }
 {}
 
-/// What a unit says another may hear: where it keeps the rules, says what is in kind, and has the locks that are due, its
+/// What a unit emits another may hear: where it keeps the rules, emits what is in kind, and has the locks that are due, its
 /// Call is an Enter of the unit that has the function, and its Leave a Back of the one that called, by the numbers that
 /// the objects have there and with room for them.
-pub fn crossings_are_heard()
-    ensures calls { CallsAreHeard }
-    ensures returns { ReturnsAreHeard }
+pub fn crossings_are_received()
+    ensures calls { CallsAreReceived }
+    ensures returns { ReturnsAreReceived }
 {}

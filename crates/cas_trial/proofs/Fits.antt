@@ -8,7 +8,7 @@ use Rattle.cas_runs.specs.Label.{same_name, Place, Crossing, RunLabel, Lock, Unl
 use Rattle.cas_runs.specs.Edge.{LockWord, SharedWord, Cell}
 use Rattle.cas_runs.specs.Naming.{ArePlaced}
 use Rattle.cas_runs.specs.Access.{Stretch}
-use Rattle.cas_runs.specs.Machine.{Quiet, Machine, Leads, begun, onward, starts, quiet, labelled}
+use Rattle.cas_runs.specs.Machine.{Quiet, Machine, StepsTo, begun, onward, starts, quiet, labelled}
 use Rattle.cas_runs.specs.Refines.{HasRun}
 use Rattle.cas_runs.specs.Rules.{KeepsRules}
 use Rattle.cas_runs.proofs.Entered.{dropped, taken}
@@ -83,7 +83,7 @@ front (suc n) (l ∷ ls) = front n ls
 abbrev on : (ls : List RunLabel) (h : HasRun edge m ls) (y : Thread Apart Stage) → m.act h.at ≡ Quiet y → HasRun edge m ls
 on ls h y e = record { blocks = h.blocks; block = onward m h.block y; at = y; run = quiet y h.run e }
 
-abbrev by_label : (ls : List RunLabel) (l : RunLabel) (h : HasRun edge m ls) (y : Thread Apart Stage) → Leads edge ls (m.act h.at) l y → HasRun edge m (l ∷ ls)
+abbrev by_label : (ls : List RunLabel) (l : RunLabel) (h : HasRun edge m ls) (y : Thread Apart Stage) → StepsTo edge ls (m.act h.at) l y → HasRun edge m (l ∷ ls)
 by_label ls l h y e = record { blocks = h.block ∷ h.blocks; block = begun m y; at = y; run = labelled l y h.run e }
 
 abbrev nothing_crossed : Crossing

@@ -8,7 +8,7 @@ use Rattle.cas_runs.specs.Access.{Accesses}
 use Rattle.cas_runs.specs.Unit.{Setting, AreLaidOut, IsEdge, IsLayout}
 use Rattle.cas_runs.specs.Calls.{Last, language}
 use Rattle.cas_runs.specs.Forms.{FormAlike, writes, loads, stores, last, never}
-use Rattle.cas_runs.specs.Passing.{Relation, AllSame, IsPass, AllMade, MadeAmong, relation, Keeps, Pays}
+use Rattle.cas_runs.specs.Passing.{Relation, AllMatch, IsPass, AllMade, MadeAmong, relation, Keeps, Pays}
 use Rattle.cas_runs.specs.Placing.{Spot, SameMoved, moved, moved_part, MemoryMoved, AlikeMoved, KeepsUnplaced, UnplacedKept, IsPlacing, pointer_in}
 use Rattle.cas_runs.specs.Stepwise.{match_at, AtIf, LastAt, goes_at, takes_at, gives_at, puts_at, calls_at, returns_at, Stepwise, HoldsPlainly}
 use Rattle.cas_runs.proofs.Found.{found_named, found_of}
@@ -232,7 +232,7 @@ module _ (setting : Setting) (ts : List Joined) (ss : List Apart) (f : Joined) (
           by (Some to) g = cc g
   loading_alike next at (Pointer home' place') (Pointer home place) s = loads s (puts_alike next at)
 
-  came_back_at : (serial : ℕ) (us xs : List Value) → AllSame R us xs → ((v w : Value) → SameMoved (places ss) v w → SameStage ss (Loading serial v) (Loading serial w)) → AtIf R (λ f g. SameStage ss) f g (came_back serial us) (came_back serial xs)
+  came_back_at : (serial : ℕ) (us xs : List Value) → AllMatch R us xs → ((v w : Value) → SameMoved (places ss) v w → SameStage ss (Loading serial v) (Loading serial w)) → AtIf R (λ f g. SameStage ss) f g (came_back serial us) (came_back serial xs)
   came_back_at serial [] [] s at = tt
   came_back_at serial [] (x ∷ xs) s at = absurd s
   came_back_at serial (u ∷ us) [] s at = absurd s
@@ -251,7 +251,7 @@ forms_alike setting ts ss to from x y (loading {f = f} {fs = fs} {serial = seria
 forms_alike setting ts ss to from x y (tells {f = f} {fs = fs}) = loads refl (λ v w s. puts_alike setting ts (f ∷ fs) to from Ends ends v w s)
 forms_alike setting ts ss to from x y ends = last (returns_at tt)
 
-enters_alike : (setting : Setting) (ts : List Joined) (ss : List Apart) (f : Joined) (g : Apart) → Made ts ss f g → (n : ℕ) (vs ws : List Value) → AllSame (Rel setting ts ss) vs ws → AtIf (Rel setting ts ss) (λ f g. SameStage ss) f g (enters f.cells.0 f.cells.1 n vs) (enters g.first g.second n ws)
+enters_alike : (setting : Setting) (ts : List Joined) (ss : List Apart) (f : Joined) (g : Apart) → Made ts ss f g → (n : ℕ) (vs ws : List Value) → AllMatch (Rel setting ts ss) vs ws → AtIf (Rel setting ts ss) (λ f g. SameStage ss) f g (enters f.cells.0 f.cells.1 n vs) (enters g.first g.second n ws)
 enters_alike setting ts [] f g m n vs ws s = absurd (cc m.source_found)
 enters_alike setting ts (x ∷ ss) f g m n [] [] s =
     let is = m.is_made in
@@ -276,7 +276,7 @@ held_plainly setting ts ss = record {
   again = λ p q h k h' k' a share words memory. record { begun = a.begun; share = share; memory = memory; naming = a.naming };
   settles = λ p q h k a. a;
   itself = λ s f a b none. refl;
-  later = λ n h k h' k' kept f a b less none. kept f a b none;
+  frame = λ n h k h' k' kept f a b less none. kept f a b none;
 }
 
 joins_keep : (setting : Setting) (ts : List Joined) (ss : List Apart) → IsLayout (language apart) ss setting.layout → Keeps (Rel setting ts ss)

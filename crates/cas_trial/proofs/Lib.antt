@@ -1,5 +1,5 @@
 pub mod Fits
-pub mod Heard
+pub mod Received
 pub mod Joins
 pub mod Slowing
 pub mod Sums

@@ -7,7 +7,7 @@ use Rattle.cas_runs.specs.Unit.{Setting, IsEdge, IsLayout, AreDefined, UnitRefin
 use Rattle.cas_runs.specs.Calls.{language}
 use Rattle.cas_runs.specs.Access.{Holding}
 use Rattle.cas_runs.specs.Forms.{last}
-use Rattle.cas_runs.specs.Passing.{Relation, AllSame, IsPass, AllMade, MadeAmong, relation, Keeps}
+use Rattle.cas_runs.specs.Passing.{Relation, AllMatch, IsPass, AllMade, MadeAmong, relation, Keeps}
 use Rattle.cas_runs.specs.Unmoved.{Equal}
 use Rattle.cas_runs.specs.Stepwise.{AtIf, calls_at, returns_at, HoldsPlainly}
 use Rattle.cas_runs.specs.Forward.{AmountsTo, onward, at_last, Midway, Forward}
@@ -34,14 +34,14 @@ module _ (setting : Setting) (ts : List Relaying) (ss : List Relaying) where
   abbrev R0 : Relation Relaying Pace Relaying Pace
   R0 = Bare setting ts ss
 
-  result_at : (f g : Relaying) (us xs : List Value) → AllSame R0 us xs → AtIf R0 (λ f g. AtStep) f g (with_result us) (with_result xs)
+  result_at : (f g : Relaying) (us xs : List Value) → AllMatch R0 us xs → AtIf R0 (λ f g. AtStep) f g (with_result us) (with_result xs)
   result_at f g us xs s = subst (λ v. AtStep (Hands us) (Hands v)) (to_equal slow fast setting ts ss (MadeAmong slow fast IsSame ts ss) (λ f g n x h b y k c. Unit {0}) (λ f g m. refl) (λ f g m. refl) refl us xs s) returns
 
   forms : (f g : Relaying) (x y : Pace) → AtStep x y → (credit : ℕ) × (1 + credit ≤ 2) × AmountsTo R0 (λ f g. AtStep) SameSize f g credit (slow_form x) (fast_form y)
   forms f g x y (begins {word = word}) = (1, omega arith, onward (Calling word) 0 (omega arith) (at_last (last (calls_at (refl, tt) (λ us xs s count. result_at f g us xs s)))))
   forms f g x y (returns {values = values}) = (1, omega arith, at_last (last (returns_at (all_equal slow fast setting ts ss (MadeAmong slow fast IsSame ts ss) (λ f g n x h b y k c. Unit {0}) (λ f g m. refl) (λ f g m. refl) refl values))))
 
-  enters : (f g : Relaying) (v w : ℕ) → v ≡ w → (vs ws : List Value) → AllSame R0 vs ws → AtIf R0 (λ f g. AtStep) f g (enters_at v vs) (enters_at w ws)
+  enters : (f g : Relaying) (v w : ℕ) → v ≡ w → (vs ws : List Value) → AllMatch R0 vs ws → AtIf R0 (λ f g. AtStep) f g (enters_at v vs) (enters_at w ws)
   enters f g v w e [] [] s = subst (λ u. AtStep (Begins v) (Begins u)) e begins
   enters f g v w e [] (y ∷ ws) s = absurd s
   enters f g v w e (x ∷ vs) [] s = absurd s
@@ -58,7 +58,7 @@ module _ (setting : Setting) (ts : List Relaying) (ss : List Relaying) where
     again = λ p q h k h' k' a share words memory. record { past = a.past; holding = ap (λ v. record { share = v; memory = h'.memory }) share ∙ ap (λ (v : Memory). record { share = k'.share; memory = v }) memory };
     settles = λ p q h k a. a;
     itself = λ s. tt;
-    later = λ n h k h' k' kept. tt;
+    frame = λ n h k h' k' kept. tt;
   }
 
   keeps : Keeps (Rel setting ts ss)

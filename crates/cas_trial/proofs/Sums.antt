@@ -12,7 +12,7 @@ use Rattle.cas_runs.specs.Unit.{Setting, IsEdge, IsLayout, AreDefined, UnitRefin
 use Rattle.cas_runs.specs.Calls.{Last, Puts, language}
 use Rattle.cas_runs.specs.Access.{Accesses, Then, Holding}
 use Rattle.cas_runs.specs.Forms.{FormAlike, reads, last}
-use Rattle.cas_runs.specs.Passing.{Relation, AllSame, IsPass, AllMade, MadeAmong, relation, Keeps}
+use Rattle.cas_runs.specs.Passing.{Relation, AllMatch, IsPass, AllMade, MadeAmong, relation, Keeps}
 use Rattle.cas_runs.specs.Worded.{SameWord, EqualWords, HasWords}
 use Rattle.cas_runs.specs.Stepwise.{match_at, AtIf, LastAt, takes_at, gives_at, puts_at, returns_at, Stepwise, HoldsPlainly}
 use Rattle.cas_runs.proofs.Worded.{words_keep, memory_words}
@@ -46,7 +46,7 @@ module _ (setting : Setting) (ts ss : List Relaying) where
   forms f g x y (same_sum {x = Unlocks}) = last (gives_at same_sum)
   forms f g x y (same_sum {x = Ends}) = last (returns_at tt)
 
-  enters : (f g : Relaying) (vs ws : List Value) → AllSame R vs ws → AtIf R SumsAt f g (enters_sum vs) (enters_sum ws)
+  enters : (f g : Relaying) (vs ws : List Value) → AllMatch R vs ws → AtIf R SumsAt f g (enters_sum vs) (enters_sum ws)
   enters f g [] [] s = same_sum
   enters f g [] (w ∷ ws) s = absurd s
   enters f g (v ∷ vs) [] s = absurd s
@@ -76,7 +76,7 @@ module _ (setting : Setting) (ts ss : List Relaying) where
     };
     settles = λ p q h k a. a;
     itself = λ s. tt;
-    later = λ n h k h' k' kept. tt;
+    frame = λ n h k h' k' kept. tt;
   }
 
 sums_laid_out : (ts ss : List Relaying) → AllMade IsSame ts ss → (layout : Layout) → IsLayout (language adding) ss layout → IsLayout (language plain) ts layout

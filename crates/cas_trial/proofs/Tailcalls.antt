@@ -5,7 +5,7 @@ use Rattle.cas_runs.specs.Machine.{Open, Block}
 use Rattle.cas_runs.specs.Access.{Holding}
 use Rattle.cas_runs.specs.Unit.{Setting, IsEdge, IsLayout, AreDefined, UnitRefines}
 use Rattle.cas_runs.specs.Calls.{Past, with_own, one_begun, nothing_touched, language}
-use Rattle.cas_runs.specs.Passing.{Relation, AllSame, t_step, matched, ReadyIf, returns_first, passing, meets, FailsSoon, Does, FineAt, Passes, IsPass, AllMade, MadeAmong, relation, Keeps}
+use Rattle.cas_runs.specs.Passing.{Relation, AllMatch, t_step, matched, ReadyIf, returns_first, passing, meets, FailsSoon, Does, FineAt, Passes, IsPass, AllMade, MadeAmong, relation, Keeps}
 use Rattle.cas_runs.specs.Unmoved.{Equal}
 use Rattle.cas_runs.proofs.Composing.{sub_same}
 use Rattle.cas_runs.proofs.Performing.{foot_same}
@@ -33,24 +33,24 @@ module _ (returned : List Value → List Value) (firsts : ReturnsFirst returned)
     keeps : Keeps R
     keeps = equal_keeps tailing (calling_by returned) setting ts ss (MadeAmong tailing (calling_by returned) IsTailing ts ss) (λ f g. AtCall) (λ f g m. refl) (λ f g m. refl) refl
 
-    enters_ready : (f : Relayed) (g : Relaying) (n : ℕ) (p q : Past) (h k : Holding) → R.alike p h q k → (v w : ℕ) → v ≡ w → (vs ws : List Value) → AllSame R vs ws → ReadyIf R f g n p q (enters v vs) 8 h (enters w ws) 8 k
+    enters_ready : (f : Relayed) (g : Relaying) (n : ℕ) (p q : Past) (h k : Holding) → R.match_memory p h q k → (v w : ℕ) → v ≡ w → (vs ws : List Value) → AllMatch R vs ws → ReadyIf R f g n p q (enters v vs) 8 h (enters w ws) 8 k
     enters_ready f g n p q h k a v w e [] [] s =
-        subst (λ u. ReadyIf R f g n p q (Some (Begins v)) 8 h (Some (Begins u)) 8 k) e (λ b c within. matched (at_call (within_step b c 10 10 _ _ within (omega arith) (foot_same nothing_touched))) (record { alike = a; later = tt }))
+        subst (λ u. ReadyIf R f g n p q (Some (Begins v)) 8 h (Some (Begins u)) 8 k) e (λ b c within. matched (at_call (within_step b c 10 10 _ _ within (omega arith) (foot_same nothing_touched))) (record { match_memory = a; frame = tt }))
     enters_ready f g n p q h k a v w e [] (x ∷ ws) s = absurd s
     enters_ready f g n p q h k a v w e (x ∷ vs) [] s = absurd s
     enters_ready f g n p q h k a v w e (x ∷ vs) (y ∷ ws) s = tt
 
-    fine_at : (n : ℕ) (f : Relayed) (g : Relaying) → R.made f g → (p q : Past) (x : Relay) (h : Holding) (b : Block) (y : Relay) (k : Holding) (c : Block) → AtCall n x h b y k c → R.alike p h q k → FailsSoon R y k ⊎ FineAt R x h b y k c
+    fine_at : (n : ℕ) (f : Relayed) (g : Relaying) → R.made f g → (p q : Past) (x : Relay) (h : Holding) (b : Block) (y : Relay) (k : Holding) (c : Block) → AtCall n x h b y k c → R.match_memory p h q k → FailsSoon R y k ⊎ FineAt R x h b y k c
     fine_at n f g made p q x h b y k c (at_call w) a = inr (record { within = w; opened = sub_same (Open show_name ∷ []) })
 
-    does_at : (n : ℕ) (f : Relayed) (g : Relaying) → R.made f g → (p q : Past) (x : Relay) (h : Holding) (b : Block) (y : Relay) (k : Holding) (c : Block) → AtCall n x h b y k c → R.alike p h q k → Does R n p q h k f g (t_step R x h).last (t_step R x h).holding b y c
-    does_at n f g m p q x h b y k c (at_call {word = word} w) a = meets (passing _ hands (refl, tt) (record { settled = a; later = tt }) (refl, λ ws count. let are = firsts ws in returns_first (returned ws) are.0 are.1 refl (omega arith)))
+    does_at : (n : ℕ) (f : Relayed) (g : Relaying) → R.made f g → (p q : Past) (x : Relay) (h : Holding) (b : Block) (y : Relay) (k : Holding) (c : Block) → AtCall n x h b y k c → R.match_memory p h q k → Does R n p q h k f g (t_step R x h).last (t_step R x h).holding b y c
+    does_at n f g m p q x h b y k c (at_call {word = word} w) a = meets (passing _ hands (refl, tt) (record { settled = a; frame = tt }) (refl, λ ws count. let are = firsts ws in returns_first (returned ws) are.0 are.1 refl (omega arith)))
 
     passes : Passes R
     passes = record {
       enters = λ f g m p q h k a vs ws s.
           let begun = keeps.begins f g m p q h k a in
-          enters_ready f g p.begun (one_begun tailing p) (one_begun (calling_by returned) q) (with_own tailing f p.begun h) (with_own (calling_by returned) g q.begun k) begun.alike f.word g.word m.is_made vs ws s;
+          enters_ready f g p.begun (one_begun tailing p) (one_begun (calling_by returned) q) (with_own tailing f p.begun h) (with_own (calling_by returned) g q.begun k) begun.match_memory f.word g.word m.is_made vs ws s;
       fine = fine_at;
       does = does_at;
     }

@@ -7,7 +7,7 @@ use Rattle.cas_base.specs.declared.kind.Ty.TheVariants.{Int}
 use Rattle.cas_runs.specs.Access.{Stretch, Words}
 use Rattle.cas_runs.specs.Edge.{Edge, Cell, TableWord}
 use Rattle.cas_runs.specs.Label.{same_name, RunLabel, Out, Done}
-use Rattle.cas_runs.specs.Machine.{Quiet, Machine, Leads, begun, onward, starts, quiet, labelled}
+use Rattle.cas_runs.specs.Machine.{Quiet, Machine, StepsTo, begun, onward, starts, quiet, labelled}
 use Rattle.cas_runs.specs.Refines.{HasRun}
 use Rattle.cas_runs.specs.Unit.{laid_out, IsCode, all_functions, IsStack, IsLayout, AreApart, first_value, IsTableCell, FitsProgram, ThreadRefines}
 use Rattle.cas_runs.specs.Calls.{Thread, language}
@@ -58,7 +58,7 @@ m = (language (routines 0)).thread setting (all_functions program) main_name 0
 abbrev on : (ls : List RunLabel) (h : HasRun edge m ls) (y : Thread Routine Point) → m.act h.at ≡ Quiet y → HasRun edge m ls
 on ls h y e = record { blocks = h.blocks; block = onward m h.block y; at = y; run = quiet y h.run e }
 
-abbrev by_label : (ls : List RunLabel) (l : RunLabel) (h : HasRun edge m ls) (y : Thread Routine Point) → Leads edge ls (m.act h.at) l y → HasRun edge m (l ∷ ls)
+abbrev by_label : (ls : List RunLabel) (l : RunLabel) (h : HasRun edge m ls) (y : Thread Routine Point) → StepsTo edge ls (m.act h.at) l y → HasRun edge m (l ∷ ls)
 by_label ls l h y e = record { blocks = h.block ∷ h.blocks; block = begun m y; at = y; run = labelled l y h.run e }
 
 abbrev called_helper : HasRun edge m []

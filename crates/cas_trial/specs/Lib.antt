@@ -1,5 +1,5 @@
 pub mod Fitting
-pub mod Hearing
+pub mod Receiving
 pub mod Paces
 pub mod Places
 pub mod Relays

@@ -56,15 +56,15 @@ impl FunctionPass for Joining {
 
     ghost naming = { λ ss layout. joins layout };
 
-    ghost same = { λ setting ts ss. SameMoved (places ss) };
+    ghost match_values = { λ setting ts ss. SameMoved (places ss) };
 
-    ghost alike = { λ setting ts ss. AlikeMoved (places ss) one_word };
+    ghost match_memory = { λ setting ts ss. AlikeMoved (places ss) one_word };
 
     ghost settled = { λ setting ts ss. AlikeMoved (places ss) one_word };
 
-    ghost later = { λ setting ts ss. KeepsUnplaced (places ss) };
+    ghost frame = { λ setting ts ss. KeepsUnplaced (places ss) };
 
-    ghost matches = { λ setting ts ss. match_at (λ f g. SameStage ss) };
+    ghost match_states = { λ setting ts ss. match_at (λ f g. SameStage ss) };
 
     fn translate(&self, _alloc: Global, from: &Apart) -> Result<Joined, NoMemory> {
         Ok(Joined {

@@ -3,15 +3,15 @@
 ghost use Rattle.std.specs.Prelude.{List, [], ◌∷◌, ◌≡◌};
 ghost use Rattle.cas_base.specs.declared.decl.Unit.{Unit as UnitOf};
 ghost use Rattle.cas_runs.specs.Calls.{language};
-ghost use Rattle.cas_runs.specs.Hearing.{IsHeardAs};
+ghost use Rattle.cas_runs.specs.Receiving.{IsReceivedAs};
 ghost use Rattle.cas_runs.specs.Label.{Call, Enter};
 ghost use Rattle.cas_runs.specs.Outside.{MayBring};
 ghost use Rattle.cas_runs.specs.Passing.{AllMade};
 ghost use Rattle.cas_runs.specs.Refines.{HasRun};
-ghost use Rattle.cas_runs.specs.Rules.{KeepsRules, MayCross, SaysInKind, SaysLocks};
+ghost use Rattle.cas_runs.specs.Rules.{KeepsRules, MayCross, EmitsInKind, EmitsLocks};
 ghost use Rattle.cas_runs.specs.Unit.{AreDefined, FitsUnit, IsLayout, Setting, UnitRefines};
 ghost use Rattle.cas_trial.specs.Fitting.{decls, edge, globals, labels, program, setting, words};
-ghost use Rattle.cas_trial.specs.Hearing.{before, heard, other, said};
+ghost use Rattle.cas_trial.specs.Receiving.{before, received, other, emitted};
 ghost use Rattle.cas_trial.specs.Paces.{IsSame, fast, slow};
 ghost use Rattle.cas_trial.specs.Stages.{apart, show_name};
 ghost use Rattle.cas_trial.specs.Sums.{adding, plain};
@@ -35,13 +35,13 @@ pub fn pointer_comes_back()
 {}
 
 /// Its call keeps what a source's does, and the unit that has the function may hear it.
-#[tactic(auto, using(crate::proofs::Heard::call_crosses, crate::proofs::Heard::call_in_kind, crate::proofs::Heard::call_holds, crate::proofs::Heard::call_heard, crate::proofs::Heard::call_enters))]
-pub fn a_call_is_heard()
-    ensures crosses { MayCross edge before (Call show_name said) }
-    ensures in_kind { SaysInKind edge before (Call show_name said) }
-    ensures holds { SaysLocks edge before (Call show_name said) }
-    ensures heard { IsHeardAs said heard [] }
-    ensures enters { MayBring other [] (Enter show_name heard) }
+#[tactic(auto, using(crate::proofs::Received::call_crosses, crate::proofs::Received::call_in_kind, crate::proofs::Received::call_holds, crate::proofs::Received::call_received, crate::proofs::Received::call_enters))]
+pub fn a_call_is_received()
+    ensures crosses { MayCross edge before (Call show_name emitted) }
+    ensures in_kind { EmitsInKind edge before (Call show_name emitted) }
+    ensures holds { EmitsLocks edge before (Call show_name emitted) }
+    ensures received { IsReceivedAs emitted received [] }
+    ensures enters { MayBring other [] (Enter show_name received) }
 {}
 
 /// The machine keeps the rules, those of crossings among them.

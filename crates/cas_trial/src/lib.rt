@@ -9,7 +9,7 @@ mod threads;
 
 pub use joining::{Apart, Joined, Joining, join, joined_weighs_less, threads_join, units_join};
 pub use laws::{
-    a_call_is_heard, a_unit_fits, apart_keeps_rules, pointer_comes_back, units_slow, units_sum,
+    a_call_is_received, a_unit_fits, apart_keeps_rules, pointer_comes_back, units_slow, units_sum,
 };
 pub use tailing::{Relayed, Relaying, TailCalls, relay, units_drop, units_relay};
 pub use threads::{

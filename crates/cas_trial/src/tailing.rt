@@ -47,15 +47,15 @@ impl FunctionPass for TailCalls {
 
     ghost naming = { λ ss layout. layout };
 
-    ghost same = { λ setting ts ss v w. v ≡ w };
+    ghost match_values = { λ setting ts ss v w. v ≡ w };
 
-    ghost alike = { λ setting ts ss. Equal };
+    ghost match_memory = { λ setting ts ss. Equal };
 
     ghost settled = { λ setting ts ss. Equal };
 
-    ghost later = { λ setting ts ss n h k u v. Unit {0} };
+    ghost frame = { λ setting ts ss n h k u v. Unit {0} };
 
-    ghost matches = { λ setting ts ss f g. AtCall };
+    ghost match_states = { λ setting ts ss f g. AtCall };
 
     fn translate(&self, _alloc: Global, from: &Relaying) -> Result<Relayed, NoMemory> {
         Ok(Relayed { word: from.word })

@@ -7,7 +7,7 @@ use Rattle.cas_runs.specs.Label.{Shown, Word, Place, Object, Share, Crossing, Ru
 use Rattle.cas_runs.specs.Edge.{Cell, LockWord, Edge, guarded, AreOfKinds, IsShare, HasContents, IsPlace, IsOfType, AreOfTypes, returned, most_cells, most_live}
 use Rattle.cas_runs.specs.Outside.{crossed, AreWordsOf, Fills, ChangesTo, Changes, NewContents, IsNew, Continues, numbered, live_cells, Brings, IsAmong, first, later, Holds}
 use Rattle.cas_runs.specs.Rules.{LeavesContents, OwnContents, AreOwn, LeavesAll, Carries, ShowsWords, AllShowWords, AreSized, CrossInKind}
-use Rattle.cas_runs.specs.Hearing.{at_number, renumbered, AreRenumbered, Lasts, IsAgain, IsSaid, IsHeardAs, CallsAreHeard, ReturnsAreHeard}
+use Rattle.cas_runs.specs.Receiving.{at_number, renumbered, AreRenumbered, Lasts, IsAgain, IsEmitted, IsReceivedAs, CallsAreReceived, ReturnsAreReceived}
 
 -- locks
 
@@ -111,30 +111,30 @@ grows [] n m e = let same : n ≡ m = cc e in omega (arith, same)
 grows (Word w ∷ vs) n m e = grows vs n m e
 grows (Place object place ∷ vs) n m e = grows_by n m (nat_lt object n) (nat_eq object n) vs (λ k. grows vs k m) e
 
-module _ (said heard : Crossing) (seen : List Object) (is : IsHeardAs said heard seen) where
+module _ (emitted received : Crossing) (seen : List Object) (is : IsReceivedAs emitted received seen) where
   -- values
 
-  place_too : (kind : Kind) (object place : ℕ) (n : Option ℕ) (w : Shown) → is.number object ≡ n → at_number n place ≡ Some w → IsPlace said.objects kind object place → IsOfType heard.objects (Ptr kind) w
+  place_too : (kind : Kind) (object place : ℕ) (n : Option ℕ) (w : Shown) → is.number object ≡ n → at_number n place ≡ Some w → IsPlace emitted.objects kind object place → IsOfType received.objects (Ptr kind) w
   place_too kind object place None w numbers e h = absurd (cc e)
   place_too kind object place (Some j) w numbers e h =
       let there = is.there object j h.it h.there numbers in
       let same : Place j place ≡ w = cc e in
-      subst (IsOfType heard.objects (Ptr kind)) same (record {
+      subst (IsOfType received.objects (Ptr kind)) same (record {
         it = there.0;
         there = there.1;
         same_kind = λ live. there.2.kind ∙ h.same_kind (subst HasContents there.2.contents live);
         in_reach = subst (λ (n : ℕ). place ≤ n) (sym there.2.size) h.in_reach;
       })
 
-  value_too : (ty : Ty) (v w : Shown) → renumbered is.number v ≡ Some w → IsOfType said.objects ty v → IsOfType heard.objects ty w
-  value_too (Int kind) (Word n) w e h = let same : Word n ≡ w = cc e in subst (IsOfType heard.objects (Int kind)) same h
+  value_too : (ty : Ty) (v w : Shown) → renumbered is.number v ≡ Some w → IsOfType emitted.objects ty v → IsOfType received.objects ty w
+  value_too (Int kind) (Word n) w e h = let same : Word n ≡ w = cc e in subst (IsOfType received.objects (Int kind)) same h
   value_too (Int kind) (Place object place) w e h = absurd h
-  value_too (Ptr kind) (Word n) w e h = let same : Word n ≡ w = cc e in subst (IsOfType heard.objects (Ptr kind)) same h
+  value_too (Ptr kind) (Word n) w e h = let same : Word n ≡ w = cc e in subst (IsOfType received.objects (Ptr kind)) same h
   value_too (Ptr kind) (Place object place) w e h = place_too kind object place (is.number object) w refl e h
   value_too Void v w e h = absurd h
   value_too (Array kind size) v w e h = absurd h
 
-  values_too : (tys : List Ty) (vs ws : List Shown) → AreRenumbered is.number vs ws → AreOfTypes said.objects tys vs → AreOfTypes heard.objects tys ws
+  values_too : (tys : List Ty) (vs ws : List Shown) → AreRenumbered is.number vs ws → AreOfTypes emitted.objects tys vs → AreOfTypes received.objects tys ws
   values_too [] [] [] e h = tt
   values_too [] [] (w ∷ ws) e h = absurd e
   values_too [] (v ∷ vs) ws e h = absurd h
@@ -142,26 +142,26 @@ module _ (said heard : Crossing) (seen : List Object) (is : IsHeardAs said heard
   values_too (ty ∷ tys) (v ∷ vs) [] e h = absurd e
   values_too (ty ∷ tys) (v ∷ vs) (w ∷ ws) e h = (value_too ty v w e.0 h.0, values_too tys vs ws e.1 h.1)
 
-  module _ (edge other : Edge) (cells : edge.cells ≡ other.cells) (before : List RunLabel) (carries : Carries edge before said) (types : List Ty) (in_kind : CrossInKind edge types said) where
+  module _ (edge other : Edge) (cells : edge.cells ≡ other.cells) (before : List RunLabel) (carries : Carries edge before emitted) (types : List Ty) (in_kind : CrossInKind edge types emitted) where
     -- an object of this kind and size is filled by what is said of it
-    fills : (new p : Object) (j : ℕ) → IsSaid said is.number j new → new.kind ≡ p.kind → new.size ≡ p.size → (ws : List (Option ℕ)) → new.contents ≡ Some ws → Fills p ws
+    fills : (new p : Object) (j : ℕ) → IsEmitted emitted is.number j new → new.kind ≡ p.kind → new.size ≡ p.size → (ws : List (Option ℕ)) → new.contents ≡ Some ws → Fills p ws
     fills new p j s kind size ws e =
         let shows : s.object.contents ≡ Some ws = sym s.same.contents ∙ e in
         record {
-          size = all_show (crossed before) said.objects carries.objects s.here s.object s.shown ws shows ∙ sym s.same.size ∙ size;
-          kinds = subst (λ (k : Kind). AreWordsOf k ws) (sym s.same.kind ∙ kind) (all_kinds said.objects in_kind.objects s.here s.object s.shown ws shows);
+          size = all_show (crossed before) emitted.objects carries.objects s.here s.object s.shown ws shows ∙ sym s.same.size ∙ size;
+          kinds = subst (λ (k : Kind). AreWordsOf k ws) (sym s.same.kind ∙ kind) (all_kinds emitted.objects in_kind.objects s.here s.object s.shown ws shows);
         }
 
-    changed : (j : ℕ) (old new : Object) → slice_get seen j ≡ Some old → slice_get heard.objects j ≡ Some new → Changes old new
+    changed : (j : ℕ) (old new : Object) → slice_get seen j ≡ Some old → slice_get received.objects j ≡ Some new → Changes old new
     changed j old new before_at at = ⊎_elim (λ h. h) again (is.stays j old new before_at at)
       where
-        again : IsAgain old new × IsSaid said is.number j new → Changes old new
+        again : IsAgain old new × IsEmitted emitted is.number j new → Changes old new
         again (a, s) = record { owner = a.owner; kind = a.kind; size = a.size; contents = changes_to old old.contents new.contents a.lasts (fills new old j s a.kind a.size) }
 
-    is_new : (j : ℕ) (new : Object) → length seen ≤ j → slice_get heard.objects j ≡ Some new → IsNew new
+    is_new : (j : ℕ) (new : Object) → length seen ≤ j → slice_get received.objects j ≡ Some new → IsNew new
     is_new j new past at =
         let (owner, s) = is.comes j new past at in
-        let sized = all_sized said.objects in_kind.sizes s.here s.object s.shown in
+        let sized = all_sized emitted.objects in_kind.sizes s.here s.object s.shown in
         record {
           owner = owner;
           least = subst (λ (n : ℕ). 1 ≤ n) (sym s.same.size) sized.0;
@@ -169,31 +169,31 @@ module _ (said heard : Crossing) (seen : List Object) (is : IsHeardAs said heard
           contents = new_contents new new.contents (fills new new j s refl refl);
         }
 
-    pub brings : live_cells heard.objects ≤ most_live → Brings other seen heard
+    pub brings : live_cells received.objects ≤ most_live → Brings other seen received
     brings room = record {
-      share = subst (IsShare other) (sym is.share) (share_too edge other cells said.share in_kind.share);
-      objects = continues_at seen heard.objects (grows heard.values (length seen) (length heard.objects) is.numbers) changed is_new;
+      share = subst (IsShare other) (sym is.share) (share_too edge other cells emitted.share in_kind.share);
+      objects = continues_at seen received.objects (grows received.values (length seen) (length received.objects) is.numbers) changed is_new;
       room = room;
       numbers = is.numbers;
     }
 
-    pub typed : AreOfTypes heard.objects types heard.values
-    typed = values_too types said.values heard.values is.values in_kind.values
+    pub typed : AreOfTypes received.objects types received.values
+    typed = values_too types emitted.values received.values is.values in_kind.values
 
-pub calls_are_heard : CallsAreHeard
-calls_are_heard edge other before earlier function said heard known inside crosses kinds locks is room =
+pub calls_are_received : CallsAreReceived
+calls_are_received edge other before earlier function emitted received known inside crosses kinds locks is room =
     let in_kind = kinds known.here known.known_here in
     record {
       signature = known.there;
       known = known.known_there;
       inside = inside;
-      values = subst (λ (tys : List Ty). AreOfTypes heard.objects tys heard.values) (sym known.params) (typed said heard (crossed earlier) is edge other known.cells before crosses known.here.params in_kind);
-      holds = subst (λ (share : Share). Holds (locks_of share) known.there.holds) (sym is.share) (holds_all (locks_of said.share) known.here.holds known.there.holds (locks known.here known.known_here) known.holds);
-      brings = brings said heard (crossed earlier) is edge other known.cells before crosses known.here.params in_kind room;
+      values = subst (λ (tys : List Ty). AreOfTypes received.objects tys received.values) (sym known.params) (typed emitted received (crossed earlier) is edge other known.cells before crosses known.here.params in_kind);
+      holds = subst (λ (share : Share). Holds (locks_of share) known.there.holds) (sym is.share) (holds_all (locks_of emitted.share) known.here.holds known.there.holds (locks known.here known.known_here) known.holds);
+      brings = brings emitted received (crossed earlier) is edge other known.cells before crosses known.here.params in_kind room;
     }
 
-pub returns_are_heard : ReturnsAreHeard
-returns_are_heard edge other before earlier function held older callers said heard known entered called crosses kinds locks is room =
+pub returns_are_received : ReturnsAreReceived
+returns_are_received edge other before earlier function held older callers emitted received known entered called crosses kinds locks is room =
     let in_kind = kinds function held older known.here entered known.known_here in
     record {
       function = function;
@@ -202,7 +202,7 @@ returns_are_heard edge other before earlier function held older callers said hea
       newest = called;
       signature = known.there;
       known = known.known_there;
-      values = subst (λ (ty : Ty). AreOfTypes heard.objects (returned ty) heard.values) (sym known.ret) (typed said heard (crossed earlier) is edge other known.cells before crosses.1 (returned known.here.ret) in_kind);
+      values = subst (λ (ty : Ty). AreOfTypes received.objects (returned ty) received.values) (sym known.ret) (typed emitted received (crossed earlier) is edge other known.cells before crosses.1 (returned known.here.ret) in_kind);
       same_locks = ap locks_of is.share ∙ locks function held older entered;
-      brings = brings said heard (crossed earlier) is edge other known.cells before crosses.1 (returned known.here.ret) in_kind room;
+      brings = brings emitted received (crossed earlier) is edge other known.cells before crosses.1 (returned known.here.ret) in_kind room;
     }

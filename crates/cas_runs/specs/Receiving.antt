@@ -3,7 +3,7 @@ use Rattle.std.specs.Prelude.{◌≡◌, ◌⊎◌, ℕ, ◌≤◌, true, List, 
 use Rattle.cas_runs.specs.Label.{NameBytes, Shown, Word, Place, Outside, Object, Crossing, RunLabel, Enter, Back, Call, Leave}
 use Rattle.cas_runs.specs.Edge.{Signature, Edge, signature_of, most_live}
 use Rattle.cas_runs.specs.Outside.{Pending, Called, Entered, pending, crossed, Changes, numbered, live_cells, Holds, MayBring}
-use Rattle.cas_runs.specs.Rules.{MayCross, SaysInKind, SaysLocks}
+use Rattle.cas_runs.specs.Rules.{MayCross, EmitsInKind, EmitsLocks}
 
 -- the value with the number of its object there, if it has one
 abbrev pub at_number : Option ℕ → (place : ℕ) → Option Shown
@@ -39,23 +39,23 @@ pub record IsAgain (old new : Object) : Type 0 where
   pub lasts : Lasts old old.contents new.contents
 
 -- the object with this number there is this one of those that are said
-pub record IsSaid (said : Crossing) (number : ℕ → Option ℕ) (there : ℕ) (new : Object) : Type 0 where
+pub record IsEmitted (emitted : Crossing) (number : ℕ → Option ℕ) (there : ℕ) (new : Object) : Type 0 where
   pub here : ℕ
   pub object : Object
-  pub shown : slice_get said.objects here ≡ Some object
+  pub shown : slice_get emitted.objects here ≡ Some object
   pub numbers : number here ≡ Some there
   pub same : IsSame object new
 
 -- what is said is heard so by a unit that has seen these objects: with the same share, and with values and objects by its own numbers, of which new objects take the
 -- next ones. Objects that it has seen before are still there; those that the saying unit doesn't know, others have left as they may
-pub record IsHeardAs (said heard : Crossing) (seen : List Object) : Type 0 where
+pub record IsReceivedAs (emitted received : Crossing) (seen : List Object) : Type 0 where
   pub number : ℕ → Option ℕ
-  pub share : heard.share ≡ said.share
-  pub values : AreRenumbered number said.values heard.values
-  pub there : (i j : ℕ) (o : Object) → slice_get said.objects i ≡ Some o → number i ≡ Some j → (new : Object) × (slice_get heard.objects j ≡ Some new) × IsSame o new
-  pub stays : (j : ℕ) (old new : Object) → slice_get seen j ≡ Some old → slice_get heard.objects j ≡ Some new → Changes old new ⊎ (IsAgain old new × IsSaid said number j new)
-  pub comes : (j : ℕ) (new : Object) → length seen ≤ j → slice_get heard.objects j ≡ Some new → (new.owner ≡ Outside) × IsSaid said number j new
-  pub numbers : numbered (length seen) heard.values ≡ Some (length heard.objects)
+  pub share : received.share ≡ emitted.share
+  pub values : AreRenumbered number emitted.values received.values
+  pub there : (i j : ℕ) (o : Object) → slice_get emitted.objects i ≡ Some o → number i ≡ Some j → (new : Object) × (slice_get received.objects j ≡ Some new) × IsSame o new
+  pub stays : (j : ℕ) (old new : Object) → slice_get seen j ≡ Some old → slice_get received.objects j ≡ Some new → Changes old new ⊎ (IsAgain old new × IsEmitted emitted number j new)
+  pub comes : (j : ℕ) (new : Object) → length seen ≤ j → slice_get received.objects j ≡ Some new → (new.owner ≡ Outside) × IsEmitted emitted number j new
+  pub numbers : numbered (length seen) received.values ≡ Some (length received.objects)
 
 -- the function is known at both edges, over the same words: with the same types, and holding there no more than here
 pub record IsKnownAtBoth (edge other : Edge) (function : NameBytes) : Type 0 where
@@ -70,14 +70,14 @@ pub record IsKnownAtBoth (edge other : Edge) (function : NameBytes) : Type 0 whe
 
 -- Where a unit keeps the rules and says what is in kind, with the locks that are due, another unit that has the called function may hear its Call as an Enter, with room for
 -- the objects.
-abbrev pub CallsAreHeard : Type 0
-CallsAreHeard = (edge other : Edge) (before earlier : List RunLabel) (function : NameBytes) (said heard : Crossing) (known : IsKnownAtBoth edge other function) → known.there.inside ≡ true →
-    MayCross edge before (Call function said) → SaysInKind edge before (Call function said) → SaysLocks edge before (Call function said) →
-    IsHeardAs said heard (crossed earlier) → live_cells heard.objects ≤ most_live → MayBring other earlier (Enter function heard)
+abbrev pub CallsAreReceived : Type 0
+CallsAreReceived = (edge other : Edge) (before earlier : List RunLabel) (function : NameBytes) (emitted received : Crossing) (known : IsKnownAtBoth edge other function) → known.there.inside ≡ true →
+    MayCross edge before (Call function emitted) → EmitsInKind edge before (Call function emitted) → EmitsLocks edge before (Call function emitted) →
+    IsReceivedAs emitted received (crossed earlier) → live_cells received.objects ≤ most_live → MayBring other earlier (Enter function received)
 
 -- And the unit that called may hear its Leave as a Back, where what it entered with was what the caller called with.
-abbrev pub ReturnsAreHeard : Type 0
-ReturnsAreHeard = (edge other : Edge) (before earlier : List RunLabel) (function : NameBytes) (locks : List ℕ) (older callers : List Pending) (said heard : Crossing) → IsKnownAtBoth edge other function →
+abbrev pub ReturnsAreReceived : Type 0
+ReturnsAreReceived = (edge other : Edge) (before earlier : List RunLabel) (function : NameBytes) (locks : List ℕ) (older callers : List Pending) (emitted received : Crossing) → IsKnownAtBoth edge other function →
     pending before ≡ Entered function locks ∷ older → pending earlier ≡ Called function locks ∷ callers →
-    MayCross edge before (Leave said) → SaysInKind edge before (Leave said) → SaysLocks edge before (Leave said) →
-    IsHeardAs said heard (crossed earlier) → live_cells heard.objects ≤ most_live → MayBring other earlier (Back heard)
+    MayCross edge before (Leave emitted) → EmitsInKind edge before (Leave emitted) → EmitsLocks edge before (Leave emitted) →
+    IsReceivedAs emitted received (crossed earlier) → live_cells received.objects ≤ most_live → MayBring other earlier (Back received)

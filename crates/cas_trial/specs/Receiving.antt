@@ -19,12 +19,12 @@ abbrev pub before : List RunLabel
 before = Unlock 0 (3 ∷ []) ∷ Lock 0 (5 ∷ []) ∷ Enter main_name (record { values = []; share = []; objects = [] }) ∷ []
 
 -- the place after the variable whose word is 3
-abbrev pub said : Crossing
-said = record { values = Place 0 1 ∷ []; share = []; objects = first_object 3 ∷ [] }
+abbrev pub emitted : Crossing
+emitted = record { values = Place 0 1 ∷ []; share = []; objects = first_object 3 ∷ [] }
 
 -- there it is an object of the outside's
 abbrev pub their_object : Object
 their_object = record { owner = Outside; kind = I32; size = 1; contents = Some (Some 3 ∷ []) }
 
-abbrev pub heard : Crossing
-heard = record { values = Place 0 1 ∷ []; share = []; objects = their_object ∷ [] }
+abbrev pub received : Crossing
+received = record { values = Place 0 1 ∷ []; share = []; objects = their_object ∷ [] }
