@@ -17,11 +17,13 @@ pub mod Outgoing
 pub mod Performing
 pub mod Placing
 pub mod Pointing
+pub mod Reached
 pub mod Refining
 pub mod Ruling
 pub mod Sanity
 pub mod Shares
 pub mod Showing
+pub mod Stars
 pub mod Stepping
 pub mod Tests
 pub mod Turns

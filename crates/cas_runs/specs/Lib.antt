@@ -21,4 +21,5 @@ pub mod Simulation
 pub mod Stepwise
 pub mod Unit
 pub mod Unmoved
+pub mod Walking
 pub mod Worded

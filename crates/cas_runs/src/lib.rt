@@ -9,6 +9,7 @@ mod layer;
 mod pass;
 mod refused;
 mod rules;
+mod walking;
 
 pub use compose::{
     functions_compose, functions_refine_themselves, quiet_steps_paid, refinements_compose,
@@ -25,4 +26,7 @@ pub use rules::{
     crossings_are_received, functions_keep_rules, programs_know_results, sections_keep_kinds,
     sections_keep_locks, sections_keep_rules, threads_keep_rules, threads_never_cross,
     units_call_out, units_in_order_are_defined, units_keep_rules,
+};
+pub use walking::{
+    bad_now, beginnings_are_one, equal_machines_run, longest_run, runs_are_walks, walks_are_runs,
 };
