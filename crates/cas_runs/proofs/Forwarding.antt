@@ -77,7 +77,7 @@ module _ {L : Type 0} (cells : List Cell) (words : Words) where
       by true = h (has_stored d home (slice_set block place value))
       by false = foot_same d.footprint
 
-  performed_more : (x : Accesses L) (d : Doing) → More d (performed cells words x d)
+  pub performed_more : (x : Accesses L) (d : Doing) → More d (performed cells words x d)
   performed_more (Reads global offset next) d = number_more d _ (λ v e. performed_more (next v) e) (number_in (words global) offset)
   performed_more (Writes global offset word next) d = number_written d word _ (λ e. performed_more next e) (number_in (words global) offset)
   performed_more (Loads home place next) d = loaded_more d _ (λ v. performed_more (next v) d) (value_in (d.holding.memory home) place)

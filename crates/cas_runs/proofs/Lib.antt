@@ -7,6 +7,7 @@ pub mod Determined
 pub mod Entered
 pub mod Forwarding
 pub mod Found
+pub mod Fronting
 pub mod Receiving
 pub mod Itself
 pub mod Keeping

@@ -6,6 +6,7 @@ pub mod Edge
 pub mod Forms
 pub mod Forward
 pub mod Receiving
+pub mod Held
 pub mod Label
 pub mod Legal
 pub mod Machine
