@@ -1,3 +1,4 @@
+pub mod Amounting
 pub mod Bringing
 pub mod Cells
 pub mod Closed
