@@ -1,0 +1,9 @@
+pub mod After
+pub mod Ask
+pub mod Division
+pub mod Effect
+pub mod Flags
+pub mod Links
+pub mod Registers
+pub mod Start
+pub mod State
