@@ -1,0 +1,4 @@
+pub mod Numerals
+pub mod Spelling
+pub mod Tables
+pub mod Words
