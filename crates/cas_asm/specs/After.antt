@@ -51,7 +51,7 @@ address r l = word_add (word_add l.word (base_word r l.base)) (index_word r l.in
 -- the address that an operand is read from
 abbrev pub operand_at : Regs → Operand → Option ℕ
 operand_at r (operand.Memory l) = Some (address r l)
-operand_at r operand.Popped = Some r.esp
+operand_at r operand.Top = Some r.esp
 operand_at r _ = None
 
 -- the word of an operand; one in memory is the word that was read
@@ -60,7 +60,7 @@ operand_word c (operand.Number n) read = n
 operand_word c (operand.Register r) read = reg c.regs r
 operand_word c (operand.Address l) read = address c.regs l
 operand_word c (operand.Memory l) read = read
-operand_word c operand.Popped read = read
+operand_word c operand.Top read = read
 operand_word c operand.NextPlace read = c.place + 1
 
 -- Results.
@@ -116,10 +116,10 @@ right_word row c read = operand_word c row.right read
 abbrev pub row_result : Computed → Core → (read : ℕ) → ℕ
 row_result row c read = result_of row.operator c.flags (left_word row c read) (right_word row c read)
 
--- the registers once an operand has been read: a popped word is taken off the stack
-abbrev pub popped : Operand → Regs → Regs
-popped operand.Popped r = record r { esp = word_add r.esp 4 }
-popped _ r = r
+-- the registers once the word at the top of the stack is taken off, or not
+abbrev pub popped : (pops : Bool) → Regs → Regs
+popped true r = record r { esp = word_add r.esp 4 }
+popped false r = r
 
 -- the registers once the result has gone to its destination
 abbrev pub delivered : Destination → Regs → (result : ℕ) → Regs
@@ -137,7 +137,7 @@ place_after ToResult c result = result
 -- the core after the row
 abbrev pub row_after : Computed → Core → (read : ℕ) → Core
 row_after row c read = record {
-  regs = delivered row.to (popped row.right c.regs) (row_result row c read);
+  regs = delivered row.to (popped row.pops c.regs) (row_result row c read);
   flags = flags_after row.flags c.flags (left_word row c read) (right_word row c read) (row_result row c read);
   place = place_after row.next c (row_result row c read);
 }

@@ -83,12 +83,17 @@ flags_of_operation Imul = Cleared
 -- a row with two operands; the code goes on at the next instruction
 abbrev pub computes : Operator → (left right : Operand) → FlagRule → Destination → Effect
 computes operator left right flags to =
-    Computes (record { left = left; right = right; operator = operator; flags = flags; to = to; next = next.Following })
+    Computes (record { left = left; right = right; operator = operator; flags = flags; pops = false; to = to; next = next.Following })
 
 -- a row that copies its one operand and keeps the flags
 abbrev pub copies : (from : Operand) → Destination → Next → Effect
 copies from to next =
-    Computes (record { left = operand.Number 0; right = from; operator = Copies; flags = Kept; to = to; next = next })
+    Computes (record { left = operand.Number 0; right = from; operator = Copies; flags = Kept; pops = false; to = to; next = next })
+
+-- a row that takes the word at the top of the stack off and keeps the flags
+abbrev pub pops : Destination → Next → Effect
+pops to next =
+    Computes (record { left = operand.Number 0; right = operand.Top; operator = Copies; flags = Kept; pops = true; to = to; next = next })
 
 -- a row that only goes on somewhere
 abbrev pub goes : Next → Effect
@@ -112,11 +117,11 @@ effect_of links instr.Cdq = computes (Shifts Sar) (operand.Register Eax) (operan
 effect_of links (instr.Idiv r) = Divides true r
 effect_of links (instr.Div r) = Divides false r
 effect_of links (instr.Push r) = copies (operand.Register r) to.Pushed next.Following
-effect_of links (instr.Pop r) = copies operand.Popped (to.Register r) next.Following
+effect_of links (instr.Pop r) = pops (to.Register r) next.Following
 effect_of links (instr.Jmp t) = goes (next.To (target_place links t))
 effect_of links (instr.JumpIf on l) = goes (next.ToIf on (links.label l))
 effect_of links (instr.Call f) = copies operand.NextPlace to.Pushed (next.To (callee_place links f))
-effect_of links instr.Ret = copies operand.Popped to.Nowhere next.ToResult
+effect_of links instr.Ret = pops to.Nowhere next.ToResult
 effect_of links instr.Out = copies (operand.Register Eax) to.Output next.Following
 effect_of links (instr.LockDec m) =
     computes (Operates Sub) (operand.Memory (location_of links m)) (operand.Number 1) OfDecrement (to.Locked (location_of links m))

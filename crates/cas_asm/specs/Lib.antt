@@ -2,8 +2,11 @@ pub mod After
 pub mod Ask
 pub mod Division
 pub mod Effect
+pub mod Flagged
 pub mod Flags
 pub mod Links
 pub mod Registers
+pub mod Resolve
 pub mod Start
 pub mod State
+pub mod Words

@@ -43,7 +43,7 @@ fn operand_at(regs: Regs, of: Operand) -> Option<u32>
 {
     match of {
         Operand::Memory(location) => Some(address(regs, location)),
-        Operand::Popped => Some(regs.esp),
+        Operand::Top => Some(regs.esp),
         _ => None,
     }
 }
@@ -56,7 +56,7 @@ fn operand_word(core: Core, of: Operand, read: u32) -> u32
         Operand::Number(number) => number,
         Operand::Register(reg) => core.regs.get(reg),
         Operand::Address(location) => address(core.regs, location),
-        Operand::Memory(_) | Operand::Popped => read,
+        Operand::Memory(_) | Operand::Top => read,
         Operand::NextPlace => core.place + 1,
     }
 }
@@ -121,15 +121,16 @@ fn flags_after(rule: FlagRule, flags: Flags, a: u32, b: u32, value: u32) -> Flag
     }
 }
 
-fn popped(of: Operand, regs: Regs) -> Regs
-    ensures { result ≡ popped of regs }
+fn popped(pops: bool, regs: Regs) -> Regs
+    ensures { result ≡ popped pops regs }
 {
-    match of {
-        Operand::Popped => Regs {
+    if pops {
+        Regs {
             esp: add(regs.esp, 4),
             ..regs
-        },
-        _ => regs,
+        }
+    } else {
+        regs
     }
 }
 
@@ -198,7 +199,7 @@ impl Computed {
         let right = operand_word(core, self.right, read);
         let value = result_of(self.operator, core.flags, left, right);
         Core {
-            regs: delivered(self.to, popped(self.right, core.regs), value),
+            regs: delivered(self.to, popped(self.pops, core.regs), value),
             flags: flags_after(self.flags, core.flags, left, right, value),
             place: place_after(self.next, core, value),
         }

@@ -27,8 +27,8 @@ pub enum Operand {
     Address(Location),
     /// The word at an address.
     Memory(Location),
-    /// The word at the top of the stack, which is taken off.
-    Popped,
+    /// The word at the top of the stack.
+    Top,
     /// The place of the next instruction.
     NextPlace,
 }
@@ -108,6 +108,8 @@ pub struct Computed {
     pub operator: Operator,
     /// What becomes of the flags.
     pub flags: FlagRule,
+    /// Whether the word at the top of the stack is taken off before the result goes anywhere.
+    pub pops: bool,
     /// Where the result goes.
     pub to: Destination,
     /// Where the code goes on.

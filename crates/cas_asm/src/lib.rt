@@ -12,6 +12,7 @@ mod effect;
 mod flags;
 mod image;
 mod instr;
+pub mod laws;
 mod line;
 mod regs;
 mod table;

@@ -7,7 +7,7 @@ ghost use Rattle.cas_asm.specs.declared.effect.Operator.TheVariants.{Operates};
 ghost use Rattle.cas_asm.specs.declared.effect.FlagRule.TheVariants.{Kept, OfDifference, OfLogic, OfDecrement};
 ghost use Rattle.cas_asm.specs.declared.effect.Destination.TheVariants.{Nowhere, Register, Locked};
 ghost use Rattle.cas_asm.specs.Links.{in_image};
-ghost use Rattle.cas_asm.specs.Effect.{word_of_mem, location_of, source_operand, value_operand, count_operand, target_place, callee_place, flags_of_operation, computes, copies, goes, effect_of};
+ghost use Rattle.cas_asm.specs.Effect.{word_of_mem, location_of, source_operand, value_operand, count_operand, target_place, callee_place, flags_of_operation, computes, copies, pops, goes, effect_of};
 
 use crate::effect::{Computed, Destination, Effect, FlagRule, Location, Next, Operand, Operator};
 use crate::image::{LOCK_PLACE, UNLOCK_PLACE};
@@ -105,6 +105,7 @@ fn computes(
         right,
         operator,
         flags,
+        pops: false,
         to,
         next: Next::Following,
     })
@@ -119,6 +120,22 @@ fn copies(from: Operand, to: Destination, next: Next) -> Effect
         right: from,
         operator: Operator::Copies,
         flags: FlagRule::Kept,
+        pops: false,
+        to,
+        next,
+    })
+}
+
+// A row that takes the word at the top of the stack off and keeps the flags.
+fn pops(to: Destination, next: Next) -> Effect
+    ensures { result ≡ pops to next }
+{
+    Effect::Computes(Computed {
+        left: Operand::Number(0),
+        right: Operand::Top,
+        operator: Operator::Copies,
+        flags: FlagRule::Kept,
+        pops: true,
         to,
         next,
     })
@@ -217,7 +234,7 @@ impl Instr<u32> {
                 Destination::Pushed,
                 Next::Following,
             ),
-            Instr::Pop(to) => copies(Operand::Popped, Destination::Register(*to), Next::Following),
+            Instr::Pop(to) => pops(Destination::Register(*to), Next::Following),
             Instr::Jmp(to) => goes(Next::To(target(*to))),
             Instr::JumpIf(on, to) => goes(Next::ToIf(*on, *to)),
             Instr::Call(of) => copies(
@@ -225,7 +242,7 @@ impl Instr<u32> {
                 Destination::Pushed,
                 Next::To(callee(*of)),
             ),
-            Instr::Ret => copies(Operand::Popped, Destination::Nowhere, Next::ToResult),
+            Instr::Ret => pops(Destination::Nowhere, Next::ToResult),
             Instr::Out => copies(
                 Operand::Register(Reg::Eax),
                 Destination::Output,

@@ -1,0 +1,4 @@
+pub mod Comparing
+pub mod Dividing
+pub mod Resolving
+pub mod Wording
