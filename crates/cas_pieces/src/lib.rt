@@ -4,9 +4,11 @@
 #![tactic(auto)]
 
 pub mod laws;
+mod cut;
 mod line;
 mod number;
 mod piece;
 
+pub use cut::cut_line;
 pub use line::split;
 pub use piece::{Mark, Piece, Word};
