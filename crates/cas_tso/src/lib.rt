@@ -1,0 +1,15 @@
+//! The x86-TSO machine on which linked code runs.
+#![tactic(auto)]
+
+mod end;
+mod instruction;
+mod options;
+mod pending;
+mod refused;
+mod thread;
+
+pub use end::End;
+pub use options::Options;
+pub use pending::Pending;
+pub use refused::{Choice, Refused};
+pub use thread::{ROOM, ThreadCore};
