@@ -1,3 +1,4 @@
+pub mod Alike_forms
 pub mod Basics
 pub mod Bodied
 pub mod Complete

@@ -4,6 +4,7 @@ ghost use Rattle.std.specs.Prelude.{◌≡◌, ◌⊎◌, ◌↔◌, ◌<◌, �
 ghost use Rattle.cas_base.specs.Decl.{functions_of};
 ghost use Rattle.cas_base.specs.declared.decl.Decl.{Decl};
 ghost use Rattle.cas_base.specs.declared.place.Place.{Place};
+ghost use Rattle.cas_syntax.specs.Alike.{IsAlike};
 ghost use Rattle.cas_syntax.specs.Reading.{IsReadAs};
 ghost use Rattle.cas_syntax.specs.Tree.{ModuleTree};
 ghost use Rattle.cas_typed.specs.Bodies.{bodies_of, HasBodies, IsDefined};
@@ -63,10 +64,12 @@ pub fn typed_modules_have_bodies()
 {}
 
 /// What a text is read as is formed: its literals and the lengths of arrays are words, its initial values are values of
-/// their kinds, and each of its items declares what it is. And it stays so when it is typed: the literals of its resolved functions are words,
-/// and its values are of their kinds when zeros have filled them up.
+/// their kinds, and each of its items declares what it is. So is a module that is alike but for places, as one that a
+/// program makes. It stays so when it is typed: the literals of its resolved functions are words, and its values are of
+/// their kinds when zeros have filled them up.
 pub fn read_modules_are_formed()
     ensures read { (text : List ℕ) (m : ModuleTree) → IsReadAs text m → IsFormed m }
+    ensures alike { (m other : ModuleTree) → IsAlike m other → IsFormed m → IsFormed other }
     ensures filled { (m : ModuleTree) (r : TypedModuleTree) → IsFormed m → IsTyped m r → IsFormed r.module_tree }
     ensures resolved { (m : ModuleTree) (r : TypedModuleTree) → IsFormed m → IsTyped m r → ModuleHasWords r }
 {}
