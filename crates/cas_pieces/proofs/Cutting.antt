@@ -1,5 +1,5 @@
 -- The first line of a text.
-use Rattle.std.proofs.Common.{◌≡◌, ℕ, ◌+◌, suc, eqb, List, [], ◌∷◌, ◌++◌, length, take, drop, Bool, true, false, not, cond, refl, ap, sym, ◌∙◌, arith, take-append-drop}
+use Rattle.std.proofs.Common.{◌≡◌, ℕ, ◌+◌, suc, eqb, List, [], ◌∷◌, ◌++◌, length, take, drop, Bool, true, false, not, cond, refl, ap, sym, ◌∙◌, arith, take-append-drop, append-nil}
 use Rattle.std.specs.List.{prefix_len}
 use Rattle.std.proofs.lemmas.Bool.{eqb-true}
 use Rattle.cas_pieces.specs.Lines.{is_inner, into_line, lines}
@@ -72,13 +72,6 @@ rest-feeds (b ∷ bs) c cs is = by_first (is_inner b) refl (rest-feeds bs c cs)
         let same : b ≡ c = first_same b c bs cs (sym (rest-feed b bs e) ∙ is) in
         sym same ∙ feed_at b (eqb b 10) refl e
 
-pub lines-last : (text line after : List ℕ) → line ≡ front text → after ≡ rest text → length after ≡ 0 → lines text ≡ line ∷ []
-lines-last text line after is rests none = rw is (lines-cut text ∙ ap (λ (r : List ℕ). front text ∷ later r) (sym rests ∙ is_nil after none))
-  where
-    is_nil : (xs : List ℕ) → length xs ≡ 0 → xs ≡ []
-    is_nil [] h = refl
-    is_nil (x ∷ xs) h = absurd (omega arith)
-
 pub lines-more : (text line after : List ℕ) (c : ℕ) (cs : List ℕ) → line ≡ front text → after ≡ rest text → after ≡ c ∷ cs → lines text ≡ line ∷ lines cs
 lines-more text line after c cs is rests some = rw is (lines-cut text ∙ ap (λ (r : List ℕ). front text ∷ later r) (sym rests ∙ some))
 
@@ -89,3 +82,13 @@ pub joined-more : (text line after : List ℕ) (c : ℕ) (cs : List ℕ) → lin
 joined-more text line after c cs is rests some =
     joined text line after is rests
     ∙ ap (λ (r : List ℕ). line ++ r) (some ∙ ap (λ (b : ℕ). b ∷ cs) (rest-feeds text c cs (sym rests ∙ some)))
+
+is_nil : (xs : List ℕ) → length xs ≡ 0 → xs ≡ []
+is_nil [] h = refl
+is_nil (x ∷ xs) h = absurd (omega arith)
+
+pub lines-last : (text line after : List ℕ) → line ≡ front text → after ≡ rest text → length after ≡ 0 → lines text ≡ text ∷ []
+lines-last text line after is rests none =
+    let empty : after ≡ [] = is_nil after none in
+    let whole : text ≡ line = joined text line after is rests ∙ (ap (λ (r : List ℕ). line ++ r) empty ∙ append-nil line) in
+    lines-cut text ∙ (ap (λ (r : List ℕ). front text ∷ later r) (sym rests ∙ empty) ∙ ap (λ (l : List ℕ). l ∷ []) (sym is ∙ sym whole))

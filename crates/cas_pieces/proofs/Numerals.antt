@@ -75,3 +75,13 @@ capped-overflow ds r fault parses failed shaped = rw (number-numeral ds shaped) 
         let given : r ≡ Ok (digits_value 10 ds) = parse_gives own 64 ds r parses parts.0 parts.1 (ltb-true _ _ small) in
         absurd cc
     by_size false large = refl
+
+-- digits that aren't read as 64 bits have another value than any number of them
+pub digits-overflow : {E : Type 0} (ds : List ℕ) (r : Result ℕ E) (fault : E) (n : ℕ) → ParsesUnsigned 64 10 ds r → r ≡ Err fault → list_all is_ascii_digit ds ≡ true → 0 < length ds → n < 2 ^ 64 → eqb (digits_value 10 ds) n ≡ false
+digits-overflow ds r fault n parses failed all some small = by_value (eqb (digits_value 10 ds) n) refl
+  where
+    by_value : (t : Bool) → eqb (digits_value 10 ds) n ≡ t → t ≡ false
+    by_value true e =
+        let given : r ≡ Ok (digits_value 10 ds) = parse_gives own 64 ds r parses all some (rw (eqb-true _ _ e) small) in
+        absurd cc
+    by_value false e = refl

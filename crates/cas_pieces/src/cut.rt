@@ -4,16 +4,17 @@ ghost use Rattle.std.specs.Prelude.{◌≡◌, ◌≤◌, ◌<◌, ◌++◌, ◌
 ghost use Rattle.std.specs.List.{prefix_len};
 ghost use Rattle.cas_pieces.specs.Lines as spec;
 
-/// The first line of a text without its line feed, and what follows that, if there is one.
-pub fn cut_line(text: &[u8]) -> (&[u8], Option<&[u8]>)
-    ensures lines { MatchOption result.1 (spec.lines text.now ≡ result.0.now ∷ []) (λ rest. spec.lines text.now ≡ result.0.now ∷ spec.lines rest.now) }
-    ensures joined { MatchOption result.1 (text.now ≡ result.0.now) (λ rest. text.now ≡ result.0.now ++ 10 ∷ rest.now) }
-    ensures shorter { IfSome result.1 (λ rest. length rest.now < length text.now) }
+/// The first line of a text without its line feed, and what follows that. None where the text has no line feed, and so is one
+/// line.
+pub fn cut_line(text: &[u8]) -> Option<(&[u8], &[u8])>
+    ensures lines { MatchOption result (spec.lines text.now ≡ text.now ∷ []) (λ p. spec.lines text.now ≡ p.0.now ∷ spec.lines p.1.now) }
+    ensures joined { IfSome result (λ p. text.now ≡ p.0.now ++ 10 ∷ p.1.now) }
+    ensures shorter { IfSome result (λ p. length p.1.now < length text.now) }
 {
     let (line, rest) = text.split_at(line_len(text));
     match rest.split_first() {
-        Some((_, after)) => (line, Some(after)),
-        None => (line, None),
+        Some((_, after)) => Some((line, after)),
+        None => None,
     }
 }
 

@@ -3,12 +3,13 @@
 //! `cas_base`.
 #![tactic(auto)]
 
-pub mod laws;
 mod cut;
+pub mod laws;
 mod line;
 mod number;
 mod piece;
+mod which;
 
 pub use cut::cut_line;
-pub use line::split;
+pub use line::{first_piece, split};
 pub use piece::{Mark, Piece, Word};

@@ -22,8 +22,8 @@ pub fn split<'a>(pieces: &mut Vec<Piece<'a>>, line: &'a [u8]) -> Result<(), NoMe
     Ok(())
 }
 
-// The first piece of a text, and what follows it.
-fn first_piece<'a>(text: &'a [u8]) -> Option<(Piece<'a>, &'a [u8])>
+/// The first piece of a text, and what follows it.
+pub fn first_piece<'a>(text: &'a [u8]) -> Option<(Piece<'a>, &'a [u8])>
     ensures piece { MatchOption result (text.now ≡ []) (λ p. spec.pieces text.now ≡ p.0 ∷ spec.pieces p.1.now) }
     ensures shorter { IfSome result (λ p. length p.1.now < length text.now) }
 {

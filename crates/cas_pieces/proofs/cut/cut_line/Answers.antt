@@ -1,6 +1,6 @@
-use Rattle.std.proofs.Common.{◌∙◌}
+
 use Rattle.std.specs.List.{prefix_len}
-use Rattle.std.proofs.Common.{◌≡◌, take, drop, ap, ℕ, List}
+use Rattle.std.proofs.Common.{◌∙◌, take, drop, ap, ℕ}
 use Rattle.cas_pieces.specs.Lines.{is_inner}
 use Rattle.cas_pieces.proofs.Cutting.{lines-last, lines-more, joined-more}
 use Rattle.cas_pieces.proofs.cut.cut_line.Goals as goal

@@ -1,0 +1,5 @@
+pub mod Accepted
+pub mod Bodies
+pub mod Lines
+pub mod Read
+pub mod Steps
