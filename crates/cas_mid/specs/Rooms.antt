@@ -4,9 +4,14 @@ use Rattle.cas_runs.specs.Bounds.{total}
 use Rattle.cas_mid.specs.Trees.{Expression, word, temporary, own, global, element, load, unop, binop, if_, Target, to_global, to_element, to_pointer, Statement, skip, set, store, call, seq, if_else, loop, block, exit, return_, lock, unlock, print, Statements, no_more, one_more, Routine}
 
 -- the values of an address, if it isn't one of own words, which needs none
-abbrev pub unless_own : Expression → (values : ℕ) → ℕ
-unless_own (own n) values = 0
-unless_own _ values = values
+abbrev pub unless_own : Expression → (count : ℕ) → ℕ
+unless_own (own n) count = 0
+unless_own _ count = count
+
+-- the values of an expression, if it isn't a temporary, which needs none
+abbrev pub unless_temporary : Expression → (count : ℕ) → ℕ
+unless_temporary (temporary t) count = 0
+unless_temporary _ count = count
 
 -- how many values an expression has besides its own. The branches of an If give its own value
 abbrev pub inner_values : Expression → ℕ
@@ -14,15 +19,15 @@ inner_values (word n) = 0
 inner_values (temporary t) = 0
 inner_values (own n) = 0
 inner_values (global g) = 0
-inner_values (element g s a) = inner_values a + 1
-inner_values (load a) = unless_own a (inner_values a + 1)
-inner_values (unop o a) = inner_values a + 1
-inner_values (binop o a b) = inner_values a + 1 + (inner_values b + 1)
-inner_values (if_ c a b) = inner_values c + 1 + (inner_values a + inner_values b)
+inner_values (element g s a) = unless_temporary a (inner_values a + 1)
+inner_values (load a) = unless_own a (unless_temporary a (inner_values a + 1))
+inner_values (unop o a) = unless_temporary a (inner_values a + 1)
+inner_values (binop o a b) = unless_temporary a (inner_values a + 1) + unless_temporary b (inner_values b + 1)
+inner_values (if_ c a b) = unless_temporary c (inner_values c + 1) + (inner_values a + inner_values b)
 
 -- the values of an expression, and those of what a store writes
 abbrev pub values : Expression → ℕ
-values a = inner_values a + 1
+values a = unless_temporary a (inner_values a + 1)
 
 abbrev pub target_values : Target → ℕ
 target_values (to_global g) = 0
@@ -41,7 +46,7 @@ optional_values (Some a) = values a
 abbrev mutual
   pub statement_values : Statement Expression Target Expression → ℕ
   statement_values skip = 0
-  statement_values (set t a) = values a
+  statement_values (set t a) = inner_values a
   statement_values (store to a) = target_values to + values a
   statement_values (call t f args) = argument_values args
   statement_values (seq bs) = all_values bs

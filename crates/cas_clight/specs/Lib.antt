@@ -1,0 +1,2 @@
+pub mod Clight
+pub mod Units
