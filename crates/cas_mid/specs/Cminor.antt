@@ -12,8 +12,11 @@ use Rattle.cas_mid.specs.Code.{cminor_routine}
 abbrev pub stack_address : expressions.Own
 stack_address f offset = Pointer (Own f.function f.serial 0) offset
 
+abbrev pub CminorState : Type 0
+CminorState = State Expression Target Expression
+
 abbrev pub cminor_parts : Parts Expression Target Expression
 cminor_parts = parts_by stack_address
 
-abbrev pub cminor : Activations CminorFun (State Expression Target Expression)
+abbrev pub cminor : Activations CminorFun CminorState
 cminor = activations cminor_parts cminor_routine

@@ -1,0 +1,5 @@
+pub mod Asked
+pub mod Conditions
+pub mod Values
+pub mod Simulation
+pub mod Entry

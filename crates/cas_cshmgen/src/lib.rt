@@ -1,0 +1,2 @@
+//! Cshmgen: from Clight to Csharpminor.
+#![tactic(auto)]
