@@ -1,5 +1,5 @@
--- Clight as a language of the layer of calls. The meaning of statements and expressions is that of a thread's step: what
--- they ask for is asked here of the thread's share and of blocks of memory, each local a block. What a call passes to a
+-- Clight as a language of the layer of calls. The meaning of statements and expressions is that of a thread's step:
+-- what they ask for is asked here of the thread's share and of blocks of memory, each local a block. What a call passes to a
 -- local, as an argument or as a result, is stored by the activation's next step, as a part of it: so each step of a
 -- thread of a whole program is one step here.
 use Rattle.std.specs.Prelude.{ℕ, zero, suc, ◌+◌, Bool, true, false, List, [], ◌∷◌, map, length, sum, Option, Some, None, slice_get}

@@ -1,11 +1,10 @@
 -- What is asked first, and then what follows.
-use Rattle.std.proofs.Common.{◌≡◌, ℕ, List, Option, Some, None, refl, ap}
+use Rattle.std.proofs.Common.{◌≡◌, List, Option, Some, None, refl, ap}
 use Rattle.std.specs.Prelude.{slice_get}
 use Rattle.cas_base.specs.declared.decl.Decl.{Decl}
 use Rattle.cas_step.specs.Asks as asks
 use Rattle.cas_step.specs.Asks.{Asks}
-use Rattle.cas_runs.specs.Naming.{Value}
-use Rattle.cas_runs.specs.Access.{Accesses, Reads, Loads, Looks, Fails, with_value}
+use Rattle.cas_runs.specs.Access.{Accesses, Reads, Loads, Looks, with_value}
 use Rattle.cas_clight.specs.Clight.{Object, decoded, asked}
 
 -- functions that are equal at each argument

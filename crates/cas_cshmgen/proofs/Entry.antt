@@ -1,8 +1,5 @@
 -- Activations begin, and each step is paid for.
-use Rattle.std.proofs.Common.{◌≡◌, ℕ, zero, suc, ◌+◌, ◌*◌, ◌<◌, ◌≤◌, List, [], ◌∷◌, Option, Some, None, Bool, true, false, if◌then◌else◌, length, slice_get, nat_lt, refl, sym, ap, ◌∙◌, subst, arith}
-use Rattle.std.specs.Prelude.{map}
-use Rattle.std.proofs.lemmas.Bool.Decides.{nat_tests}
-use Rattle.cas_base.specs.Ty.{words_of_ty}
+use Rattle.std.proofs.Common.{◌≡◌, ℕ, zero, suc, ◌+◌, ◌*◌, ◌<◌, ◌≤◌, List, [], ◌∷◌, Option, Some, None, length, slice_get, refl, sym, ap, subst, arith}
 use Rattle.cas_base.specs.Word.{narrowed}
 use Rattle.cas_base.specs.declared.decl.Decl.{Decl}
 use Rattle.cas_base.specs.declared.kind.Kind.{Kind}
@@ -12,24 +9,21 @@ use Rattle.cas_typed.specs.declared.tree.Destination.{Destination}
 use Rattle.cas_typed.specs.Resolved as t
 use Rattle.cas_typed.specs.Resolved.{TypedExprTree, TypedStmtTree, TypedStmtOption, TypedStmtList}
 use Rattle.cas_step.specs.Items as items
-use Rattle.cas_runs.specs.Held.{Activation, Leads, meets_there, Begin, begins_at_once, BeginIf, Amounts, both_store}
-use Rattle.cas_runs.specs.Label.{NameBytes, same_name}
+use Rattle.cas_runs.specs.Held.{Activation, Leads, meets_there, begins_at_once, BeginIf, both_store}
 use Rattle.cas_runs.specs.Naming.{Value, Number, Pointer, Hidden, Memory}
-use Rattle.cas_runs.specs.Bounds.{total, most_of, greater, first_price, entry_price}
-use Rattle.cas_runs.specs.Access.{Accesses, Stores, Then, with_value}
-use Rattle.cas_runs.specs.Calls.{Last, set_blocks, fresh}
-use Rattle.cas_runs.specs.Unit.{Setting, found}
+use Rattle.cas_runs.specs.Bounds.{total, first_price, entry_price}
+use Rattle.cas_runs.specs.Access.{Accesses, Stores, with_value}
+use Rattle.cas_runs.specs.Calls.{Last}
+use Rattle.cas_runs.specs.Unit.{Setting}
 use Rattle.cas_mid.specs.declared.tree.CsharpFun.{CsharpFun}
-use Rattle.cas_mid.specs.Trees as st
-use Rattle.cas_mid.specs.Trees.{Routine, Expression, Target, one_more, no_more}
+use Rattle.cas_mid.specs.Trees.{Routine, Expression, Target}
 use Rattle.cas_mid.specs.Operators.{on_word}
-use Rattle.cas_mid.specs.Language.{begin, begin_all, Frame, goes, continues, filled, begun}
-use Rattle.cas_mid.specs.Code.{csharp_routine}
+use Rattle.cas_mid.specs.Language.{begin, begin_all, Frame, goes, filled, begun}
 use Rattle.cas_mid.specs.Csharpminor.{CsharpState, csharpminor, csharp_parts, value}
 use Rattle.cas_clight.specs.Clight as clight
 use Rattle.cas_clight.specs.Clight.{ClightFun, ClightState, Passed, own_home, storing, also_passed, parameters_of, result_of, cells_of}
-use Rattle.cas_cshmgen.specs.Makes.{Csharp, Csharps, made_stmts, converted, keeps, closing, stored_arguments, made_body, made_routine}
-use Rattle.cas_cshmgen.specs.Match.{Rest, IsCheap, IsSmall, AreSmall, IsTestSmall, IsPartSmall, IsStepSmall, MatchRest, at_end, MatchCont, at_rest, HasResult, MatchStates, runs, has_result, IsMade}
+use Rattle.cas_cshmgen.specs.Makes.{Csharps, made_stmts, converted, keeps, closing, stored_arguments, made_routine}
+use Rattle.cas_cshmgen.specs.Match.{Rest, IsSmall, AreSmall, IsTestSmall, IsPartSmall, IsStepSmall, at_end, at_rest, HasResult, MatchStates, runs, has_result, IsMade}
 use Rattle.cas_cshmgen.proofs.Simulation.{R, nodes_in, cells_in, held, price_at, all_begin, Does, F, one_on, cont_paid}
 
 -- with more nodes

@@ -1,5 +1,5 @@
 -- The steps of Csharpminor's activations do what those of Clight's do, one case a form.
-use Rattle.std.proofs.Common.{◌≡◌, ℕ, zero, suc, ◌+◌, ◌*◌, ◌<◌, ◌≤◌, List, [], ◌∷◌, Option, Some, None, Bool, true, false, if◌then◌else◌, length, slice_get, slice_set, nat_lt, nat_eq, refl, sym, ap, ◌∙◌, subst, arith, lt-ltb}
+use Rattle.std.proofs.Common.{◌≡◌, ℕ, ◌+◌, ◌*◌, ◌<◌, ◌≤◌, List, [], ◌∷◌, Option, Some, None, Bool, true, false, if◌then◌else◌, length, slice_get, nat_lt, nat_eq, refl, sym, ap, ◌∙◌, subst, arith, lt-ltb}
 use Rattle.std.specs.Prelude.{map}
 use Rattle.cas_base.specs.declared.act.Why.TheVariants.{Index}
 use Rattle.cas_base.specs.declared.decl.Decl.{Decl}
@@ -19,11 +19,11 @@ use Rattle.cas_step.specs.Evaluate as ev
 use Rattle.cas_step.specs.Evaluate.{value_of, values_of, test_of, condition, of_global, of_object}
 use Rattle.cas_step.specs.Items as items
 use Rattle.cas_step.specs.Items.{Todo, begin_part, chooses, statement_deed, deed_of, after_break, after_continue, jumps, into}
-use Rattle.cas_runs.specs.Held.{Activation, Held, MatchIf, LastHeld, goes_held, takes_held, gives_held, puts_held, calls_held, returns_held, Amounts, both_write, both_store, source_looks, onward, at_last, fails_too}
-use Rattle.cas_runs.specs.Naming.{Home, Own, Value, Number, Pointer, Hidden, Memory}
+use Rattle.cas_runs.specs.Held.{Activation, Held, MatchIf, goes_held, takes_held, gives_held, puts_held, calls_held, returns_held, Amounts, both_write, both_store, source_looks, onward, at_last, fails_too}
+use Rattle.cas_runs.specs.Naming.{Own, Value, Memory}
 use Rattle.cas_runs.specs.Bounds.{total, most_of}
-use Rattle.cas_runs.specs.Access.{Accesses, Writes, Stores, Then, Fails, with_value, length_of as size_in}
-use Rattle.cas_runs.specs.Calls.{Last, Goes, Takes, Gives, Puts, Calls}
+use Rattle.cas_runs.specs.Access.{Accesses, Writes, Stores, Then, with_value, length_of as size_in}
+use Rattle.cas_runs.specs.Calls.{Last, Takes, Gives, Puts, Calls}
 use Rattle.cas_runs.specs.Unit.{Setting}
 use Rattle.cas_runs.specs.Passing.{Relation, AllMatch, relation}
 use Rattle.cas_runs.proofs.Cells.{set_same, set_length}
@@ -37,7 +37,7 @@ use Rattle.cas_mid.specs.Csharpminor.{CsharpState, csharpminor, csharp_parts, va
 use Rattle.cas_clight.specs.Clight as clight
 use Rattle.cas_clight.specs.Clight.{ClightFun, ClightState, Object, encoded, asked, context_of, entity_of, entity_by, own_home, does, passing, parameters_of, result_of, cells_of}
 use Rattle.cas_cshmgen.specs.Makes.{Csharp, Csharps, name_of, name_at, made_expr, made_condition, made_exprs, made_stmt, made_part, made_stmts, made_call, made_return, keeps, tests, while_loop, do_loop, for_loop, closing}
-use Rattle.cas_cshmgen.specs.Match.{Rest, IsCheap, IsSmall, AreSmall, IsTestSmall, IsPartSmall, IsStepSmall, IsLoopSmall, IsForSmall, IsSimple, MatchRest, at_end, begins, in_while, in_do, in_for, MatchCont, at_rest, at_skip, at_while, at_do, at_next, at_loop, at_for, at_no_first, at_first, HasResult, frame_of, MatchStates, runs, has_result, IsMade}
+use Rattle.cas_cshmgen.specs.Match.{Rest, IsCheap, IsSmall, AreSmall, IsPartSmall, IsStepSmall, IsLoopSmall, IsForSmall, IsSimple, MatchRest, at_end, begins, in_while, in_do, in_for, MatchCont, at_rest, at_skip, at_while, at_do, at_next, at_loop, at_for, at_no_first, at_first, HasResult, frame_of, MatchStates, runs, has_result, IsMade}
 use Rattle.cas_cshmgen.proofs.Asked.{asked_then, then_then}
 use Rattle.cas_cshmgen.proofs.Values.{cell_of, word_amounts, element_amounts, value_amounts, tested}
 
@@ -269,7 +269,7 @@ module _ (setting : Setting) (ts : List CsharpFun) (ss : List ClightFun) (act : 
         (valued i credit m _ _ Effects (λ u.
         subst (λ y. Does credit m (on_word (encoded u) (λ j. with_value (place_at (number_of sign j)) (λ q. value F (made_expr D a) (λ v. on_word v (λ x. Writes (name_at D item) q x (goes csharp_parts F rest)))))) y) (ap (λ x. asked D x Effects) (sym (then_then (ev.element_place Context item sign u) (λ q. asks.gives (of_global item q)) (λ c. and_then (value_of Context a) (λ v. into c v cont)))))
         (element_amounts (R setting ts ss) (held ss) (λ i. refl) act fn serial temps credit m item sign u (λ d q. value F (made_expr D a) (λ v. on_word v (λ x. Writes d.name q x (goes csharp_parts F rest)))) (Assigned a item cont) Effects (λ d is q. valued a credit m _ (λ v. into (of_global item q) v cont) Effects (write_at item q d is credit m cont rest h)) (slice_get D item) refl _
-            (λ d is q. ap (λ (o : Option Decl). value F (made_expr D a) (λ v. on_word v (λ x. Writes (name_of o) q x (goes csharp_parts F rest)))) is))))
+        (λ d is q. ap (λ (o : Option Decl). value F (made_expr D a) (λ v. on_word v (λ x. Writes (name_of o) q x (goes csharp_parts F rest)))) is))))
     assign_amounts p (to_behind k q) a cont rest h credit m =
         subst (λ y. Does credit m (statement csharp_parts F (M (t.assign p (to_behind k q) a)) rest) y) (ap (λ x. asked D x Effects) (sym (then_then (value_of Context q) (λ v. and_then (asks.pointed v) (λ b. and_then (cell_behind b) (λ c. asks.gives (of_object c.0 c.1)))) (λ c. and_then (value_of Context a) (λ v. into c v cont)))))
         (valued q credit m _ _ Effects (λ u. behind_assigned a credit m cont rest h u))
@@ -302,7 +302,7 @@ module _ (setting : Setting) (ts : List CsharpFun) (ss : List ClightFun) (act : 
         (all_valued args credit m _ (λ vs. Effects (items.calls item vs kept cont)) (λ us. by us o is))
       where
         by : (us : List (asks.Value Object)) (o : Option Decl) → slice_get D item ≡ o → Does credit m (Then (Calls (name_of o) (map encoded us) next)) (Effects (items.calls item us kept cont))
-        by us None e = subst (λ (v : Option Decl). Does credit m (Then (Calls [] (map encoded us) next)) (with_value v (λ (x : Decl). Then (Calls x.name (map encoded us) (clight.resumed fn serial cont kept))))) (sym e) fails_too
+        by us None e = subst (λ (v : Option Decl). Does credit m (Then (Calls (name_of None) (map encoded us) next)) (with_value v (λ (x : Decl). Then (Calls x.name (map encoded us) (clight.resumed fn serial cont kept))))) (sym e) fails_too
         by us (Some d) e = subst (λ (v : Option Decl). Does credit m (Then (Calls d.name (map encoded us) next)) (with_value v (λ (x : Decl). Then (Calls x.name (map encoded us) (clight.resumed fn serial cont kept))))) (sym e)
             (at_last (calls_held (self_values (map encoded us)) refl (λ vs xs same count t' s' tk sk settled.
             subst (λ (m' : Memory). MatchIf (R setting ts ss) (held ss) act (next vs) t' (clight.resumed fn serial cont kept xs) m') settled
@@ -318,16 +318,15 @@ module _ (setting : Setting) (ts : List CsharpFun) (ss : List ClightFun) (act : 
     return_amounts (Some a) credit m = valued a credit m _ (λ v. asks.gives (items.returns (Some v))) Effects (λ u. at_last (returns_held (refl, tt) refl))
 
     lock_amounts : (item : ℕ) (cont : List Todo) (rest : Rest) → MatchCont N fn cont rest → (credit : ℕ) (m : Memory) (o : Option Decl) → slice_get D item ≡ o → Does credit m (Then (Takes (name_of o) (at csharp_parts F rest))) (Effects (items.locks item cont))
-    lock_amounts item cont rest h credit m None e = subst (λ (v : Option Decl). Does credit m (Then (Takes [] (at csharp_parts F rest))) (with_value v (λ (x : Decl). Then (Takes x.name (clight.at fn serial [] cont))))) (sym e) fails_too
+    lock_amounts item cont rest h credit m None e = subst (λ (v : Option Decl). Does credit m (Then (Takes (name_of None) (at csharp_parts F rest))) (with_value v (λ (x : Decl). Then (Takes x.name (clight.at fn serial [] cont))))) (sym e) fails_too
     lock_amounts item cont rest h credit m (Some d) e = subst (λ (v : Option Decl). Does credit m (Then (Takes d.name (at csharp_parts F rest))) (with_value v (λ (x : Decl). Then (Takes x.name (clight.at fn serial [] cont))))) (sym e) (at_last (takes_held (runs room h)))
 
     unlock_amounts : (item : ℕ) (cont : List Todo) (rest : Rest) → MatchCont N fn cont rest → (credit : ℕ) (m : Memory) (o : Option Decl) → slice_get D item ≡ o → Does credit m (Then (Gives (name_of o) (at csharp_parts F rest))) (Effects (items.unlocks item cont))
-    unlock_amounts item cont rest h credit m None e = subst (λ (v : Option Decl). Does credit m (Then (Gives [] (at csharp_parts F rest))) (with_value v (λ (x : Decl). Then (Gives x.name (clight.at fn serial [] cont))))) (sym e) fails_too
+    unlock_amounts item cont rest h credit m None e = subst (λ (v : Option Decl). Does credit m (Then (Gives (name_of None) (at csharp_parts F rest))) (with_value v (λ (x : Decl). Then (Gives x.name (clight.at fn serial [] cont))))) (sym e) fails_too
     unlock_amounts item cont rest h credit m (Some d) e = subst (λ (v : Option Decl). Does credit m (Then (Gives d.name (at csharp_parts F rest))) (with_value v (λ (x : Decl). Then (Gives x.name (clight.at fn serial [] cont))))) (sym e) (at_last (gives_held (runs room h)))
 
     print_amounts : (a : TypedExprTree) → (cont : List Todo) (rest : Rest) → MatchCont N fn cont rest → (credit : ℕ) (m : Memory) → Does credit m (value F (made_expr D a) (λ v. on_word v (λ i. Then (Puts i (at csharp_parts F rest))))) (asked D (and_then (value_of Context a) (λ v. and_then (asks.word_in v) (λ i. asks.gives (items.prints i cont)))) Effects)
     print_amounts a cont rest h credit m = valued a credit m _ (λ v. and_then (asks.word_in v) (λ i. asks.gives (items.prints i cont))) Effects (λ u. word_amounts (R setting ts ss) (held ss) (λ i. refl) act fn serial temps credit m u _ (λ i. asks.gives (items.prints i cont)) Effects (λ i. at_last (puts_held (runs room h))))
-
 
     -- a price and a credit within what is paid
     paid : {bound : ℕ} {cont : List Todo} {rest : Rest} (credit : ℕ) → price_at rest + credit ≤ bound → ((m : Memory) → Does credit m (continues csharp_parts F rest) (asked D (deed_of Context (result_of fn) cont) Effects)) → Paid bound cont rest

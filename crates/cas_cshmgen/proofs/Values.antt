@@ -1,12 +1,9 @@
 -- What is made of an expression has its value.
-use Rattle.std.proofs.Common.{◌≡◌, ℕ, zero, suc, ◌+◌, List, [], ◌∷◌, Option, Some, None, Bool, true, false, if◌then◌else◌, length, slice_get, nat_lt, nat_eq, refl, sym, ap, subst, ◌∙◌}
+use Rattle.std.proofs.Common.{◌≡◌, ℕ, zero, suc, ◌+◌, List, Option, Some, None, Bool, true, false, if◌then◌else◌, slice_get, nat_lt, nat_eq, refl, sym, ap, subst}
 use Rattle.std.specs.Prelude.{ℤ, pos, negsuc, ◌+ℤ◌, neg_ℤ, not, ◌||◌, nat_le}
-use Rattle.cas_base.specs.Ty.{words_of_ty}
 use Rattle.cas_base.specs.Word.{narrowed, word_sub}
 use Rattle.cas_base.specs.declared.act.Why.TheVariants.{Index, Across}
 use Rattle.cas_base.specs.declared.decl.Decl.{Decl}
-use Rattle.cas_base.specs.declared.decl.Form.{Form}
-use Rattle.cas_base.specs.declared.decl.Form.TheVariants.{Lock, Shared, Table, Function}
 use Rattle.cas_syntax.specs.declared.tree.BinaryOperator.{BinaryOperator}
 use Rattle.cas_syntax.specs.declared.tree.BinaryOperator.TheVariants as bin
 use Rattle.cas_typed.specs.declared.tree.Signedness.{Signedness}
@@ -25,14 +22,11 @@ use Rattle.cas_runs.specs.Naming.{Home, Value, Number, Pointer, Hidden, Memory, 
 use Rattle.cas_runs.specs.Access.{Accesses, Reads, Loads, Looks, Fails, with_value, length_of}
 use Rattle.cas_runs.specs.Calls.{Last}
 use Rattle.cas_runs.specs.Passing.{Relation}
-use Rattle.cas_mid.specs.declared.tree.Binop.TheVariants as bo
-use Rattle.cas_mid.specs.Trees as x
-use Rattle.cas_mid.specs.Trees.{Expression}
 use Rattle.cas_mid.specs.Operators.{result_of, binary_word, place_at, either, on_word, on_pointer, on_truth, moved, only_if, apart, equal, ordered, compared}
 use Rattle.cas_mid.specs.Language.{Frame}
 use Rattle.cas_mid.specs.Csharpminor.{CsharpState, value}
 use Rattle.cas_clight.specs.Clight.{ClightFun, ClightState, Object, same_object, decoded, encoded, asked, context_of, entity_of, entity_by, keeps_pointer, own_home}
-use Rattle.cas_cshmgen.specs.Makes.{made_expr, condition_of, name_at, name_of}
+use Rattle.cas_cshmgen.specs.Makes.{made_expr, condition_of, name_of}
 use Rattle.cas_cshmgen.proofs.Asked.{asked_then, then_then, fun_ext}
 use Rattle.cas_cshmgen.proofs.Conditions.{same_condition}
 

@@ -1,10 +1,10 @@
--- What Cshmgen makes of each form of Clight. All locals stay blocks of memory; temporaries are the parameters, as they come,
--- and one more for results.
-use Rattle.std.specs.Prelude.{ℕ, zero, suc, ◌+◌, List, [], ◌∷◌, length, map, Option, Some, None, slice_get}
+-- What Cshmgen makes of each form of Clight. All locals stay blocks of memory; temporaries are the parameters, as they
+-- come, and one more for results.
+use Rattle.std.specs.Prelude.{ℕ, Bool, true, false, zero, suc, ◌+◌, List, [], ◌∷◌, length, map, Option, Some, None, slice_get}
 use Rattle.cas_base.specs.Ty.{words_of_ty}
 use Rattle.cas_base.specs.declared.decl.Decl.{Decl}
 use Rattle.cas_base.specs.declared.kind.Ty.{Ty}
-use Rattle.cas_base.specs.declared.kind.Ty.TheVariants.{Void, Int, Ptr, Array}
+use Rattle.cas_base.specs.declared.kind.Ty.TheVariants.{Int, Ptr}
 use Rattle.cas_syntax.specs.declared.tree.BinaryOperator.TheVariants as op
 use Rattle.cas_typed.specs.declared.tree.Destination.{Destination}
 use Rattle.cas_typed.specs.Resolved as t
@@ -12,20 +12,25 @@ use Rattle.cas_typed.specs.Resolved.{TypedExprTree, TypedTargetTree, to_local, t
 use Rattle.cas_runs.specs.Label.{NameBytes}
 use Rattle.cas_mid.specs.declared.tree.Unop.TheVariants.{OnWord, Narrow}
 use Rattle.cas_mid.specs.declared.tree.Binop.TheVariants.{OnWords, PointerPlus, PlusPointer, PointerMinus, PointerDifference, Compare}
+use Rattle.cas_mid.specs.Operators.{either}
 use Rattle.cas_mid.specs.Trees.{Expression, word, temporary, own, global, element, load, unop, binop, if_, Target, to_global, to_element, to_pointer, Statement, skip, store, call, seq, if_else, loop, block, exit, return_, lock, unlock, print, Statements, no_more, one_more, Routine}
 use Rattle.cas_clight.specs.Clight.{ClightFun, parameters_of, result_of}
 
--- the name of an item
+-- the name of an item, or `_`, which no typed module needs
 abbrev pub name_of : Option Decl → NameBytes
-name_of None = []
+name_of None = 95 ∷ []
 name_of (Some d) = d.name
 
 abbrev pub name_at : List Decl → (item : ℕ) → NameBytes
 name_at ds g = name_of (slice_get ds g)
 
 -- an expression as a condition: whether a pointer differs from null is whether it is true
+abbrev pub is_null : Expression → Bool
+is_null (word zero) = true
+is_null _ = false
+
 abbrev pub condition_of : Expression → Expression
-condition_of (binop (Compare op.Ne) p (word zero)) = p
+condition_of (binop (Compare op.Ne) p q) = either p (binop (Compare op.Ne) p q) (is_null q)
 condition_of a = a
 
 -- an expression
@@ -56,8 +61,7 @@ abbrev pub made_condition : List Decl → TypedExprTree → Expression
 made_condition ds c = condition_of (made_expr ds c)
 
 abbrev pub made_exprs : List Decl → List TypedExprTree → List Expression
-made_exprs ds [] = []
-made_exprs ds (a ∷ args) = made_expr ds a ∷ made_exprs ds args
+made_exprs ds args = map (made_expr ds) args
 
 -- the target of an assignment
 abbrev pub made_target : List Decl → TypedTargetTree → Target

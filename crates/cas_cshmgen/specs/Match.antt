@@ -7,7 +7,7 @@
 --     Clight:       y ────────── step ────────► y'      memory m
 --
 -- The continuations match statement by statement; in loops, the ends of Blocks are those of the turn and of the loop.
-use Rattle.std.specs.Prelude.{◌≡◌, ⊤, ℕ, ◌+◌, ◌*◌, ◌<◌, ◌≤◌, List, [], ◌∷◌, length, map, Option, Some, None, slice_get}
+use Rattle.std.specs.Prelude.{◌≡◌, ⊤, ℕ, ◌*◌, ◌<◌, ◌≤◌, List, [], ◌∷◌, length, map, Option, Some, None, slice_get}
 use Rattle.cas_base.specs.Ty.{words_of_ty}
 use Rattle.cas_base.specs.declared.decl.Decl.{Decl}
 use Rattle.cas_base.specs.declared.place.Place.{Place}
@@ -21,7 +21,7 @@ use Rattle.cas_runs.specs.Naming.{Value, Memory}
 use Rattle.cas_runs.specs.Bounds.{total}
 use Rattle.cas_mid.specs.declared.tree.CsharpFun.{CsharpFun}
 use Rattle.cas_mid.specs.Trees.{Expression, Target, skip, block}
-use Rattle.cas_mid.specs.Language.{Item, begin, end_block, Continuation, Frame, at, begin_all, operand_prices}
+use Rattle.cas_mid.specs.Language.{begin, end_block, Continuation, Frame, at, begin_all, operand_prices}
 use Rattle.cas_mid.specs.Code.{csharp_routine}
 use Rattle.cas_mid.specs.Csharpminor.{CsharpState, csharp_parts}
 use Rattle.cas_clight.specs.Clight as clight
@@ -122,7 +122,8 @@ module _ (n : ℕ) (fn : ClightFun) where
         → MatchRest (items.begun p c a ∷ cont)
         (end_block ∷ begin (tests fn.decls (Some c)) ∷ begin (do_loop fn.decls c (made a)) ∷ end_block ∷ rest)
     in_for :
-        {p : Place} {c : Option TypedExprTree} {u : TypedStmtOption} {a : TypedStmtTree} {cont : List Todo} {rest : Rest}
+        {p : Place} {c : Option TypedExprTree} {u : TypedStmtOption} {a : TypedStmtTree}
+        {cont : List Todo} {rest : Rest}
         → IsForSmall n fn.decls c u a
         → MatchRest cont rest
         → MatchRest (items.next p u ∷ items.loop p c u a ∷ cont)
@@ -144,25 +145,29 @@ module _ (n : ℕ) (fn : ClightFun) where
         → MatchCont (items.begun p c a ∷ cont)
         (begin (tests fn.decls (Some c)) ∷ begin (do_loop fn.decls c (made a)) ∷ end_block ∷ rest)
     at_next :
-        {p : Place} {c : Option TypedExprTree} {u : TypedStmtOption} {a : TypedStmtTree} {cont : List Todo} {rest : Rest}
+        {p : Place} {c : Option TypedExprTree} {u : TypedStmtOption} {a : TypedStmtTree}
+        {cont : List Todo} {rest : Rest}
         → IsForSmall n fn.decls c u a
         → MatchRest cont rest
         → MatchCont (items.next p u ∷ items.loop p c u a ∷ cont)
         (begin (part u) ∷ begin (for_made c u a) ∷ end_block ∷ rest)
     at_loop :
-        {p : Place} {c : Option TypedExprTree} {u : TypedStmtOption} {a : TypedStmtTree} {cont : List Todo} {rest : Rest}
+        {p : Place} {c : Option TypedExprTree} {u : TypedStmtOption} {a : TypedStmtTree}
+        {cont : List Todo} {rest : Rest}
         → IsForSmall n fn.decls c u a
         → MatchRest cont rest
         → MatchCont (items.loop p c u a ∷ cont) (begin (for_made c u a) ∷ end_block ∷ rest)
     -- after the first part of a for
     at_for :
-        {p : Place} {c : Option TypedExprTree} {u : TypedStmtOption} {a : TypedStmtTree} {cont : List Todo} {rest : Rest}
+        {p : Place} {c : Option TypedExprTree} {u : TypedStmtOption} {a : TypedStmtTree}
+        {cont : List Todo} {rest : Rest}
         → IsForSmall n fn.decls c u a
         → MatchRest cont rest
         → MatchCont (items.loop p c u a ∷ cont) (begin (block (for_made c u a)) ∷ rest)
     -- there is none
     at_no_first :
-        {p : Place} {c : Option TypedExprTree} {u : TypedStmtOption} {a : TypedStmtTree} {cont : List Todo} {rest : Rest}
+        {p : Place} {c : Option TypedExprTree} {u : TypedStmtOption} {a : TypedStmtTree}
+        {cont : List Todo} {rest : Rest}
         → IsForSmall n fn.decls c u a
         → MatchRest cont rest
         → MatchCont (items.loop p c u a ∷ cont) (begin skip ∷ begin (block (for_made c u a)) ∷ rest)
