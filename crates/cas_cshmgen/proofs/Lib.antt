@@ -3,3 +3,4 @@ pub mod Conditions
 pub mod Values
 pub mod Simulation
 pub mod Entry
+pub mod Statements

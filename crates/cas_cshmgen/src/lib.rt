@@ -20,5 +20,6 @@
 #![tactic(auto)]
 
 mod expr;
+mod parts;
 
 pub use expr::make_expr;

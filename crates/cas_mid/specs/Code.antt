@@ -59,10 +59,10 @@ module _ {E M C E' M' C' : Type 0} (e : E' → E) (m : M' → M) (c : C' → C) 
     statements_of end_of-Stmt = no_more
     statements_of (more_of-Stmt a rest) = one_more (statement_of a) (statements_of rest)
 
-  -- the statements of a list
-  abbrev pub list_of : List (Stmt E' M' C') → Statements E M C
-  list_of [] = no_more
-  list_of (a ∷ rest) = one_more (statement_of a) (list_of rest)
+  -- the statements of a list, and then the rest
+  abbrev pub list_of : List (Stmt E' M' C') → Statements E M C → Statements E M C
+  list_of [] rest = rest
+  list_of (a ∷ list) rest = one_more (statement_of a) (list_of list rest)
 
 -- the number of parameters of what is declared
 abbrev pub parameter_count : Form → ℕ
@@ -81,10 +81,27 @@ abbrev pub csharp_statement :
 csharp_statement =
     statement_of (expression_of (λ a. a.0)) (target_of (λ a. a.0)) (expression_of (λ a. a.0))
 
+abbrev pub csharp_list :
+    List (Stmt (Expr AddressOf) (Address AddressOf) (Expr AddressOf))
+    → Statements Expression Target Expression → Statements Expression Target Expression
+csharp_list = list_of (expression_of (λ a. a.0)) (target_of (λ a. a.0)) (expression_of (λ a. a.0))
+
 abbrev pub cminor_statement :
     Stmt (Expr StackAddress) (Address StackAddress) (Expr StackAddress) → Statement Expression Target Expression
 cminor_statement =
     statement_of (expression_of (λ a. a.0)) (target_of (λ a. a.0)) (expression_of (λ a. a.0))
+
+abbrev pub cminor_list :
+    List (Stmt (Expr StackAddress) (Address StackAddress) (Expr StackAddress))
+    → Statements Expression Target Expression → Statements Expression Target Expression
+cminor_list = list_of (expression_of (λ a. a.0)) (target_of (λ a. a.0)) (expression_of (λ a. a.0))
+
+-- what a store of Csharpminor and of Cminor writes
+abbrev pub csharp_target : Address AddressOf → Target
+csharp_target = target_of (λ a. a.0)
+
+abbrev pub cminor_target : Address StackAddress → Target
+cminor_target = target_of (λ a. a.0)
 
 -- Csharpminor's functions have their variables as names too
 abbrev pub csharp_routine : CsharpFun → Routine Expression Target Expression
