@@ -18,9 +18,9 @@ use Rattle.cas_step.specs.Asks as asks
 use Rattle.cas_step.specs.Asks.{Asks}
 use Rattle.cas_step.specs.Env as env
 use Rattle.cas_step.specs.Env.{Entity}
-use Rattle.cas_step.specs.Evaluate.{Sight}
-use Rattle.cas_step.specs.Items as items
-use Rattle.cas_step.specs.Items.{Todo, begin_all, Deed, deed_of}
+use Rattle.cas_step.specs.Evaluate.{EvalContext}
+use Rattle.cas_step.specs.Continuation as items
+use Rattle.cas_step.specs.Continuation.{ContItem, begin_all, Effect, effect_of}
 use Rattle.cas_runs.specs.Naming.{Home, Own, Value, Number, Pointer, same_home}
 use Rattle.cas_runs.specs.Bounds.{BySize}
 use Rattle.cas_runs.specs.Access.{Accesses, Reads, Writes, Loads, Stores, Looks, Then, Fails, with_value}
@@ -72,7 +72,7 @@ encoded (asks.pointer o p) = Pointer o.home p
 abbrev pub asked : {A L : Type 0} → List Decl → Asks Object A → (A → Accesses L) → Accesses L
 asked ds (asks.gives a) next = next a
 asked ds (asks.fails why) next = Fails
-asked ds asks.senseless next = Fails
+asked ds asks.stuck next = Fails
 asked ds (asks.reads g i more) next =
     with_value (slice_get ds g) (λ (d : Decl). Reads d.name i (λ n. asked ds (more n) next))
 asked ds (asks.looks o more) next = Looks o.home (λ size. asked ds (more size) next)
@@ -105,12 +105,12 @@ pub record ClightState : Type 0 where
   pub function : ClightFun
   pub serial : ℕ
   pub passed : List Passed
-  pub continuation : List Todo
+  pub continuation : List ContItem
 
 abbrev pub own_home : ClightFun → (serial local : ℕ) → Home
 own_home f serial n = Own f.decl.name serial n
 
-abbrev pub context_of : ClightFun → (serial : ℕ) → Sight Object
+abbrev pub context_of : ClightFun → (serial : ℕ) → EvalContext Object
 context_of f serial = record {
   entity = λ g. entity_of (slice_get f.decls g);
   own = λ n. record { home = own_home f serial n; has_pointer = keeps_pointer (slice_get f.locals n) };
@@ -118,7 +118,7 @@ context_of f serial = record {
 }
 
 -- the activation with this continuation, to which these values were passed
-abbrev pub at : ClightFun → (serial : ℕ) → List Passed → List Todo → ClightState
+abbrev pub at : ClightFun → (serial : ℕ) → List Passed → List ContItem → ClightState
 at f serial passed rest = record { function = f; serial = serial; passed = passed; continuation = rest }
 
 -- a returned value, converted to the type of the local that keeps it
@@ -128,12 +128,12 @@ converted (Ptr k) (Number n) = Some (Number n)
 converted (Ptr k) (Pointer home place) = Some (Pointer home place)
 converted _ _ = None
 
-abbrev pub passing : ClightFun → (serial : ℕ) → List Todo → (local : ℕ) → Option Value → Option ClightState
+abbrev pub passing : ClightFun → (serial : ℕ) → List ContItem → (local : ℕ) → Option Value → Option ClightState
 passing f serial rest n None = None
 passing f serial rest n (Some v) = Some (at f serial (record { local = n; value = v } ∷ []) rest)
 
 -- the caller goes on with what was returned
-abbrev pub resumed : ClightFun → (serial : ℕ) → List Todo → Option Destination → List Value → Option ClightState
+abbrev pub resumed : ClightFun → (serial : ℕ) → List ContItem → Option Destination → List Value → Option ClightState
 resumed f serial rest None vs = Some (at f serial [] rest)
 resumed f serial rest (Some d) [] = None
 resumed f serial rest (Some d) (v ∷ vs) = passing f serial rest d.local (converted d.ty v)
@@ -142,15 +142,15 @@ abbrev pub returned : Option (asks.Value Object) → List Value
 returned None = []
 returned (Some v) = encoded v ∷ []
 
-abbrev pub goes : ClightFun → (serial : ℕ) → List Todo → Accesses (Last ClightState)
+abbrev pub goes : ClightFun → (serial : ℕ) → List ContItem → Accesses (Last ClightState)
 goes f serial rest = Then (Goes (at f serial [] rest))
 
 abbrev pub named : ClightFun → (item : ℕ) → (Decl → Accesses (Last ClightState)) → Accesses (Last ClightState)
 named f g next = with_value (slice_get f.decls g) next
 
 -- the effect of a step, as its last part
-abbrev pub does : ClightFun → (serial : ℕ) → Deed Object → Accesses (Last ClightState)
-does f serial (items.goes_on rest) = goes f serial rest
+abbrev pub does : ClightFun → (serial : ℕ) → Effect Object → Accesses (Last ClightState)
+does f serial (items.continues rest) = goes f serial rest
 does f serial (items.stores o p v rest) = Stores o.home p (encoded v) (goes f serial rest)
 does f serial (items.writes g i n rest) = named f g (λ d. Writes d.name i n (goes f serial rest))
 does f serial (items.calls g vs target rest) =
@@ -167,7 +167,7 @@ storing f serial (h ∷ hs) next = Stores (own_home f serial h.local) 0 h.value 
 
 abbrev pub effect_at : ClightState → Accesses (Last ClightState)
 effect_at a =
-    asked a.function.decls (deed_of (context_of a.function a.serial) (result_of a.function) a.continuation)
+    asked a.function.decls (effect_of (context_of a.function a.serial) (result_of a.function) a.continuation)
     (does a.function a.serial)
 
 abbrev pub step : ClightState → Accesses (Last ClightState)

@@ -8,7 +8,7 @@ use Rattle.cas_base.specs.declared.kind.Ty.TheVariants.{Void, Int, Ptr, Array}
 use Rattle.cas_typed.specs.declared.tree.Destination.{Destination}
 use Rattle.cas_typed.specs.Resolved as t
 use Rattle.cas_typed.specs.Resolved.{TypedExprTree, TypedStmtTree, TypedStmtOption, TypedStmtList}
-use Rattle.cas_step.specs.Items as items
+use Rattle.cas_step.specs.Continuation as items
 use Rattle.cas_runs.specs.Held.{Activation, Leads, meets_there, begins_at_once, BeginIf, both_store}
 use Rattle.cas_runs.specs.Naming.{Value, Number, Pointer, Hidden, Memory}
 use Rattle.cas_runs.specs.Bounds.{total, first_price, entry_price}

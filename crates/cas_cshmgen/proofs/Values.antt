@@ -113,7 +113,7 @@ module _ {F G : Type 0} (r : Relation F CsharpState G ClightState) (w : Held F C
       reading : Amount credit m (Reads d.name 0 (λ i. k (Number i))) (asked ds (global_value item 0) k')
       reading = subst (λ (o : Option Decl). Amount credit m (Reads d.name 0 (λ i. k (Number i))) (with_value o (λ (e : Decl). Reads e.name 0 (λ i. k' (asks.word i))))) (sym is) (both_read (λ i good. more (asks.word i)))
 
-      one : (b : Bool) → Amount credit m (Reads d.name 0 (λ i. k (Number i))) (asked ds (and_then (if b then asks.gives 0 else asks.senseless) (global_value item)) k')
+      one : (b : Bool) → Amount credit m (Reads d.name 0 (λ i. k (Number i))) (asked ds (and_then (if b then asks.gives 0 else asks.stuck) (global_value item)) k')
       one true = reading
       one false = fails_too
 
@@ -296,7 +296,7 @@ module _ {F G : Type 0} (r : Relation F CsharpState G ClightState) (w : Held F C
       one false = target_looks (target_looks (source_looks (differ (length_of (m o.home)))))
 
   -- what has no sense
-  senseless_pair : (credit : ℕ) (m : Memory) (u v : asks.Value Object) {A : Type 0} (next : Bool → Asks Object A) (k' : A → U) → Amount credit m Fails (asked ds (on_both u v (λ a b. and_then asks.senseless next)) k')
+  senseless_pair : (credit : ℕ) (m : Memory) (u v : asks.Value Object) {A : Type 0} (next : Bool → Asks Object A) (k' : A → U) → Amount credit m Fails (asked ds (on_both u v (λ a b. and_then asks.stuck next)) k')
   senseless_pair credit m (asks.word i) v next k' = fails_too
   senseless_pair credit m asks.null (asks.word i) next k' = fails_too
   senseless_pair credit m asks.null asks.null next k' = fails_too

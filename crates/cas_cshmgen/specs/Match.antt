@@ -14,8 +14,8 @@ use Rattle.cas_base.specs.declared.place.Place.{Place}
 use Rattle.cas_typed.specs.declared.tree.Destination.{Destination}
 use Rattle.cas_typed.specs.Resolved as t
 use Rattle.cas_typed.specs.Resolved.{TypedExprTree, TypedStmtTree, TypedStmtOption, TypedStmtList}
-use Rattle.cas_step.specs.Items as items
-use Rattle.cas_step.specs.Items.{Todo}
+use Rattle.cas_step.specs.Continuation as items
+use Rattle.cas_step.specs.Continuation.{ContItem}
 use Rattle.cas_runs.specs.Held.{Activation}
 use Rattle.cas_runs.specs.Naming.{Value, Memory}
 use Rattle.cas_runs.specs.Bounds.{total}
@@ -103,77 +103,77 @@ module _ (n : ℕ) (fn : ClightFun) where
   for_made c u a = for_loop fn.decls c (part u) (made a)
 
   -- what follows a statement: in a loop the end of the turn
-  pub data MatchRest : List Todo → Rest → Type 0 where
+  pub data MatchRest : List ContItem → Rest → Type 0 where
     at_end : MatchRest [] (begin_all (closing (result_of fn)) [])
     begins :
-        {a : TypedStmtTree} {cont : List Todo} {rest : Rest}
+        {a : TypedStmtTree} {cont : List ContItem} {rest : Rest}
         → IsSmall n fn.decls a
         → MatchRest cont rest
         → MatchRest (items.begin a ∷ cont) (begin (made a) ∷ rest)
     in_while :
-        {p : Place} {c : TypedExprTree} {a : TypedStmtTree} {cont : List Todo} {rest : Rest}
+        {p : Place} {c : TypedExprTree} {a : TypedStmtTree} {cont : List ContItem} {rest : Rest}
         → IsLoopSmall n fn.decls c a
         → MatchRest cont rest
         → MatchRest (items.begun p c a ∷ cont) (end_block ∷ begin (while_loop fn.decls c (made a)) ∷ end_block ∷ rest)
     in_do :
-        {p : Place} {c : TypedExprTree} {a : TypedStmtTree} {cont : List Todo} {rest : Rest}
+        {p : Place} {c : TypedExprTree} {a : TypedStmtTree} {cont : List ContItem} {rest : Rest}
         → IsLoopSmall n fn.decls c a
         → MatchRest cont rest
         → MatchRest (items.begun p c a ∷ cont)
         (end_block ∷ begin (tests fn.decls (Some c)) ∷ begin (do_loop fn.decls c (made a)) ∷ end_block ∷ rest)
     in_for :
         {p : Place} {c : Option TypedExprTree} {u : TypedStmtOption} {a : TypedStmtTree}
-        {cont : List Todo} {rest : Rest}
+        {cont : List ContItem} {rest : Rest}
         → IsForSmall n fn.decls c u a
         → MatchRest cont rest
         → MatchRest (items.next p u ∷ items.loop p c u a ∷ cont)
         (end_block ∷ begin (part u) ∷ begin (for_made c u a) ∷ end_block ∷ rest)
 
   -- where both begin a step
-  pub data MatchCont : List Todo → Rest → Type 0 where
-    at_rest : {cont : List Todo} {rest : Rest} → MatchRest cont rest → MatchCont cont rest
-    at_skip : {cont : List Todo} {rest : Rest} → MatchRest cont rest → MatchCont cont (begin skip ∷ rest)
+  pub data MatchCont : List ContItem → Rest → Type 0 where
+    at_rest : {cont : List ContItem} {rest : Rest} → MatchRest cont rest → MatchCont cont rest
+    at_skip : {cont : List ContItem} {rest : Rest} → MatchRest cont rest → MatchCont cont (begin skip ∷ rest)
     at_while :
-        {p : Place} {c : TypedExprTree} {a : TypedStmtTree} {cont : List Todo} {rest : Rest}
+        {p : Place} {c : TypedExprTree} {a : TypedStmtTree} {cont : List ContItem} {rest : Rest}
         → IsLoopSmall n fn.decls c a
         → MatchRest cont rest
         → MatchCont (items.begun p c a ∷ cont) (begin (while_loop fn.decls c (made a)) ∷ end_block ∷ rest)
     at_do :
-        {p : Place} {c : TypedExprTree} {a : TypedStmtTree} {cont : List Todo} {rest : Rest}
+        {p : Place} {c : TypedExprTree} {a : TypedStmtTree} {cont : List ContItem} {rest : Rest}
         → IsLoopSmall n fn.decls c a
         → MatchRest cont rest
         → MatchCont (items.begun p c a ∷ cont)
         (begin (tests fn.decls (Some c)) ∷ begin (do_loop fn.decls c (made a)) ∷ end_block ∷ rest)
     at_next :
         {p : Place} {c : Option TypedExprTree} {u : TypedStmtOption} {a : TypedStmtTree}
-        {cont : List Todo} {rest : Rest}
+        {cont : List ContItem} {rest : Rest}
         → IsForSmall n fn.decls c u a
         → MatchRest cont rest
         → MatchCont (items.next p u ∷ items.loop p c u a ∷ cont)
         (begin (part u) ∷ begin (for_made c u a) ∷ end_block ∷ rest)
     at_loop :
         {p : Place} {c : Option TypedExprTree} {u : TypedStmtOption} {a : TypedStmtTree}
-        {cont : List Todo} {rest : Rest}
+        {cont : List ContItem} {rest : Rest}
         → IsForSmall n fn.decls c u a
         → MatchRest cont rest
         → MatchCont (items.loop p c u a ∷ cont) (begin (for_made c u a) ∷ end_block ∷ rest)
     -- after the first part of a for
     at_for :
         {p : Place} {c : Option TypedExprTree} {u : TypedStmtOption} {a : TypedStmtTree}
-        {cont : List Todo} {rest : Rest}
+        {cont : List ContItem} {rest : Rest}
         → IsForSmall n fn.decls c u a
         → MatchRest cont rest
         → MatchCont (items.loop p c u a ∷ cont) (begin (block (for_made c u a)) ∷ rest)
     -- there is none
     at_no_first :
         {p : Place} {c : Option TypedExprTree} {u : TypedStmtOption} {a : TypedStmtTree}
-        {cont : List Todo} {rest : Rest}
+        {cont : List ContItem} {rest : Rest}
         → IsForSmall n fn.decls c u a
         → MatchRest cont rest
         → MatchCont (items.loop p c u a ∷ cont) (begin skip ∷ begin (block (for_made c u a)) ∷ rest)
     at_first :
         {i : TypedStmtTree} {p : Place} {c : Option TypedExprTree} {u : TypedStmtOption} {a : TypedStmtTree}
-        {cont : List Todo} {rest : Rest}
+        {cont : List ContItem} {rest : Rest}
         → IsSmall n fn.decls i
         → IsSimple i
         → IsForSmall n fn.decls c u a
@@ -191,14 +191,14 @@ frame_of fn serial ts = record { function = fn.decl.name; serial = serial; tempo
 pub data MatchStates (n : ℕ) (act : Activation CsharpFun ClightFun) :
     CsharpState → Memory → ClightState → Memory → Type 0 where
   runs :
-      {fn : ClightFun} {serial : ℕ} {ts : List Value} {cont : List Todo} {rest : Rest} {m : Memory}
+      {fn : ClightFun} {serial : ℕ} {ts : List Value} {cont : List ContItem} {rest : Rest} {m : Memory}
       → HasResult fn ts
       → MatchCont n fn cont rest
       → MatchStates n act (at csharp_parts (frame_of fn serial ts) rest) m (clight.at fn serial [] cont) m
   -- a result is in its temporary, and not in its local yet
   has_result :
       {fn : ClightFun} {serial : ℕ} {ts : List Value} (d : Destination) (v : Value) {u : Value}
-      {cont : List Todo} {rest : Rest} {m : Memory}
+      {cont : List ContItem} {rest : Rest} {m : Memory}
       → HasResult fn ts
       → slice_get ts (parameters_of fn) ≡ Some v
       → clight.converted d.ty v ≡ Some u

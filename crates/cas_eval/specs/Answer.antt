@@ -1,48 +1,48 @@
--- What evaluating answers: what is got, or why nothing is, without what was read for it.
+-- What an evaluation answers in the code: its result, or why there is none, without the words that it read.
 use Rattle.std.specs.Prelude.{ℕ, List, Option, Result, Ok, Err, slice_get}
-use Rattle.cas_step.specs.Answered.{Got, got, bad, stuck, answered}
+use Rattle.cas_step.specs.Answered.{Got, got, bad, got_stuck, answered}
 use Rattle.cas_step.specs.Asks.{Asks}
 use Rattle.cas_step.specs.Env.{Entity}
-use Rattle.cas_step.specs.Evaluate.{Sight}
+use Rattle.cas_step.specs.Evaluate.{EvalContext}
 use Rattle.cas_step.specs.Step.{Object, Block, cells_at, same_object}
 use Rattle.cas_memory.specs.Entities.{entity_if}
-use Rattle.cas_eval.specs.declared.here.Here.{Here}
+use Rattle.cas_eval.specs.declared.context.EvalContext.{EvalContext as CodeContext}
 use Rattle.cas_eval.specs.declared.values.NoResult.{NoResult}
 use Rattle.cas_eval.specs.declared.values.NoResult.TheVariants.{Bad, Stuck}
 
--- where an expression is evaluated: what the items of its module stand for, the words, the memory, and the serial number of its
--- activation
-pub record Around : Type 0 where
+-- the state of an evaluation: what the items of the module stand for, the words, the memory, and the serial number
+-- of the activation
+pub record EvalState : Type 0 where
   pub entity : (item : ℕ) → Option Entity
   pub words : List ℕ
   pub memory : List Block
   pub serial : ℕ
 
-abbrev pub sight : Around → Sight Object
-sight r = record {
+abbrev pub eval_context : EvalState → EvalContext Object
+eval_context r = record {
   entity = r.entity;
   own = λ n. record { serial = r.serial; local = n };
   same = same_object;
 }
 
--- what was got, without what was read for it
+-- the answer of an outcome, without the words that it read
 abbrev pub outcome : {A : Type 0} → Got A → Result A NoResult
 outcome (got rs a) = Ok a
 outcome (bad rs why) = Err (Bad why)
-outcome (stuck rs) = Err Stuck
+outcome (got_stuck rs) = Err Stuck
 
--- what the words and the memory answer
-unfoldable pub answer : {A : Type 0} → Around → Asks Object A → Result A NoResult
+-- what an evaluation answers in this state
+unfoldable pub answer : {A : Type 0} → EvalState → Asks Object A → Result A NoResult
 answer r x = outcome (answered r.entity (slice_get r.words) (cells_at r.memory) x)
 
--- an answer as what its value stands for
-abbrev pub told : {A B : Type 0} → (A → B) → Result A NoResult → Result B NoResult
-told view (Ok a) = Ok (view a)
-told view (Err e) = Err e
+-- the same answer, with what its value stands for
+abbrev pub map_answer : {A B : Type 0} → (A → B) → Result A NoResult → Result B NoResult
+map_answer view (Ok a) = Ok (view a)
+map_answer view (Err e) = Err e
 
--- where the code evaluates
-abbrev pub around : Here → Around
-around h = record {
+-- the state in which the code evaluates
+abbrev pub eval_state : CodeContext → EvalState
+eval_state h = record {
   entity = λ g. entity_if (slice_get h.items.now g);
   words = h.words.now;
   memory = h.memory.now;

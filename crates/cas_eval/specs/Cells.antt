@@ -1,4 +1,4 @@
--- Which places and cells the code's are.
+-- What the places and cells of the code stand for.
 use Rattle.std.specs.Prelude.{ℕ, Option, Some, None}
 use Rattle.cas_step.specs.Evaluate as e
 use Rattle.cas_step.specs.Step as step

@@ -2,7 +2,7 @@
 
 ghost use Rattle.std.specs.Prelude.{◌≡◌, ◌≤◌, ◌^◌, ℤ, pos, negsuc, ◌≤ℤ◌};
 ghost use Rattle.cas_step.specs.Operators as o;
-ghost use Rattle.cas_eval.specs.Answer.{Around, answer};
+ghost use Rattle.cas_eval.specs.Answer.{EvalState, answer};
 
 use crate::values::NoResult;
 use cas_base::{
@@ -23,7 +23,7 @@ pub fn number_of(signedness: Signedness, word: u32) -> i64
     }
 }
 
-/// The place at this number, where it is from 0 to below the limit.
+/// The place with this number, if it is from 0 to below the limit.
 pub fn place_below(limit: u64, number: i64) -> Option<u32>
     requires { limit ≤ 2 ^ 32 }
     ensures { result ≡ o.place_below limit number }
@@ -85,10 +85,10 @@ fn shifted_right(signedness: Signedness, a: u32, b: u32) -> u32
     }
 }
 
-// A quotient or remainder by this divisor, where there is one.
+// A quotient or remainder by this divisor, if there is one.
 #[tactic(auto, unfolding(crate::specs::Answer::answer))]
 fn or_undefined(divisor: u32, found: Option<u32>) -> Result<u32, NoResult>
-    ensures { (r : Around) → result ≡ answer r (o.or_undefined divisor found) }
+    ensures { (r : EvalState) → result ≡ answer r (o.or_undefined divisor found) }
 {
     match found {
         Some(n) => Ok(n),
@@ -110,7 +110,7 @@ pub fn binary(
     a: u32,
     b: u32,
 ) -> Result<u32, NoResult>
-    ensures { (r : Around) → result ≡ answer r (o.binary_result operator signedness a b) }
+    ensures { (r : EvalState) → result ≡ answer r (o.binary_result operator signedness a b) }
 {
     match operator {
         BinaryOperator::Add => Ok(add(a, b)),

@@ -5,21 +5,21 @@ ghost use Rattle.cas_step.specs.Asks.{gives};
 ghost use Rattle.cas_step.specs.Pointers as p;
 ghost use Rattle.cas_step.specs.Step.{same_object};
 ghost use Rattle.cas_memory.specs.Values.{object_of, value_of};
-ghost use Rattle.cas_eval.specs.Answer.{answer, around, told};
+ghost use Rattle.cas_eval.specs.Answer.{answer, eval_state, map_answer};
 ghost use Rattle.cas_eval.specs.Cells.{cell_of, place_in};
 
-use crate::here::Here;
+use crate::context::EvalContext;
 use crate::operators::place_below;
 use crate::values::{NoResult, Pointed};
 use cas_base::{Why, sub};
 use cas_memory::{Object, Value};
 use cas_syntax::BinaryOperator;
 
-impl Here<'_> {
+impl EvalContext<'_> {
     // How many cells an object has, which is live.
     #[tactic(auto, unfolding(crate::specs::Answer::answer))]
     fn live(&self, object: Object) -> Result<u32, NoResult>
-        ensures { result ≡ answer (around self.now) (p.live (object_of object) gives) }
+        ensures { result ≡ answer (eval_state self.now) (p.live (object_of object) gives) }
     {
         match self.memory.size(object) {
             Some(size) => Ok(size),
@@ -32,7 +32,7 @@ impl Here<'_> {
     pub fn moved(&self, pointed: Pointed, number: i64) -> Result<Value, NoResult>
         requires low { negsuc (2 ^ 32) ≤ℤ number }
         requires high { number ≤ℤ pos (2 ^ 32) }
-        ensures { told value_of result ≡ answer (around self.now) (p.moved (place_in pointed) number) }
+        ensures { map_answer value_of result ≡ answer (eval_state self.now) (p.moved (place_in pointed) number) }
     {
         let Some((object, place)) = pointed else {
             return Err(NoResult::Bad(Why::Null));
@@ -44,10 +44,10 @@ impl Here<'_> {
         }
     }
 
-    /// The cell behind a pointer, which is there.
+    /// The cell behind a pointer.
     #[tactic(auto, unfolding(crate::specs::Answer::answer))]
     pub fn cell_behind(&self, pointed: Pointed) -> Result<(Object, u32), NoResult>
-        ensures { told cell_of result ≡ answer (around self.now) (p.cell_behind (place_in pointed)) }
+        ensures { map_answer cell_of result ≡ answer (eval_state self.now) (p.cell_behind (place_in pointed)) }
     {
         let Some((object, place)) = pointed else {
             return Err(NoResult::Bad(Why::Null));
@@ -59,10 +59,10 @@ impl Here<'_> {
         }
     }
 
-    /// What is behind a pointer.
+    /// The value that a pointer points to.
     #[tactic(auto, using(crate::proofs::Answering::answer_then), unfolding(crate::specs::Answer::answer))]
     pub fn behind(&self, pointed: Pointed) -> Result<Value, NoResult>
-        ensures { told value_of result ≡ answer (around self.now) (p.behind (place_in pointed)) }
+        ensures { map_answer value_of result ≡ answer (eval_state self.now) (p.behind (place_in pointed)) }
     {
         let (object, place) = self.cell_behind(pointed)?;
         match self.memory.load(object, place) {
@@ -74,7 +74,7 @@ impl Here<'_> {
     // Two places in one object.
     #[tactic(auto, unfolding(crate::specs::Answer::answer))]
     fn places(&self, a: Pointed, b: Pointed) -> Result<(u32, u32), NoResult>
-        ensures { result ≡ answer (around self.now) (p.places same_object (place_in a) (place_in b)) }
+        ensures { result ≡ answer (eval_state self.now) (p.places same_object (place_in a) (place_in b)) }
     {
         let (Some((object, place)), Some((other, at))) = (a, b) else {
             return Err(NoResult::Bad(Why::Null));
@@ -88,10 +88,10 @@ impl Here<'_> {
         }
     }
 
-    /// How many elements the first lies behind the second.
+    /// How many elements the first lies after the second.
     #[tactic(auto, using(crate::proofs::Answering::answer_then), unfolding(crate::specs::Answer::answer))]
     pub fn difference(&self, a: Pointed, b: Pointed) -> Result<u32, NoResult>
-        ensures { result ≡ answer (around self.now) (p.difference same_object (place_in a) (place_in b)) }
+        ensures { result ≡ answer (eval_state self.now) (p.difference same_object (place_in a) (place_in b)) }
     {
         let (place, at) = self.places(a, b)?;
         Ok(sub(place, at))
@@ -100,7 +100,7 @@ impl Here<'_> {
     // Whether places of two objects are equal; neither may be the end.
     #[tactic(auto, unfolding(crate::specs::Answer::answer))]
     fn is_same_place(&self, a: (Object, u32), b: (Object, u32)) -> Result<bool, NoResult>
-        ensures { result ≡ answer (around self.now) (p.equal same_object (place_in (Some a)) (place_in (Some b))) }
+        ensures { result ≡ answer (eval_state self.now) (p.equal same_object (place_in (Some a)) (place_in (Some b))) }
     {
         let size = self.live(a.0)?;
         let other = self.live(b.0)?;
@@ -116,7 +116,7 @@ impl Here<'_> {
     // Whether two pointers are equal.
     #[tactic(auto, unfolding(crate::specs::Answer::answer))]
     fn equal(&self, a: Pointed, b: Pointed) -> Result<bool, NoResult>
-        ensures { result ≡ answer (around self.now) (p.equal same_object (place_in a) (place_in b)) }
+        ensures { result ≡ answer (eval_state self.now) (p.equal same_object (place_in a) (place_in b)) }
     {
         match (a, b) {
             (None, None) => Ok(true),
@@ -132,7 +132,7 @@ impl Here<'_> {
         }
     }
 
-    /// Whether two pointers stand so.
+    /// Whether two pointers compare so.
     #[tactic(auto, using(crate::proofs::Answering::answer_then), unfolding(crate::specs::Answer::answer))]
     pub fn compared(
         &self,
@@ -140,7 +140,7 @@ impl Here<'_> {
         a: Pointed,
         b: Pointed,
     ) -> Result<bool, NoResult>
-        ensures { result ≡ answer (around self.now) (p.compared same_object operator (place_in a) (place_in b)) }
+        ensures { result ≡ answer (eval_state self.now) (p.compared same_object operator (place_in a) (place_in b)) }
     {
         match operator {
             BinaryOperator::Eq => self.equal(a, b),

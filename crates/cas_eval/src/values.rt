@@ -4,7 +4,7 @@ ghost use Rattle.std.specs.Prelude.{◌≡◌};
 ghost use Rattle.cas_step.specs.Asks as asks;
 ghost use Rattle.cas_step.specs.Evaluate as e;
 ghost use Rattle.cas_memory.specs.Values.{value_of};
-ghost use Rattle.cas_eval.specs.Answer.{Around, answer, told};
+ghost use Rattle.cas_eval.specs.Answer.{EvalState, answer, map_answer};
 ghost use Rattle.cas_eval.specs.Cells.{place_in};
 
 use cas_base::Why;
@@ -15,18 +15,18 @@ use cas_memory::{Object, Value};
 pub enum NoResult {
     /// It has no defined result.
     Bad(Why),
-    /// It has no sense, as in no typed module: a pointer is used as a word, a word as a pointer, or what is named isn't
+    /// It is stuck, as in no typed module: a pointer is used as a word, a word as a pointer, or what is named isn't
     /// there.
     Stuck,
 }
 
-/// Where a pointer points: to a place in an object, or, of null, nowhere.
+/// Where a pointer points: to a place in an object, or nowhere if it is null.
 pub type Pointed = Option<(Object, u32)>;
 
 /// The value as a word.
 #[tactic(auto, unfolding(crate::specs::Answer::answer))]
 pub fn word_in(value: Value) -> Result<u32, NoResult>
-    ensures { (r : Around) → result ≡ answer r (asks.word_in (value_of value)) }
+    ensures { (r : EvalState) → result ≡ answer r (asks.word_in (value_of value)) }
 {
     match value {
         Value::Word(n) => Ok(n),
@@ -37,7 +37,7 @@ pub fn word_in(value: Value) -> Result<u32, NoResult>
 /// The value as a pointer.
 #[tactic(auto, unfolding(crate::specs::Answer::answer))]
 pub fn pointed(value: Value) -> Result<Pointed, NoResult>
-    ensures { (r : Around) → told place_in result ≡ answer r (asks.pointed (value_of value)) }
+    ensures { (r : EvalState) → map_answer place_in result ≡ answer r (asks.pointed (value_of value)) }
 {
     match value {
         Value::Word(_) => Err(NoResult::Stuck),
@@ -49,7 +49,7 @@ pub fn pointed(value: Value) -> Result<Pointed, NoResult>
 /// Whether the value of a condition is true.
 #[tactic(auto, using(crate::proofs::Answering::answer_then), unfolding(crate::specs::Answer::answer))]
 pub fn condition(value: Value) -> Result<bool, NoResult>
-    ensures { (r : Around) → result ≡ answer r (e.condition (value_of value)) }
+    ensures { (r : EvalState) → result ≡ answer r (e.condition (value_of value)) }
 {
     Ok(word_in(value)? != 0)
 }

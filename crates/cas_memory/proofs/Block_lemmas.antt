@@ -147,7 +147,7 @@ module _ (v : asks.Value Object) where
       ap (λ x. x ∷ locals_in spans (set cells (s.first + i) v)) (before cells t (s.first + i) (omega (arith, h.0, span_from (from + t.length) to spans n s h.1 is)))
       ∙ ap (λ l. cells_in cells t ∷ l) (written cells (from + t.length) to n i spans s h.1 is less)
 
-  -- where there is no such place all is as before
+  -- if there is no such place all is as before
   not_written : (cells : List (asks.Value Object)) (spans : List Span) (n i : ℕ) (s : Span) → slice_get spans n ≡ Some s → s.length ≤ i → with_local (locals_in spans cells) n i v ≡ locals_in spans cells
   not_written cells spans n i s is past =
       let locals = locals_in spans cells in
@@ -168,7 +168,7 @@ module _ (v : asks.Value Object) where
       let there : at ≡ s.first + i = grind (arith, nat_tests, place) in
       ap (λ k. locals_in spans (set cells k v)) there ∙ written cells 0 to n i spans s h is less
 
--- the locals of a block with a value at a place, and where there is no such place
+-- the locals of a block with a value at a place, and if there is no such place
 pub stored_there : (b : Block) (n i at : ℕ) (v : Value) → Some at ≡ place_in (slice_get b.spans.items n) i →
     locals_in b.spans.items (map value_of (set b.cells.items at v)) ≡ with_local (block_of b).locals n i (value_of v)
 stored_there b n i at v place =
@@ -223,7 +223,7 @@ first_of_locals : (ty : Ty) (tys : List Ty) (values : List Value) → locals_of 
 first_of_locals ty tys [] = refl
 first_of_locals ty tys (v ∷ values) = refl
 
--- with one local more it goes on as before
+-- with one local more it continues as before
 pub goes_on : (spans all : List Span) (cells kept values : List Value) (s : Span) (v : Value) (ty : Ty) (tys : List Ty) → AreSpans 0 (length cells) spans → s.first ≡ length cells →
     all ≡ spans ++ s ∷ [] → kept ≡ cells ++ replicate s.length v → replicate s.length (value_of v) ≡ cells_at_first ty (map value_of values) →
     locals_in all (map value_of kept) ++ locals_of tys (map value_of (drop 1 values)) ≡ locals_in spans (map value_of cells) ++ locals_of (ty ∷ tys) (map value_of values)

@@ -26,7 +26,7 @@ differs a b h = grind (arith, nat_tests)
 equals : (a b : ℕ) → a ≡ b → nat_eq a b ≡ true
 equals a b h = grind (arith, nat_tests)
 
--- behind the first none has this serial number
+-- after the first none has this serial number
 none_behind : (b : Block) (bs : List Block) (s : ℕ) → HasNone (b ∷ bs) s → HasNone bs s
 none_behind b bs s none j d less = none (suc j) d (omega (arith, less))
 

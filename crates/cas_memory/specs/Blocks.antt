@@ -13,7 +13,7 @@ use Rattle.cas_memory.specs.Values.{value_of}
 abbrev pub cells_in : List (Value Object) → Span → List (Value Object)
 cells_in cells s = take s.length (drop s.first cells)
 
--- the locals whose cells stand so among these
+-- the locals with these spans of the cells
 abbrev pub locals_in : List Span → List (Value Object) → List (List (Value Object))
 locals_in spans cells = map (cells_in cells) spans
 
@@ -21,7 +21,7 @@ locals_in spans cells = map (cells_in cells) spans
 abbrev pub block_of : Block → step.Block
 block_of b = record { serial = b.serial; locals = locals_in b.spans.items (map value_of b.cells.items) }
 
--- the blocks before these, of which the last is the newest, in front of others
+-- these blocks, of which the last is the newest, before others
 abbrev pub blocks_before : List Block → List step.Block → List step.Block
 blocks_before [] older = older
 blocks_before (b ∷ bs) older = blocks_before bs (block_of b ∷ older)

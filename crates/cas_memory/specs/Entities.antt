@@ -10,7 +10,7 @@ entity_of (Shared first n guard) = env.shared first n guard
 entity_of (Table first n) = env.table first n
 entity_of (Lock n) = env.lock n
 
--- the same of an item that stands for something, and is there
+-- the same for an item that exists and stands for something
 abbrev pub entity_if : Option (Option Entity) → Option env.Entity
 entity_if (Some (Some x)) = Some (entity_of x)
 entity_if _ = None

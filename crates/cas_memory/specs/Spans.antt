@@ -9,7 +9,7 @@ abbrev pub AreSpans : (from to : ℕ) → List Span → Type 0
 AreSpans from to [] = from ≡ to
 AreSpans from to (s ∷ spans) = (s.first ≡ from) × AreSpans (from + s.length) to spans
 
--- which of the cells of all locals is at a place of the local with this span, if it is there
+-- the number, among the cells of all locals, of a place of the local with this span, if it exists
 abbrev pub place_in : Option Span → (place : ℕ) → Option ℕ
 place_in None i = None
 place_in (Some s) i = if nat_lt i s.length then Some (s.first + i) else None

@@ -1,11 +1,11 @@
-//! The locals of one activation, whose cells stand in one row.
+//! The locals of one activation, whose cells are in one row.
 
 ghost use Rattle.std.specs.Prelude.{length};
 ghost use Rattle.cas_memory.specs.Spans.{AreSpans, are_spans_prop};
 
 use crate::value::Value;
 
-/// Where a local's cells stand among those of its activation.
+/// The position of a local's cells among those of its activation.
 #[derive(Clone, Copy, Debug, PartialEq, Eq)]
 pub struct Span {
     /// How many cells the locals before it have.
@@ -19,7 +19,7 @@ pub struct Span {
 pub struct Block {
     /// The serial number of the activation.
     pub serial: u64,
-    /// Where each local's cells stand.
+    /// The position of each local's cells.
     pub spans: Vec<Span>,
     /// The cells of all locals.
     pub cells: Vec<Value>,

@@ -1,6 +1,6 @@
 //! What the items of modules stand for.
 
-/// What an item of a module stands for in a program. Words are told by number.
+/// What an item of a module stands for in a program. Words have numbers.
 #[derive(Clone, Copy, Debug, PartialEq, Eq)]
 pub enum Entity {
     /// A function with a body: its module's number, and its place among the functions of the module.

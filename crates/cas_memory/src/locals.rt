@@ -52,7 +52,7 @@ impl Block {
         }
     }
 
-    /// The value at a place of a local, if it is there.
+    /// The value at a place of a local, if it exists.
     #[tactic(auto, using(crate::proofs::Block_lemmas::loaded_there, crate::proofs::Block_lemmas::loaded_nowhere))]
     pub fn load(&self, local: u32, place: u32) -> Option<Value>
         ensures { option_map value_of result ≡ value_at (local_at (Some (block_of self.now).locals) local) place }
@@ -63,7 +63,7 @@ impl Block {
         }
     }
 
-    /// How many cells a local has, if it is there.
+    /// How many cells a local has, if it exists.
     #[tactic(auto, using(crate::proofs::Block_lemmas::local_absent, crate::proofs::Block_lemmas::size_there))]
     pub fn size(&self, local: u32) -> Option<u32>
         ensures { result ≡ size_of (local_at (Some (block_of self.now).locals) local) }
@@ -74,7 +74,7 @@ impl Block {
         }
     }
 
-    /// Keeps a value at a place of a local. Where there is no such place nothing changes.
+    /// Keeps a value at a place of a local. If there is no such place, nothing changes.
     #[tactic(auto, using(crate::proofs::Block_lemmas::stored_there, crate::proofs::Block_lemmas::stored_nowhere, crate::proofs::Block_lemmas::place_within))]
     pub fn store(&mut self, local: u32, place: u32, value: Value)
         ensures serial { self.new.serial ≡ self.old.serial }
@@ -134,7 +134,7 @@ fn first_value(ty: Ty, arguments: &[Value]) -> (u32, Value)
     }
 }
 
-// The values behind the first.
+// The values after the first.
 fn behind_first(values: &[Value]) -> &[Value]
     ensures { result.now ≡ drop 1 values.now }
 {

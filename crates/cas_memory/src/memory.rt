@@ -1,6 +1,6 @@
-//! The memory of a thread: the cells of its activations' locals. The blocks stand as they were pushed, the newest last,
-//! so that their serial numbers ascend and a block is found by halving. A pointer could carry the depth of its activation
-//! in place of that, but then each pointer in each cell would have to be known to carry the right one.
+//! The memory of a thread: the cells of its activations' locals. The blocks stand as they were pushed, the newest
+//! last, so that their serial numbers ascend and a block is found by halving. A pointer could carry the depth of its
+//! activation in place of that, but then each pointer in each cell would have to be known to carry the right one.
 
 ghost use Rattle.std.specs.Prelude.{◌≡◌, ◌∷◌, ℕ, [], option_map, length, map, None, Some};
 ghost use Rattle.std.specs.Prelude.{IfErr, IfNone, IfOk, IfSome, OnErr};
@@ -44,7 +44,7 @@ impl Memory {
         }
     }
 
-    /// How many cells an object has. None where it is dead.
+    /// How many cells an object has. None if it is dead.
     pub fn size(&self, object: Object) -> Option<u32>
         ensures { result ≡ size_of (cells_at self.now (object_of object)) }
     {
@@ -54,7 +54,7 @@ impl Memory {
         }
     }
 
-    /// The value at a place of an object, if it is there.
+    /// The value at a place of an object, if it exists.
     pub fn load(&self, object: Object, place: u32) -> Option<Value>
         ensures { option_map value_of result ≡ value_at (cells_at self.now (object_of object)) place }
     {
@@ -64,7 +64,7 @@ impl Memory {
         }
     }
 
-    /// Keeps a value at a place of an object. Where there is no such place nothing changes.
+    /// Keeps a value at a place of an object. If there is no such place, nothing changes.
     #[tactic(auto, using(crate::proofs::Change_lemmas::with_nowhere, crate::proofs::Change_lemmas::with_at, crate::proofs::Change_lemmas::ascend_set))]
     pub fn store(&mut self, object: Object, place: u32, value: Value)
         ensures { self.new ≡ memory_with self.old (object_of object) place (value_of value) }
@@ -74,8 +74,8 @@ impl Memory {
         }
     }
 
-    /// Begins the locals of an activation, those with an argument first, each other at 0 or null. On want of memory nothing
-    /// changes.
+    /// Begins the locals of an activation, those with an argument first, each other at 0 or null. If memory runs out
+    /// nothing changes.
     #[tactic(auto, using(crate::proofs::Change_lemmas::pushed, crate::proofs::Change_lemmas::ascend_push))]
     pub fn push(
         &mut self,
@@ -92,8 +92,8 @@ impl Memory {
         Ok(())
     }
 
-    /// Ends the locals of an activation. Where it has none nothing changes. Constant time, but for the search, where the
-    /// activation is the newest.
+    /// Ends the locals of an activation. If it has none, nothing changes. Constant time, but for the search, where
+    /// the activation is the newest.
     #[tactic(auto, using(crate::proofs::Change_lemmas::without_nowhere, crate::proofs::Change_lemmas::without_at, crate::proofs::Change_lemmas::ascend_remove))]
     pub fn remove(&mut self, serial: u64)
         ensures { self.new ≡ memory_without self.old serial }

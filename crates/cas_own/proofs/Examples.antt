@@ -57,8 +57,8 @@ print n a = t.print (at n) a
 abbrev block : List TypedStmtTree → TypedStmtTree
 block body = t.block (at 50) (stmts body)
 
--- print(g); lock(M) print(g) unlock(M); lock(L) print(g); print(t); lock(M) lock(M); unlock(M); lock(M); f() without a lock, with M alone, with both;
--- f(g) without a lock; lock(L) return g
+-- print(g); lock(M) print(g) unlock(M); lock(L) print(g); print(t); lock(M) lock(M); unlock(M); lock(M); f() without
+-- a lock, with M alone, with both; f(g) without a lock; lock(L) return g
 straight_rows :
     map (walked []) ((print 1 (g 2) ∷ []) ∷ (lock 1 1 ∷ print 2 (g 3) ∷ unlock 4 1 ∷ []) ∷ (lock 1 0 ∷ print 2 (g 3) ∷ [])
     ∷ (print 1 (table 2) ∷ []) ∷ (lock 1 1 ∷ lock 2 1 ∷ []) ∷ (unlock 1 1 ∷ []) ∷ (lock 1 1 ∷ [])
@@ -88,9 +88,9 @@ branch_rows :
 branch_rows = refl
 
 -- while (me) { lock(L); }   while (me) { lock(L); unlock(L); }   while (me) { lock(L); if (me) break; unlock(L); }
--- lock(M); do { unlock(M); lock(M); } while (g); unlock(M);   do { return; } while (g);   do { lock(M); return; } while (g);
--- for (g = me; ; ) ;   for (; me; print(g)) break;
--- while (me) { if (me) { lock(L); break; } print(g); }   while (me) { lock(L); while (me) break; unlock(L); }
+-- lock(M); do { unlock(M); lock(M); } while (g); unlock(M);   do { return; } while (g);   do { lock(M); return; }
+-- while (g); for (g = me; ; ) ;   for (; me; print(g)) break; while (me) { if (me) { lock(L); break; } print(g); }
+-- while (me) { lock(L); while (me) break; unlock(L); }
 loop_rows :
     map (walked []) ((t.while_ (at 1) me (block (lock 2 0 ∷ [])) ∷ [])
     ∷ (t.while_ (at 1) me (block (lock 2 0 ∷ unlock 3 0 ∷ [])) ∷ [])
@@ -113,7 +113,8 @@ sets_row :
     ≡ Some [] ∷ Some (1 ∷ []) ∷ Some (1 ∷ []) ∷ Some (1 ∷ []) ∷ Some [] ∷ Some (1 ∷ []) ∷ Some [] ∷ Some [] ∷ None ∷ []
 sets_row = refl
 
--- the faults of items: a guard that isn't declared, one that is declared later, a function's name, and one that a lock declares before
+-- the faults of items: a guard that isn't declared, one that is declared later, a function's name, and one that a
+-- lock declares before
 abbrev shared_at : (column : ℕ) → (guard : List ℕ) → ItemTree
 shared_at n guard = global (declared (codes "g") (Shared (Int I32) guard)) (0 ∷ []) (at n)
 

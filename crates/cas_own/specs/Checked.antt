@@ -1,5 +1,5 @@
 -- The ownership check: which modules are checked, and the first fault of the others.
-use Rattle.std.specs.Prelude.{◌≡◌, ℕ, List, [], ◌∷◌, ◌++◌, map, Option, Some, None, slice_get}
+use Rattle.std.specs.Prelude.{◌≡◌, ℕ, List, [], ◌∷◌, ◌++◌, Option, Some, None, slice_get}
 use Rattle.cas_base.specs.declared.decl.Decl.{Decl}
 use Rattle.cas_base.specs.declared.decl.Form.{Form}
 use Rattle.cas_base.specs.declared.decl.Form.TheVariants.{Shared}
@@ -9,7 +9,7 @@ use Rattle.cas_own.specs.declared.fault.OwnCode.TheVariants.{O5, O8}
 use Rattle.cas_own.specs.Flow.{Flow, on, fault, body_flow}
 use Rattle.cas_own.specs.Locks.{Locks, lock_named, holds_of, set_of}
 use Rattle.cas_syntax.specs.Tree.{FunTree, ItemTree, global, prototype, define}
-use Rattle.cas_typed.specs.Modules.{decl_of}
+use Rattle.cas_typed.specs.Modules.{decls_of}
 use Rattle.cas_typed.specs.Resolved.{TypedFunTree, TypedModuleTree}
 
 -- a fault of ownership: its code, its place, and the lock that is kept, by name
@@ -26,7 +26,7 @@ name_in (Some d) = d.name
 abbrev pub name_of : List Decl → (number : ℕ) → List ℕ
 name_of decls g = name_in (slice_get decls g)
 
--- the fault of a walk, if it comes to one
+-- the fault of a walk, if it has one
 abbrev pub fault_of : List Decl → Flow → Option OwnFaultTree
 fault_of decls (on o) = None
 fault_of decls (fault code p l) = Some (record { code = code; place = p; lock = name_of decls l })
@@ -54,18 +54,14 @@ held_set decls g = set_of (holds_of decls g)
 abbrev pub function_fault : List Decl → FunTree → TypedFunTree → Option OwnFaultTree
 function_fault decls f r = fault_of decls (body_flow decls (held_set decls r.item) f.closing r.body)
 
--- of items, which stand behind these declarations in a module of these, with the resolved functions of those with bodies; a
--- body that isn't resolved, in no typed module, is a fault
+-- of items, which stand after these declarations in a module of these, with the resolved functions of those with
+-- bodies; a body that isn't resolved, in no typed module, is a fault
 abbrev pub items_fault : (decls before : List Decl) → List ItemTree → List TypedFunTree → Option OwnFaultTree
 items_fault decls before [] rs = None
 items_fault decls before (global d vs p ∷ rest) rs = first (global_fault before d.form p) (items_fault decls (before ++ d ∷ []) rest rs)
 items_fault decls before (prototype d hs p ∷ rest) rs = items_fault decls (before ++ d ∷ []) rest rs
 items_fault decls before (define f ∷ rest) (r ∷ rs) = first (function_fault decls f r) (items_fault decls (before ++ f.decl ∷ []) rest rs)
 items_fault decls before (define f ∷ rest) [] = Some (record { code = O5; place = f.closing; lock = name_of decls 0 })
-
--- the declarations of a module
-abbrev pub decls_of : TypedModuleTree → List Decl
-decls_of m = map decl_of m.module_tree.items
 
 -- the first fault of a module, in order of text
 abbrev pub own_fault : TypedModuleTree → Option OwnFaultTree

@@ -1,5 +1,5 @@
--- Lock flow: the set of locks with which each statement of a body is walked and goes on, or the first fault. The set at the
--- head of the innermost loop goes inwards, so the walk's order is the order of faults.
+-- Lock flow: the set of locks before and after each statement of a body, or the first fault. The set at the head of the
+-- innermost loop is passed inwards, so faults are found in order of text.
 use Rattle.std.specs.Prelude.{ℕ, List, [], ◌∷◌, ◌++◌, if◌then◌else◌, Option, Some, None}
 use Rattle.cas_base.specs.declared.decl.Decl.{Decl}
 use Rattle.cas_base.specs.declared.place.Place.{Place}
@@ -9,7 +9,8 @@ use Rattle.cas_own.specs.Locks.{Locks, has, having, without, differs, guard_of, 
 use Rattle.cas_own.specs.Uses.{Use, uses, target_uses, option_uses, argument_uses}
 use Rattle.cas_typed.specs.Resolved.{TypedStmtTree, skip, assign, call, block, if_, while_, do_, for_, break_, continue_, return_, lock, unlock, print, TypedStmtOption, absent, present, TypedStmtList, no_more, one_more}
 
--- what a walk comes to: it goes on with this set; it doesn't go on; or the first fault, at its place, with the lock that is kept
+-- the result of a walk: it continues with this set; it doesn't continue; or the first fault, at its place, with the
+-- lock that is kept
 pub data Flow : Type 0 where
   on : Option Locks → Flow
   fault : OwnCode → Place → (lock : ℕ) → Flow
@@ -19,7 +20,7 @@ pub record Head : Type 0 where
   pub place : Place
   pub set : Locks
 
--- first this, and where it is without a fault, what follows
+-- first this walk, and then the next one unless this one has a fault
 abbrev pub after : Flow → (Option Locks → Flow) → Flow
 after (on o) next = next o
 after (fault code p l) next = fault code p l
@@ -48,7 +49,7 @@ differing code p (Some l) next = fault code p l
 abbrev pub same : OwnCode → Place → Locks → Locks → Flow → Flow
 same code p s t next = differing code p (differs s t) next
 
--- a way back to a loop's head or out of the loop: where it is reached, the set is that at the head
+-- a way back to a loop's head or out of the loop: if it is reached, the set is that at the head
 abbrev pub back : Head → Option Locks → Flow → Flow
 back h None next = next
 back h (Some s) next = same O4 h.place h.set s next
@@ -64,7 +65,7 @@ abbrev pub leaves : Option Head → Place → Locks → Flow
 leaves None p s = fault O4 p 0
 leaves (Some h) p s = back h (Some s) (on None)
 
--- where a set is
+-- the walk with a set, if there is one
 abbrev pub with_set : Option Locks → (Locks → Flow) → Flow
 with_set None next = on None
 with_set (Some s) next = next s
@@ -98,7 +99,7 @@ module _ (ds : List Decl) (own : Locks) where
     flow_part h absent s = on (Some s)
     flow_part h (present a) s = flow h a s
 
-    -- statements one after another; one behind a statement that doesn't go on isn't walked
+    -- statements one after another; a statement after one that doesn't continue isn't walked
     pub flow_all : Option Head → TypedStmtList → Option Locks → Flow
     flow_all h no_more o = on o
     flow_all h (one_more a bs) None = on None
@@ -110,7 +111,7 @@ module _ (ds : List Decl) (own : Locks) where
 
 -- with which set each statement is walked
 
--- the set with which a walk goes on, if it does
+-- the set with which a walk continues, if it does
 abbrev pub goes_on_with : Flow → Option Locks
 goes_on_with (on o) = o
 goes_on_with (fault code p l) = None
@@ -121,7 +122,7 @@ head_at p None = None
 head_at p (Some s) = Some (record { place = p; set = s })
 
 module _ (ds : List Decl) (own : Locks) where
-  -- the set behind a statement
+  -- the set after a statement
   abbrev pub behind : Option Head → TypedStmtTree → Option Locks → Option Locks
   behind h a None = None
   behind h a (Some s) = goes_on_with (flow ds own h a s)
@@ -131,7 +132,8 @@ module _ (ds : List Decl) (own : Locks) where
   behind_part h (present a) o = behind h a o
 
   abbrev mutual
-    -- of a statement in this loop, with this set, and its parts, by their numbers from its own on; none of what isn't walked
+    -- of a statement in this loop, with this set, and its parts, by their numbers from its own on; none of what
+    -- isn't walked
     pub sets_in : Option Head → TypedStmtTree → Option Locks → List (Option Locks)
     sets_in h (skip p) o = o ∷ []
     sets_in h (assign p target a) o = o ∷ []

@@ -1,4 +1,5 @@
--- Sets of locks, and what a module's declarations say of locks. A lock goes by the number of the first item that declares it.
+-- Sets of locks, and what a module's declarations say of locks. A lock is identified by the number of the first item
+-- that declares it.
 use Rattle.std.specs.Prelude.{ℕ, ◌==◌, min, nat_lt, Bool, if◌then◌else◌, List, [], ◌∷◌, Option, Some, None, slice_get}
 use Rattle.std.specs.List.{list_any}
 use Rattle.cas_base.specs.declared.decl.Decl.{Decl}

@@ -1,4 +1,5 @@
--- The globals that expressions and targets name, in order of text: each by its item's number, with the place of its name.
+-- The globals that expressions and targets name, in order of text: each by its item's number, with the place of its
+-- name.
 use Rattle.std.specs.Prelude.{ℕ, List, [], ◌∷◌, ◌++◌, Option, Some, None}
 use Rattle.cas_base.specs.declared.place.Place.{Place}
 use Rattle.cas_typed.specs.Resolved as t

@@ -17,16 +17,16 @@ pub enum OwnCode {
     O5,
     /// A lock is taken where it is held.
     O6,
-    /// A lock is given back where it isn't held.
+    /// A lock is released where it isn't held.
     O7,
     /// A shared global is guarded by what is no lock declared before.
     O8,
 }
 
-/// Why a module isn't checked: the first fault of its ownership, or want of memory.
+/// Why a module isn't checked: the first fault of its ownership, or that it is out of memory.
 #[derive(Debug, Drop)]
 pub enum OwnFault {
-    /// Want of memory.
+    /// Out of memory.
     Memory,
     /// What is wrong, where, and the lock that is kept.
     At {

@@ -2,12 +2,12 @@
 
 ghost use Rattle.cas_own.specs.Laws.{SetsAscend, OthersStay, SetsAreOfLocks, DifferencesAreFirst, GuardsAreHeld};
 
-/// Sets of locks ascend, and go on ascending where a lock is taken or given back.
+/// Sets of locks ascend, and go on ascending where a lock is taken or released.
 pub fn sets_ascend()
     ensures { SetsAscend }
 {}
 
-/// Taking and giving back a lock changes no other lock of the set.
+/// Taking and releasing a lock changes no other lock of the set.
 pub fn others_stay()
     ensures { OthersStay }
 {}
@@ -17,7 +17,8 @@ pub fn sets_are_of_locks()
     ensures { SetsAreOfLocks }
 {}
 
-/// Sets differ in no lock exactly where they are equal; else they differ in the lock that is told, and in none before it.
+/// Sets differ in no lock exactly if they are equal; else they differ in the reported lock, and in none
+/// before it.
 pub fn differences_are_first()
     ensures { DifferencesAreFirst }
 {}

@@ -1,4 +1,5 @@
--- Declarations of one name in several modules stand for the same: functions hold the same locks, globals have one guard.
+-- Declarations of one name in several modules stand for the same: functions hold the same locks, globals have one
+-- guard.
 use Rattle.std.proofs.Common.{arith, ◌≡◌, inl, inr, ℕ, suc, Bool, true, false, List, [], ◌∷◌, Option, Some, None, refl, sym, ap, subst, ◌∙◌}
 use Rattle.std.specs.Prelude.{slice_get, Contains}
 use Rattle.std.specs.Option.{option_map}
@@ -12,17 +13,16 @@ use Rattle.cas_own.specs.Locks.{lock_named, lock_and, locks_named, holds_of, hol
 use Rattle.cas_settle.specs.Settle.{place_of as place_named}
 use Rattle.cas_settle.specs.declared.link.CellRow.{CellRow}
 use Rattle.cas_step.specs.Env.{FunctionAt, Entity, function, shared, lock}
-use Rattle.cas_step.specs.Fits.{IsAt}
-use Rattle.cas_typed.specs.Modules.{decl_of, held_by}
+use Rattle.cas_step.specs.Well_formed.{IsAt}
+use Rattle.cas_typed.specs.Modules.{decl_of, held_by, decls_of}
 use Rattle.cas_typed.specs.Resolved.{TypedFunTree, TypedModuleTree}
-use Rattle.cas_own.specs.Checked.{decls_of}
 use Rattle.cas_program.specs.Laws.{Declares, DeclarationsAgree, HoldsWord, AreSameFunctions, FunctionsAgree, GuardsAgree}
 use Rattle.cas_program.specs.Program.{IsProgram, units_of, cell_entity, entity_of_cell, cell_named, function_entity, stands_for, env_of}
 use Rattle.cas_program.proofs.Agreeing.{AreAlike, AreSameNames, alike_back, alike_through, alike_agrees, alike_functions, IsIn, in_at}
 use Rattle.cas_program.proofs.Locking.{holds_lock, lock_named_is}
 use Rattle.cas_program.proofs.Meanings.{unmapped, declared_is, is_declared, definition_is, module_typed, IsFound, found_at, found_is_at, stands_alike}
 use Rattle.cas_program.proofs.Meanings as meant
-use Rattle.cas_program.proofs.Suiting.{words_apart}
+use Rattle.cas_program.proofs.Environments.{words_apart}
 
 -- elements
 

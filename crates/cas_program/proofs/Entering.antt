@@ -17,17 +17,16 @@ use Rattle.cas_base.specs.declared.kind.Ty.TheVariants.{Void, Int}
 use Rattle.cas_own.specs.Locks.{holds_of, holds_of_form, of_declared}
 use Rattle.cas_settle.specs.Settle.{place_of as place_named}
 use Rattle.cas_step.specs.Env.{FunctionAt}
-use Rattle.cas_step.specs.Fits.{IsAt, HasSignature, AreEntries}
+use Rattle.cas_step.specs.Well_formed.{IsAt, HasSignature, AreEntries}
 use Rattle.cas_typed.specs.Counts.{parameter_types}
-use Rattle.cas_typed.specs.Modules.{decl_of, return_type}
+use Rattle.cas_typed.specs.Modules.{decl_of, return_type, decls_of}
 use Rattle.cas_typed.specs.Resolved.{TypedFunTree, TypedModuleTree}
-use Rattle.cas_own.specs.Checked.{decls_of}
 use Rattle.cas_program.specs.Laws.{AreInOrder, EntriesAreInOrder, EntriesAreEntered, EntriesHoldNone}
 use Rattle.cas_program.specs.Program.{IsProgram, units_of, env_of, entries_of}
 use Rattle.cas_program.proofs.Agreeing.{both_true, same_ty_is, same_tys_are}
 use Rattle.cas_program.proofs.Meanings.{IsFound, found_at, found_is_at}
 use Rattle.cas_program.proofs.Meanings as meant
-use Rattle.cas_program.proofs.Suiting.{found_signature}
+use Rattle.cas_program.proofs.Environments.{found_signature}
 
 no_holds : (holds : List (List ℕ)) → (length holds == 0) ≡ true → holds ≡ []
 no_holds [] is = refl

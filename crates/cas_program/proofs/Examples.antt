@@ -46,7 +46,8 @@ first_items =
 abbrev first : TypedModuleTree
 first = record { module_tree = record { items = first_items }; functions = record { item = 3; locals = []; body = t.no_more } ∷ [] }
 
--- extern lock L; lock M; extern shared(L) int g; void help(void) holds(L); void w(int me) { lock(L); help(); unlock(L); }
+-- extern lock L; lock M; extern shared(L) int g; void help(void) holds(L); void w(int me) { lock(L); help();
+-- unlock(L); }
 abbrev second_items : List ItemTree
 second_items =
     global (declared (codes "L") Lock false) [] (at 13) ∷ global (declared (codes "M") Lock true) [] (at 21)

@@ -7,5 +7,5 @@ pub mod Locking
 pub mod Meanings
 mod Placed
 mod Starting
-mod Suiting
+mod Environments
 mod Valued

@@ -7,15 +7,14 @@ use Rattle.cas_base.specs.Decl.{is_function, functions_of, definitions, definiti
 use Rattle.cas_base.specs.declared.decl.Decl.{Decl}
 use Rattle.cas_base.specs.declared.decl.Form.{Form}
 use Rattle.cas_base.specs.declared.decl.Form.TheVariants.{Lock, Shared, Table, Function as AFunction}
-use Rattle.cas_own.specs.Checked.{decls_of}
 use Rattle.cas_program.specs.Laws.{Declares}
 use Rattle.cas_program.specs.Program.{IsProgram, units_of, entity_of_cell, cell_named, stands_for, declared_entity, item_entity, env_of}
 use Rattle.cas_settle.specs.Settle.{all_decls, cell_of, lock_word, place_of as place_named}
 use Rattle.cas_step.specs.Env.{FunctionAt, Entity, Env}
-use Rattle.cas_step.specs.Fits.{IsAt}
+use Rattle.cas_step.specs.Well_formed.{IsAt}
 use Rattle.cas_typed.specs.Bodies.{IsDefined}
 use Rattle.cas_typed.specs.Formed.{IsFormed}
-use Rattle.cas_typed.specs.Modules.{IsTyped}
+use Rattle.cas_typed.specs.Modules.{IsTyped, decls_of}
 use Rattle.cas_typed.specs.Resolved.{TypedModuleTree}
 use Rattle.cas_typed.proofs.Defined.{IsTyped-defined}
 use Rattle.cas_program.proofs.Agreeing.{AreAlike, alike_functions, among_all, HasDefinition, settled_defined}

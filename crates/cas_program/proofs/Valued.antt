@@ -14,10 +14,9 @@ use Rattle.cas_settle.specs.Settle.{all_decls, cell_of}
 use Rattle.cas_step.specs.Env.{Entity, function, lock}
 use Rattle.cas_syntax.specs.Tree.{ItemTree, global, prototype, define}
 use Rattle.cas_typed.specs.Formed.{IsFunctionForm, ItemsAreFormed}
-use Rattle.cas_typed.specs.Modules.{decl_of}
+use Rattle.cas_typed.specs.Modules.{decl_of, decls_of}
 use Rattle.cas_typed.specs.Resolved.{TypedModuleTree}
 use Rattle.cas_typed.proofs.Filled.{IsTyped-enough}
-use Rattle.cas_own.specs.Checked.{decls_of}
 use Rattle.cas_program.proofs.Agreeing.{alike_functions, found_name}
 use Rattle.cas_program.proofs.Laid_out.{kinds_in, kinds_length, get_front, get_behind, Begins}
 use Rattle.cas_program.proofs.Locking.{no_function_form}

@@ -1,32 +1,32 @@
 //! Laws of programs, each the contract of a function without effect.
 
-ghost use Rattle.cas_program.specs.Laws.{DeclarationsAgree, EntriesAreEntered, EntriesAreInOrder, EntriesHoldNone, FunctionsAgree, GuardsAgree, GuardsAreLocks, GuardsAreWords, InitialValuesStand, InitialWordsFit, LocksAreByName, LocksAreDeclared, LocksBeginFree, ProgramsSuit, SharedAreDeclared};
+ghost use Rattle.cas_program.specs.Laws.{DeclarationsAgree, EntriesAreEntered, EntriesAreInOrder, EntriesHoldNone, FunctionsAgree, GuardsAgree, GuardsAreLocks, GuardsAreWords, InitialValuesStand, InitialStoreIsWellTyped, LocksAreByName, LocksAreDeclared, LocksBeginFree, EnvironmentsAreWellFormed, SharedAreDeclared};
 
-/// The environment of a program suits its modules: each declaration stands for what it declares, and no word belongs to two
-/// globals or locks.
-pub fn programs_suit()
-    ensures { ProgramsSuit }
+/// The environment of a program is well-formed: each declaration stands for what it declares, and no word belongs to
+/// two globals or locks.
+pub fn environments_are_well_formed()
+    ensures { EnvironmentsAreWellFormed }
 {}
 
-/// The entries of a program are the functions of the names, one for each, in their order; threads may begin there, and
-/// hold no lock then.
+/// The entries of a program are the functions of the names, one for each, in their order. Threads may begin there, and
+/// hold no lock at their start.
 pub fn entries_are_entered()
     ensures in_order { EntriesAreInOrder }
     ensures entered { EntriesAreEntered }
     ensures none_held { EntriesHoldNone }
 {}
 
-/// The words with which a program begins are values of its kinds, as many as there are, and each guard is a lock's word. Each
-/// word of a global begins with its value at the global's definition, and a lock's with 1.
-pub fn initial_words_fit()
-    ensures words { InitialWordsFit }
+/// The initial store of a program is well-typed, and each guard is a lock's word. The initial value of each word of a
+/// global is its value at the global's definition; that of a lock is 1.
+pub fn initial_store_is_well_typed()
+    ensures words { InitialStoreIsWellTyped }
     ensures guards { GuardsAreWords }
     ensures values { InitialValuesStand }
     ensures locks { LocksBeginFree }
 {}
 
-/// What guards a shared global in its module is a lock of the program, and a lock has one word in all modules, which is
-/// no other's.
+/// The guard of a shared global in its module is a lock of the program. A lock has the same word in all modules, and no
+/// two locks have the same word.
 pub fn guards_are_locks()
     ensures guards { GuardsAreLocks }
     ensures shared_ones { SharedAreDeclared }
@@ -34,8 +34,8 @@ pub fn guards_are_locks()
     ensures names { LocksAreByName }
 {}
 
-/// Declarations of one name stand for the same, and agree: functions in what they take, return and hold, shared globals in
-/// what guards them.
+/// Declarations of one name stand for the same thing, and agree: functions in their parameters, return types and
+/// `holds`, shared globals in their guards.
 pub fn declarations_agree()
     ensures declarations { DeclarationsAgree }
     ensures functions { FunctionsAgree }

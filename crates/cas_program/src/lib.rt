@@ -1,7 +1,7 @@
-//! Programs: what typed modules that settle mean together. The definitions stand in `specs/Program`: what each item of each
-//! module stands for, the words with which a program begins, and the environment of its steps. `laws` has what they keep to, as
-//! stated in `specs/Laws`: the environment suits the modules, and declarations of one name are of one thing. It stands on
-//! `cas_base`, `cas_settle`, `cas_syntax`, `cas_typed`, `cas_own` and `cas_step`.
+//! Programs: what typed modules that settle mean together. `specs/Program` defines what each item of each module
+//! stands for, a program's initial words, and the environment of its steps. `specs/Laws` states the laws, which the
+//! contracts of `laws` prove: the environment is well-formed, and declarations of one name declare one thing. This
+//! crate has no code.
 #![tactic(auto)]
 
 pub mod laws;

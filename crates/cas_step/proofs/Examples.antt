@@ -33,7 +33,8 @@ with_pointers body = thread (Array I32 3 ∷ Int I32 ∷ Int I32 ∷ Ptr I32 ∷
 abbrev plus : TypedExprTree → ℕ → TypedExprTree
 plus p n = t.pointer_plus Signed p (number n)
 
--- print(*p); p = a + 3; print(*p); p = a + 4; print(a + 3 - a); x = 5; y = *&x; print(&x == &y); print(&x < &y); print(&x + 1 == &y);
+-- print(*p); p = a + 3; print(*p); p = a + 4; print(a + 3 - a); x = 5; y = *&x; print(&x == &y); print(&x < &y);
+-- print(&x + 1 == &y);
 pointer_rows :
     map with_pointers ((print 1 (t.behind I32 (t.local 4)) ∷ [])
     ∷ (point 1 4 (plus (t.place_of 1) 3) ∷ print 2 (t.behind I32 (t.local 4)) ∷ [])
@@ -67,8 +68,9 @@ when c a = t.if_ (at 0) c a t.absent
 abbrev turn : List TypedStmtTree
 turn = when (is 1 1) (t.continue_ (at 0)) ∷ when (is 1 3) (t.break_ (at 0)) ∷ print 5 (t.local 1) ∷ []
 
--- for (i = 0; i < 9; i += 1) { .. } print(i);   i = -1; while (i < 9) { i += 1; .. } print(i);   i = -1; do { i += 1; .. } while (i < 9); print(i);
--- for (;;) { if (i == 2) break; i += 1; } print(i);   do i += 1; while (0); print(i);   a break in an inner loop: for (; i < 2; i += 1) { while (1) break; print(i); }
+-- for (i = 0; i < 9; i += 1) { .. } print(i);   i = -1; while (i < 9) { i += 1; .. } print(i);   i = -1; do { i +=
+-- 1; .. } while (i < 9); print(i); for (;;) { if (i == 2) break; i += 1; } print(i);   do i += 1; while (0);
+-- print(i);   a break in an inner loop: for (; i < 2; i += 1) { while (1) break; print(i); }
 loop_rows :
     map (thread (Int I32 ∷ []) [] [])
     ((t.for_ (at 1) (t.present (set 2 1 (number 0))) (Some (less 1 9)) (t.present (add_to 3 1 1)) (block turn) ∷ print 6 (t.local 1) ∷ [])
@@ -81,7 +83,8 @@ loop_rows :
     ∷ outcome ended (2 ∷ []) [] ∷ outcome ended (1 ∷ []) [] ∷ outcome ended (0 ∷ 1 ∷ []) [] ∷ []
 loop_rows = refl
 
--- int i; for (i = 0; i < 3; i += 1) { int x; { int x; x = 8; } x += 2; print(x); }: the inner x is a local of its own, and neither begins anew
+-- int i; for (i = 0; i < 3; i += 1) { int x; { int x; x = 8; } x += 2; print(x); }: the inner x is a local of its
+-- own, and neither begins anew
 shadow_row : thread (Int I32 ∷ Int I32 ∷ Int I32 ∷ []) [] []
     (t.for_ (at 1) (t.present (set 2 1 (number 0))) (Some (less 1 3)) (t.present (add_to 3 1 1)) (block (t.skip (at 4) ∷ block (t.skip (at 5) ∷ set 6 3 (number 8) ∷ []) ∷ add_to 7 2 2 ∷ print 8 (t.local 2) ∷ [])) ∷ [])
     ≡ outcome ended (2 ∷ 4 ∷ 6 ∷ []) []

@@ -4,87 +4,87 @@ use Rattle.std.specs.Prelude.{⊤, ◌+◌, ◌⊎◌, slice_get, Contains}
 use Rattle.std.proofs.lemmas.List.Elements.{Contains-append_cases, Contains-append_left, Contains-append_right}
 use Rattle.cas_base.specs.declared.kind.Ty.{Ty}
 use Rattle.cas_typed.specs.Resolved.{TypedExprTree, TypedStmtTree, skip, assign, call, block, if_, while_, do_, for_, break_, continue_, return_, lock, unlock, print, absent, present}
-use Rattle.cas_step.specs.Asks.{Value, Asks, gives, fails, senseless, reads, looks, loads, word_in}
+use Rattle.cas_step.specs.Asks.{Value, Asks, gives, fails, stuck, reads, looks, loads, word_in}
 use Rattle.cas_step.specs.Env.{Entity, function, outside, shared, table, length_of}
 use Rattle.cas_step.specs.Env as env
-use Rattle.cas_step.specs.Evaluate.{Sight, Cell, of_object, of_global, value_of, values_of, test_of, target_of}
-use Rattle.cas_step.specs.Items.{Todo, begin, begun, loop, next, Deed, writes, into, jumps, after_break, after_continue, chooses, returned, statement_deed, deed_of}
+use Rattle.cas_step.specs.Evaluate.{EvalContext, Cell, of_object, of_global, value_of, values_of, test_of, target_of}
+use Rattle.cas_step.specs.Continuation.{ContItem, begin, begun, loop, next, Effect, writes, into, jumps, after_break, after_continue, chooses, returned, statement_effect, effect_of}
 use Rattle.cas_step.specs.Laws.{names, target_names, option_names, statement_names, item_names}
-use Rattle.cas_step.specs.Answered.{Got, got, bad, stuck, having_read, if_there, trace_of, word_at, answered, size_of, value_at}
+use Rattle.cas_step.specs.Answered.{Got, got, bad, got_stuck, having_read, if_there, trace_of, word_at, answered, size_of, value_at}
 use Rattle.cas_step.specs.Step.{Object}
 use Rattle.cas_step.proofs.Within.{Within, Any, IsPlaceIn, Below, then_within, word_within, value_within, values_within, test_within, target_within, CellBelow, AllNamed, left, right}
 
--- what a deed writes is a word of a named global, at a place below its length
-abbrev pub DeedBelow : {O : Type 0} → (ℕ → Option Entity) → (ℕ → Type 0) → Deed O → Type 0
-DeedBelow entity N (writes g i n todo) = Below entity N g i
-DeedBelow entity N _ = ⊤
+-- what an effect writes is a word of a named global, at a place below its length
+abbrev pub EffectBelow : {O : Type 0} → (ℕ → Option Entity) → (ℕ → Type 0) → Effect O → Type 0
+EffectBelow entity N (writes g i n cont) = Below entity N g i
+EffectBelow entity N _ = ⊤
 
-module _ {O : Type 0} (s : Sight O) (N : ℕ → Type 0) where
-  into_within : (c : Cell O) (v : Value O) (todo : List Todo) → CellBelow s N c → Within s.entity N (into c v todo) (DeedBelow s.entity N)
-  into_within (of_object o p) v todo h = tt
-  into_within (of_global g i) v todo h = then_within s.entity N Any (DeedBelow s.entity N) (word_in v) _ (word_within s.entity N v) (λ n k. h)
+module _ {O : Type 0} (s : EvalContext O) (N : ℕ → Type 0) where
+  into_within : (c : Cell O) (v : Value O) (cont : List ContItem) → CellBelow s N c → Within s.entity N (into c v cont) (EffectBelow s.entity N)
+  into_within (of_object o p) v cont h = tt
+  into_within (of_global g i) v cont h = then_within s.entity N Any (EffectBelow s.entity N) (word_in v) _ (word_within s.entity N v) (λ n k. h)
 
-  jumps_within : (to : Option (List Todo)) → Within {O = O} s.entity N (jumps to) (DeedBelow s.entity N)
+  jumps_within : (to : Option (List ContItem)) → Within {O = O} s.entity N (jumps to) (EffectBelow s.entity N)
   jumps_within None = tt
-  jumps_within (Some todo) = tt
+  jumps_within (Some cont) = tt
 
-  chooses_within : (c : Option TypedExprTree) (some others : List Todo) → AllNamed s N (option_names c) → Within s.entity N (chooses s c some others) (DeedBelow s.entity N)
+  chooses_within : (c : Option TypedExprTree) (some others : List ContItem) → AllNamed s N (option_names c) → Within s.entity N (chooses s c some others) (EffectBelow s.entity N)
   chooses_within None some others all = tt
-  chooses_within (Some c) some others all = then_within s.entity N Any (DeedBelow s.entity N) (test_of s c) _ (test_within s N c all) (λ is h. tt)
+  chooses_within (Some c) some others all = then_within s.entity N Any (EffectBelow s.entity N) (test_of s c) _ (test_within s N c all) (λ is h. tt)
 
-  returned_within : (a : Option TypedExprTree) → AllNamed s N (option_names a) → Within s.entity N (returned s a) (DeedBelow s.entity N)
+  returned_within : (a : Option TypedExprTree) → AllNamed s N (option_names a) → Within s.entity N (returned s a) (EffectBelow s.entity N)
   returned_within None all = tt
-  returned_within (Some a) all = then_within s.entity N Any (DeedBelow s.entity N) (value_of s a) _ (value_within s N a all) (λ v h. tt)
+  returned_within (Some a) all = then_within s.entity N Any (EffectBelow s.entity N) (value_of s a) _ (value_within s N a all) (λ v h. tt)
 
-  statement_within : (a : TypedStmtTree) (todo : List Todo) → AllNamed s N (statement_names a) → Within s.entity N (statement_deed s a todo) (DeedBelow s.entity N)
-  statement_within (skip p) todo all = tt
-  statement_within (assign p target a) todo all =
-      then_within s.entity N (CellBelow s N) (DeedBelow s.entity N) (target_of s target) _ (target_within s N target (left s N (target_names target) (names a) all)) (λ c h.
-      then_within s.entity N Any (DeedBelow s.entity N) (value_of s a) _ (value_within s N a (right s N (target_names target) (names a) all)) (λ v k. into_within c v todo h))
-  statement_within (block p bs) todo all = tt
-  statement_within (if_ p c a otherwise) todo all = chooses_within (Some c) _ _ all
-  statement_within (while_ p c a) todo all = chooses_within (Some c) _ _ all
-  statement_within (do_ p a c) todo all = tt
-  statement_within (for_ p i c after a) todo all = tt
-  statement_within (break_ p) todo all = jumps_within (after_break todo)
-  statement_within (continue_ p) todo all = jumps_within (after_continue todo)
-  statement_within (call p kept g at args) todo all = then_within s.entity N Any (DeedBelow s.entity N) (values_of s args) _ (values_within s N args all) (λ vs h. tt)
-  statement_within (return_ p a) todo all = returned_within a all
-  statement_within (lock p g) todo all = tt
-  statement_within (unlock p g) todo all = tt
-  statement_within (print p a) todo all =
-      then_within s.entity N Any (DeedBelow s.entity N) (value_of s a) _ (value_within s N a all) (λ v h.
-      then_within s.entity N Any (DeedBelow s.entity N) (word_in v) _ (word_within s.entity N v) (λ n k. tt))
+  statement_within : (a : TypedStmtTree) (cont : List ContItem) → AllNamed s N (statement_names a) → Within s.entity N (statement_effect s a cont) (EffectBelow s.entity N)
+  statement_within (skip p) cont all = tt
+  statement_within (assign p target a) cont all =
+      then_within s.entity N (CellBelow s N) (EffectBelow s.entity N) (target_of s target) _ (target_within s N target (left s N (target_names target) (names a) all)) (λ c h.
+      then_within s.entity N Any (EffectBelow s.entity N) (value_of s a) _ (value_within s N a (right s N (target_names target) (names a) all)) (λ v k. into_within c v cont h))
+  statement_within (block p bs) cont all = tt
+  statement_within (if_ p c a otherwise) cont all = chooses_within (Some c) _ _ all
+  statement_within (while_ p c a) cont all = chooses_within (Some c) _ _ all
+  statement_within (do_ p a c) cont all = tt
+  statement_within (for_ p i c after a) cont all = tt
+  statement_within (break_ p) cont all = jumps_within (after_break cont)
+  statement_within (continue_ p) cont all = jumps_within (after_continue cont)
+  statement_within (call p kept g at args) cont all = then_within s.entity N Any (EffectBelow s.entity N) (values_of s args) _ (values_within s N args all) (λ vs h. tt)
+  statement_within (return_ p a) cont all = returned_within a all
+  statement_within (lock p g) cont all = tt
+  statement_within (unlock p g) cont all = tt
+  statement_within (print p a) cont all =
+      then_within s.entity N Any (EffectBelow s.entity N) (value_of s a) _ (value_within s N a all) (λ v h.
+      then_within s.entity N Any (EffectBelow s.entity N) (word_in v) _ (word_within s.entity N v) (λ n k. tt))
 
-  pub deed_within : (ret : Ty) (todo : List Todo) → AllNamed s N (item_names todo) → Within s.entity N (deed_of s ret todo) (DeedBelow s.entity N)
-  deed_within ret [] all = tt
-  deed_within ret (begin a ∷ todo) all = statement_within a todo all
-  deed_within ret (begun p c a ∷ todo) all = chooses_within (Some c) _ _ all
-  deed_within ret (loop p c after a ∷ todo) all = chooses_within c _ _ all
-  deed_within ret (next p absent ∷ todo) all = tt
-  deed_within ret (next p (present a) ∷ todo) all = statement_within a todo all
+  pub effect_within : (ret : Ty) (cont : List ContItem) → AllNamed s N (item_names cont) → Within s.entity N (effect_of s ret cont) (EffectBelow s.entity N)
+  effect_within ret [] all = tt
+  effect_within ret (begin a ∷ cont) all = statement_within a cont all
+  effect_within ret (begun p c a ∷ cont) all = chooses_within (Some c) _ _ all
+  effect_within ret (loop p c after a ∷ cont) all = chooses_within c _ _ all
+  effect_within ret (next p absent ∷ cont) all = tt
+  effect_within ret (next p (present a) ∷ cont) all = statement_within a cont all
 
 -- the words that were read
 abbrev pub reads_of : {A : Type 0} → Got A → List ℕ
 reads_of (got rs a) = rs
 reads_of (bad rs why) = rs
-reads_of (stuck rs) = rs
+reads_of (got_stuck rs) = rs
 
 -- what was got is so
 abbrev pub GotSo : {A : Type 0} → (A → Type 0) → Got A → Type 0
 GotSo P (got rs a) = P a
 GotSo P (bad rs why) = ⊤
-GotSo P (stuck rs) = ⊤
+GotSo P (got_stuck rs) = ⊤
 
 reads-having_read : {A : Type 0} (before : List ℕ) (x : Got A) → reads_of (having_read before x) ≡ before ++ reads_of x
 reads-having_read before (got rs a) = refl
 reads-having_read before (bad rs why) = refl
-reads-having_read before (stuck rs) = refl
+reads-having_read before (got_stuck rs) = refl
 
 pub so-having_read : {A : Type 0} (P : A → Type 0) (before : List ℕ) (x : Got A) → GotSo P x → GotSo P (having_read before x)
 so-having_read P before (got rs a) h = h
 so-having_read P before (bad rs why) h = tt
-so-having_read P before (stuck rs) h = tt
+so-having_read P before (got_stuck rs) h = tt
 
 -- a word of one of these globals
 abbrev pub WordOf : (ℕ → Option Entity) → (ℕ → Type 0) → ℕ → Type 0
@@ -132,7 +132,7 @@ module _ (entity : ℕ → Option Entity) (N : ℕ → Type 0) where
       Contains (reads_of (answered entity word cells x)) n → WordOf entity N n
   answered_named P word cells (gives a) h n (k, b, same) = absurd (omega (arith, b))
   answered_named P word cells (fails why) h n (k, b, same) = absurd (omega (arith, b))
-  answered_named P word cells senseless h n (k, b, same) = absurd (omega (arith, b))
+  answered_named P word cells stuck h n (k, b, same) = absurd (omega (arith, b))
   answered_named P word cells (looks o more) h n c = answered_named P word cells (more (size_of (cells o))) (h (size_of (cells o))) n c
   answered_named P word cells (loads o p more) h n c =
       there_reads (value_at (cells o) p) (λ v. answered entity word cells (more v)) n c (λ v d. answered_named P word cells (more v) (h v) n d)
@@ -146,7 +146,7 @@ module _ (entity : ℕ → Option Entity) (N : ℕ → Type 0) where
   pub answered_so : {A : Type 0} (P : A → Type 0) (word : ℕ → Option ℕ) (cells : Object → Option (List (Value Object))) (x : Asks Object A) → Within entity N x P → GotSo P (answered entity word cells x)
   answered_so P word cells (gives a) h = h
   answered_so P word cells (fails why) h = tt
-  answered_so P word cells senseless h = tt
+  answered_so P word cells stuck h = tt
   answered_so P word cells (looks o more) h = answered_so P word cells (more (size_of (cells o))) (h (size_of (cells o)))
   answered_so P word cells (loads o p more) h = there_so P (value_at (cells o) p) (λ v. answered entity word cells (more v)) (λ v. answered_so P word cells (more v) (h v))
   answered_so P word cells (reads g i more) h =
@@ -172,12 +172,12 @@ word_same ws vs (Some (shared first len guard)) i below tables read = read (firs
 abbrev pub IsTold : {A : Type 0} → Got A → Type 0
 IsTold (got rs a) = ⊤
 IsTold (bad rs why) = ⊤
-IsTold (stuck rs) = ⊥
+IsTold (got_stuck rs) = ⊥
 
 told_behind : {A : Type 0} (before : List ℕ) (x : Got A) → IsTold (having_read before x) → IsTold x
 told_behind before (got rs a) h = tt
 told_behind before (bad rs why) h = tt
-told_behind before (stuck rs) h = h
+told_behind before (got_stuck rs) h = h
 
 there_same : {V A : Type 0} (x : Option V) (go more : V → Got A) → IsTold (if_there x more) →
     ((v : V) → IsTold (more v) → ((n : ℕ) → Contains (reads_of (more v)) n → Contains (reads_of (if_there x more)) n) → go v ≡ more v) → if_there x go ≡ if_there x more
@@ -201,7 +201,7 @@ pub answered_same : {A : Type 0} (entity : ℕ → Option Entity) (N : ℕ → T
     answered entity (slice_get vs) cells x ≡ answered entity (slice_get ws) cells x
 answered_same entity N P ws vs cells (gives a) h tables told read = refl
 answered_same entity N P ws vs cells (fails why) h tables told read = refl
-answered_same entity N P ws vs cells senseless h tables told read = refl
+answered_same entity N P ws vs cells stuck h tables told read = refl
 answered_same entity N P ws vs cells (looks o more) h tables told read = answered_same entity N P ws vs cells (more (size_of (cells o))) (h (size_of (cells o))) tables told read
 answered_same entity N P ws vs cells (loads o p more) h tables told read =
     there_same (value_at (cells o) p) (λ v. answered entity (slice_get vs) cells (more v)) (λ v. answered entity (slice_get ws) cells (more v)) told

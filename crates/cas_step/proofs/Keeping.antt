@@ -14,8 +14,8 @@ use Rattle.cas_typed.specs.Resolved.{TypedModuleTree}
 use Rattle.cas_typed.specs.Sorts.{IsLocal, MayKeep}
 use Rattle.cas_step.specs.Asks.{Value, word, null, pointer}
 use Rattle.cas_step.specs.Env.{Env}
-use Rattle.cas_step.specs.Fits.{FitsWord, FitEach}
-use Rattle.cas_step.specs.Items.{Todo}
+use Rattle.cas_step.specs.Well_formed.{IsWellTypedWord, AreWellTypedWords}
+use Rattle.cas_step.specs.Continuation.{ContItem}
 use Rattle.cas_step.specs.Sound.{types_of, types_at, IsOfType, cell_type, EachOfType, AreLocals, AreBlocks, CallerKeeps, AreActivations}
 use Rattle.cas_step.specs.Answered.{value_at}
 use Rattle.cas_step.specs.Step.{Object, Activation, Block, Config, memory_without, locals_of, zero_of, converted, cells_at}
@@ -25,25 +25,25 @@ use Rattle.cas_step.proofs.Values.{ThereIs}
 
 -- words with one that fits set
 
-pub words_set : (kinds : List (Option Kind)) (ws : List ℕ) (m n : ℕ) (k : Kind) → FitEach kinds ws → slice_get kinds m ≡ Some (Some k) → IsTrue (is_of_kind n k) → FitEach kinds (slice_set ws m n)
+pub words_set : (kinds : List (Option Kind)) (ws : List ℕ) (m n : ℕ) (k : Kind) → AreWellTypedWords kinds ws → slice_get kinds m ≡ Some (Some k) → IsTrue (is_of_kind n k) → AreWellTypedWords kinds (slice_set ws m n)
 words_set [] [] m n k h is of = tt
 words_set [] (w ∷ ws) m n k h is of = absurd h
 words_set (j ∷ ks) [] m n k h is of = absurd h
-words_set (j ∷ ks) (w ∷ ws) zero n k h is of = let same : j ≡ Some k = cc is in (subst (λ i. FitsWord i n) (sym same) of, h.1)
+words_set (j ∷ ks) (w ∷ ws) zero n k h is of = let same : j ≡ Some k = cc is in (subst (λ i. IsWellTypedWord i n) (sym same) of, h.1)
 words_set (j ∷ ks) (w ∷ ws) (suc m) n k h is of = (h.0, words_set ks ws m n k h.1 is of)
 
 -- the activation with other items to do
-abbrev pub with_todo : Activation → List Todo → Activation
-with_todo a todo = record { serial = a.serial; function = a.function; target = a.target; todo = todo }
+abbrev pub with_cont : Activation → List ContItem → Activation
+with_cont a cont = record { serial = a.serial; function = a.function; target = a.target; cont = cont }
 
 module _ (e : Env) where
-  pub todo_keeps : (a : Activation) (todo : List Todo) (older : List Activation) → CallerKeeps e a older → CallerKeeps e (with_todo a todo) older
-  todo_keeps a todo [] h = tt
-  todo_keeps a todo (caller ∷ older) h = h
+  pub cont_keeps : (a : Activation) (cont : List ContItem) (older : List Activation) → CallerKeeps e a older → CallerKeeps e (with_cont a cont) older
+  cont_keeps a cont [] h = tt
+  cont_keeps a cont (caller ∷ older) h = h
 
-  pub todo_blocks : (c : Config) (a : Activation) (todo : List Todo) (older : List Activation) (memory : List Block) → AreBlocks e c (a ∷ older) memory → AreBlocks e c (with_todo a todo ∷ older) memory
-  todo_blocks c a todo older [] h = absurd h
-  todo_blocks c a todo older (b ∷ bs) h = h
+  pub cont_blocks : (c : Config) (a : Activation) (cont : List ContItem) (older : List Activation) (memory : List Block) → AreBlocks e c (a ∷ older) memory → AreBlocks e c (with_cont a cont ∷ older) memory
+  cont_blocks c a cont older [] h = absurd h
+  cont_blocks c a cont older (b ∷ bs) h = h
 
   -- blocks without those of the newest activation
   pub without_blocks : (c : Config) (a : Activation) (older : List Activation) (memory : List Block) → AreBlocks e c (a ∷ older) memory → AreBlocks e c older (memory_without memory a.serial)

@@ -1,5 +1,5 @@
 mod Answering
-mod Deeds
+mod Effects
 mod Examples
 mod Footprints
 mod Keeping

@@ -28,8 +28,8 @@ signed op a b = t.binary op Signed (number a) (number b)
 abbrev unsigned : BinaryOperator → ℕ → ℕ → TypedExprTree
 unsigned op a b = t.binary op Unsigned (number a) (number b)
 
--- 2147483647 + 1, 3 - 5, -8 >> 1, 4294967295u >> 31, 1 << 33, -1 < 1, -1 < 1u, 2 >= 2, -7 / 2, -7 % 2, 4294967295u / 2u, 7u % 0u, -2147483648 % -1,
--- 12 & 10, 12 | 10, 12 ^ 10, ~5, -5, !0, (char)200
+-- 2147483647 + 1, 3 - 5, -8 >> 1, 4294967295u >> 31, 1 << 33, -1 < 1, -1 < 1u, 2 >= 2, -7 / 2, -7 % 2, 4294967295u /
+-- 2u, 7u % 0u, -2147483648 % -1, 12 & 10, 12 | 10, 12 ^ 10, ~5, -5, !0, (char)200
 word_rows :
     map printed (signed bin.Add 2147483647 1 ∷ signed bin.Sub 3 5 ∷ signed bin.Shr 4294967288 1 ∷ unsigned bin.Shr 4294967295 31 ∷ signed bin.Shl 1 33
     ∷ signed bin.Lt 4294967295 1 ∷ unsigned bin.Lt 4294967295 1 ∷ signed bin.Ge 2 2 ∷ signed bin.Div 4294967289 2 ∷ signed bin.Mod 4294967289 2 ∷ unsigned bin.Div 4294967295 2 ∷ unsigned bin.Mod 7 0 ∷ signed bin.Mod 2147483648 4294967295

@@ -1,4 +1,5 @@
--- Small programs: at which places their steps are, calls into another module and into the same function, and orders of faults.
+-- Small programs: at which places their steps are, calls into another module and into the same function, and orders
+-- of faults.
 use Rattle.std.proofs.Common.{◌≡◌, ℕ, List, [], ◌∷◌, Option, Some, None, refl}
 use Rattle.std.specs.Prelude.{map, nat_eq, false, if◌then◌else◌}
 use Rattle.cas_base.specs.declared.act.Why.TheVariants.{Null, Dead}
@@ -8,7 +9,7 @@ use Rattle.cas_syntax.specs.declared.tree.BinaryOperator.TheVariants as bin
 use Rattle.cas_typed.specs.declared.tree.Signedness.TheVariants.{Signed}
 use Rattle.cas_typed.specs.Resolved as t
 use Rattle.cas_typed.specs.Resolved.{TypedExprTree, TypedStmtTree}
-use Rattle.cas_step.specs.Answered.{Got, got, stuck, answered}
+use Rattle.cas_step.specs.Answered.{Got, got, got_stuck, answered}
 use Rattle.cas_step.specs.Asks.{Value, word, pointer}
 use Rattle.cas_step.specs.Env.{Entity, function, shared, Env}
 use Rattle.cas_step.specs.Evaluate.{value_of}
@@ -28,8 +29,9 @@ less_than_one = t.binary bin.Lt Signed (t.local 0) (number 1)
 abbrev up : ℕ → TypedStmtTree
 up col = set col 0 (t.binary bin.Add Signed (t.local 0) (number 1))
 
--- while (i < 1) i += 1; at 1 and 2, and the closing brace at 99; a do, whose while is at its own place; a for, whose test is at its
--- place, its last part at the part's; and a for without a last part, where that step is at the for's place
+-- while (i < 1) i += 1; at 1 and 2, and the closing brace at 99; a do, whose while is at its own place; a for, whose
+-- test is at its place, its last part at the part's; and a for without a last part, where that step is at the for's
+-- place
 place_rows :
     map column ((t.while_ (at 1) less_than_one (up 2) ∷ [])
     ∷ (t.do_ (at 1) (up 2) less_than_one ∷ [])
@@ -41,8 +43,8 @@ place_rows :
     ∷ ((0, 1) ∷ (0, 1) ∷ (0, 4) ∷ (0, 1) ∷ (0, 1) ∷ (0, 99) ∷ []) ∷ []
 place_rows = refl
 
--- two modules, each with a global as item 0: void w(int me) { f(); print(g); } and void f() { h = g + 5; } over words 7 and 8, where
--- the second's g is word 1, and its h the first's g
+-- two modules, each with a global as item 0: void w(int me) { f(); print(g); } and void f() { h = g + 5; } over
+-- words 7 and 8, where the second's g is word 1, and its h the first's g
 abbrev two_modules : Env
 two_modules = modules_of
     ((function_of Void (Int I32 ∷ []) (t.call (at 1) None 1 (at 0) [] ∷ print 2 (t.global 0 (at 0)) ∷ []) ∷ [])
@@ -55,8 +57,8 @@ second_module = refl
 second_module_places : told_places two_modules (7 ∷ 8 ∷ []) ≡ (0, 1) ∷ (1, 3) ∷ (1, 99) ∷ (0, 2) ∷ (0, 99) ∷ []
 second_module_places = refl
 
--- void f(int n, int *p) { int x; if (n == 0) { *p = 9; return; } x = n; f(n - 1, &x); print(x); } with f(2, 0): the innermost writes
--- the x of the activation that called it, and no other
+-- void f(int n, int *p) { int x; if (n == 0) { *p = 9; return; } x = n; f(n - 1, &x); print(x); } with f(2, 0): the
+-- innermost writes the x of the activation that called it, and no other
 same_function : thread [] (function_of Void (Int I32 ∷ Ptr I32 ∷ Int I32 ∷ [])
     (t.if_ (at 1) (t.binary bin.Eq Signed (t.local 0) (number 0)) (t.block (at 2) (stmts (t.assign (at 3) (t.to_behind I32 (t.local 1)) (int (number 9)) ∷ t.return_ (at 4) None ∷ []))) t.absent
     ∷ set 5 2 (t.local 0)
@@ -99,5 +101,5 @@ alone a = answered globals share cells (value_of (record { entity = globals; own
 
 -- *p; g and *p, with g in the share; g + h, with h outside it: the word that was read before is told
 alone_rows : map alone (t.behind I32 (t.local 0) ∷ t.binary bin.Add Signed (t.global 1 (at 0)) (t.behind I32 (t.local 0)) ∷ t.binary bin.Add Signed (t.global 1 (at 0)) (t.global 2 (at 0)) ∷ [])
-    ≡ got [] (word 40) ∷ got (1 ∷ []) (word 47) ∷ stuck (1 ∷ []) ∷ []
+    ≡ got [] (word 40) ∷ got (1 ∷ []) (word 47) ∷ got_stuck (1 ∷ []) ∷ []
 alone_rows = refl

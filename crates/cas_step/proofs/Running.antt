@@ -53,13 +53,13 @@ point col n a = t.assign (at col) (t.to_local n) a
 abbrev pub print : (column : ℕ) → TypedExprTree → TypedStmtTree
 print col a = t.print (at col) (int a)
 
--- how a run ended: it ended, met a Bad step at a place, or goes on
+-- how a run ended: it ended, met a Bad step at a place, or continues
 pub data End : Type 0 where
   ended : End
   bad : Why → (column : ℕ) → End
   runs_on : End
 
--- what a run came to: its end, what it put out, and the words
+-- what a run came to: its end, what it output, and the words
 pub record Outcome : Type 0 where
   pub end : End
   pub out : List ℕ
@@ -68,7 +68,7 @@ pub record Outcome : Type 0 where
 abbrev pub outcome : End → List ℕ → List ℕ → Outcome
 outcome end out ws = record { end = end; out = out; words = ws }
 
--- the outcome behind a step, by what goes on
+-- the outcome behind a step, by what continues
 abbrev pub run_after : (List ℕ → Config → List ℕ → Outcome) → (out : List ℕ) → Step → Act → Outcome
 run_after go out s (act.Bad why) = outcome (bad why s.place.col) out s.words
 run_after go out s (act.Out m) = go s.words s.next (out ++ m ∷ [])
@@ -87,7 +87,7 @@ run e (suc n) ws c out = run_by (run e n) ws out (step e ws c)
 abbrev pub told : Env → List ℕ → Outcome
 told e ws = run e 200 ws (start e (record { unit = 0; place = 0 }) (word 0 ∷ [])) []
 
--- the body of a thread's function with these locals behind its parameter, in a module of this function and these others
+-- the body of a thread's function with these locals after its parameter, in a module of this function and these others
 abbrev pub thread : List Ty → List Function → List Entity → List TypedStmtTree → Outcome
 thread locals others items body = told (module_of (function_of Void (Int I32 ∷ locals) body ∷ others) items) []
 

@@ -13,18 +13,18 @@ use Rattle.cas_base.specs.declared.decl.Form.TheVariants.{Lock, Shared, Table, F
 use Rattle.cas_base.specs.declared.kind.Kind.{Kind}
 use Rattle.cas_base.specs.declared.kind.Ty.{Ty}
 use Rattle.cas_base.specs.declared.kind.Ty.TheVariants.{Void, Int, Ptr, Array}
-use Rattle.cas_typed.specs.Modules.{decl_of, return_type}
+use Rattle.cas_typed.specs.Modules.{decl_of, return_type, decls_of}
 use Rattle.cas_typed.specs.Resolved.{TypedFunTree, TypedModuleTree}
 use Rattle.cas_typed.specs.Sorts as so
 use Rattle.cas_typed.specs.Sorts.{IsLocal, IsVariable, AreSorted, IsSortedFunction, IsSortedModule}
 use Rattle.cas_typed.specs.Types.{variable_type}
 use Rattle.cas_step.specs.Asks.{Value, word, null, pointer}
 use Rattle.cas_step.specs.Env.{FunctionAt, Entity, function, outside, shared, table, lock, length_of, Env}
-use Rattle.cas_step.specs.Fits.{IsAt, IsFunctionOf, kind_of, AreCells, StandsFor, Suits, FitsWord, FitEach, FitsWords}
+use Rattle.cas_step.specs.Well_formed.{IsAt, IsFunctionOf, kind_of, AreCells, StandsFor, IsWellFormed, IsWellTypedWord, AreWellTypedWords, IsWellTypedStore}
 use Rattle.cas_typed.specs.Literals.{BodyHasWords}
 use Rattle.cas_step.specs.Sound.{types_of, types_at, IsObjectOf, PointsTo, IsOfType, cell_type, AreBlocks}
 use Rattle.cas_step.specs.Answered.{size_of, value_at, word_at}
-use Rattle.cas_step.specs.Step.{Object, Activation, Block, Config, Here, sight_of, cells_at}
+use Rattle.cas_step.specs.Step.{Object, Activation, Block, Config, StepContext, eval_context_of, cells_at}
 use Rattle.cas_step.proofs.Memory.{CellsMatch, type_at, object_match, value_there, reached, IsLive}
 use Rattle.cas_step.proofs.Values.{ThereIs, IsWord, OfSort, Sees}
 
@@ -40,15 +40,15 @@ there_map P Q (Some a) h go = go a h
 
 -- the types of a function's locals, what it returns and its body are well sorted
 
-module _ (modules : List TypedModuleTree) (e : Env) (suits : Suits modules e) (f : FunctionAt) (unit : TypedModuleTree) (it : TypedFunTree) (at_place : IsAt modules f unit it) where
+module _ (modules : List TypedModuleTree) (e : Env) (well_formed : IsWellFormed modules e) (f : FunctionAt) (unit : TypedModuleTree) (it : TypedFunTree) (at_place : IsAt modules f unit it) where
   abbrev pub decls : List Decl
-  decls = map decl_of unit.module_tree.items
+  decls = decls_of unit
 
   is_function : IsFunctionOf unit it (e.function f)
-  is_function = suits.functions f unit it at_place
+  is_function = well_formed.functions f unit it at_place
 
   is_sorted : IsSortedFunction decls it
-  is_sorted = all_at (IsSortedFunction decls) unit.functions f.place it at_place.function_is (all_at IsSortedModule modules f.unit unit at_place.unit_is suits.sorted)
+  is_sorted = all_at (IsSortedFunction decls) unit.functions f.place it at_place.function_is (all_at IsSortedModule modules f.unit unit at_place.unit_is well_formed.sorted)
 
   declared_so : is_sorted.0.form ≡ is_function.tree.decl.form
   declared_so =
@@ -66,23 +66,23 @@ module _ (modules : List TypedModuleTree) (e : Env) (suits : Suits modules e) (f
 
 -- words that fit
 
-pub word_fits : (kinds : List (Option Kind)) (ws : List ℕ) (n : ℕ) (k : Option Kind) → FitEach kinds ws → slice_get kinds n ≡ Some k → ThereIs (FitsWord k) (slice_get ws n)
+pub word_fits : (kinds : List (Option Kind)) (ws : List ℕ) (n : ℕ) (k : Option Kind) → AreWellTypedWords kinds ws → slice_get kinds n ≡ Some k → ThereIs (IsWellTypedWord k) (slice_get ws n)
 word_fits [] [] n k h is = absurd (cc is)
 word_fits [] (w ∷ ws) n k h is = absurd h
 word_fits (j ∷ ks) [] n k h is = absurd h
-word_fits (j ∷ ks) (w ∷ ws) zero k h is = let same : j ≡ k = cc is in subst (λ i. FitsWord i w) same h.0
+word_fits (j ∷ ks) (w ∷ ws) zero k h is = let same : j ≡ k = cc is in subst (λ i. IsWellTypedWord i w) same h.0
 word_fits (j ∷ ks) (w ∷ ws) (suc n) k h is = word_fits ks ws n k h.1 is
 
-module _ (modules : List TypedModuleTree) (e : Env) (suits : Suits modules e) (unit : TypedModuleTree) (n : ℕ) (unit_is : slice_get modules n ≡ Some unit) where
+module _ (modules : List TypedModuleTree) (e : Env) (well_formed : IsWellFormed modules e) (unit : TypedModuleTree) (n : ℕ) (unit_is : slice_get modules n ≡ Some unit) where
   -- what a declaration of this form stands for
-  pub stands_for : (g : ℕ) (form : Form) → so.IsDeclared (map decl_of unit.module_tree.items) g form → StandsFor modules e form (e.entity n g)
-  stands_for g form (d, is, so) = subst (λ x. StandsFor modules e x (e.entity n g)) so (suits.entities n g unit d unit_is is)
+  pub stands_for : (g : ℕ) (form : Form) → so.IsDeclared (decls_of unit) g form → StandsFor modules e form (e.entity n g)
+  stands_for g form (d, is, so) = subst (λ x. StandsFor modules e x (e.entity n g)) so (well_formed.entities n g unit d unit_is is)
 
   -- a variable has so many words, of a kind
   abbrev IsStretch : Ty → (ws : List ℕ) → Option Entity → Type 0
-  IsStretch ty ws it = (length_of it ≡ Some (words_of_ty ty)) × ((i : ℕ) → i < words_of_ty ty → ThereIs (FitsWord (kind_of ty)) (word_at (slice_get ws) it i))
+  IsStretch ty ws it = (length_of it ≡ Some (words_of_ty ty)) × ((i : ℕ) → i < words_of_ty ty → ThereIs (IsWellTypedWord (kind_of ty)) (word_at (slice_get ws) it i))
 
-  stretch_by : (form : Form) (ty : Ty) (ws : List ℕ) (it : Option Entity) → FitsWords e ws → variable_type form ≡ Some ty → StandsFor modules e form it → IsStretch ty ws it
+  stretch_by : (form : Form) (ty : Ty) (ws : List ℕ) (it : Option Entity) → IsWellTypedStore e ws → variable_type form ≡ Some ty → StandsFor modules e form it → IsStretch ty ws it
   stretch_by Lock ty ws it fits is stands = absurd (cc is)
   stretch_by (AFunction ret params holds) ty ws it fits is stands = absurd (cc is)
   stretch_by (Shared of name) ty ws None fits is stands = absurd stands
@@ -102,18 +102,18 @@ module _ (modules : List TypedModuleTree) (e : Env) (suits : Suits modules e) (u
       let same : of ≡ ty = cc is in
       (ap Some (stands.0 ∙ ap words_of_ty same), λ i less. word_fits e.kinds ws (first + i) (kind_of ty) fits (subst (AreCells e.kinds first) same stands.1 i less))
 
-  variable_stretch : (g : ℕ) (ty : Ty) (ws : List ℕ) → FitsWords e ws → IsVariable (map decl_of unit.module_tree.items) g ty → IsStretch ty ws (e.entity n g)
+  variable_stretch : (g : ℕ) (ty : Ty) (ws : List ℕ) → IsWellTypedStore e ws → IsVariable (decls_of unit) g ty → IsStretch ty ws (e.entity n g)
   variable_stretch g ty ws fits (form, declared, is) = stretch_by form ty ws (e.entity n g) fits is (stands_for g form declared)
 
-  word_by : (o : Option Kind) (k : Kind) (w : ℕ) → o ≡ Some k → FitsWord o w → IsWord w
+  word_by : (o : Option Kind) (k : Kind) (w : ℕ) → o ≡ Some k → IsWellTypedWord o w → IsWord w
   word_by None k w is h = absurd (cc is)
   word_by (Some j) k w is h = word_of_kind w j h
 
-  pub length_there : (g : ℕ) (ty : Ty) (ws : List ℕ) → FitsWords e ws → IsVariable (map decl_of unit.module_tree.items) g ty → length_of (e.entity n g) ≡ Some (words_of_ty ty)
+  pub length_there : (g : ℕ) (ty : Ty) (ws : List ℕ) → IsWellTypedStore e ws → IsVariable (decls_of unit) g ty → length_of (e.entity n g) ≡ Some (words_of_ty ty)
   length_there g ty ws fits is = (variable_stretch g ty ws fits is).0
 
-  pub word_there : (g : ℕ) (ty : Ty) (k : Kind) (i : ℕ) (ws : List ℕ) → FitsWords e ws → IsVariable (map decl_of unit.module_tree.items) g ty → kind_of ty ≡ Some k → i < words_of_ty ty → ThereIs IsWord (word_at (slice_get ws) (e.entity n g) i)
-  word_there g ty k i ws fits is of less = there_map (FitsWord (kind_of ty)) IsWord (word_at (slice_get ws) (e.entity n g) i) ((variable_stretch g ty ws fits is).1 i less) (λ w h. word_by (kind_of ty) k w of h)
+  pub word_there : (g : ℕ) (ty : Ty) (k : Kind) (i : ℕ) (ws : List ℕ) → IsWellTypedStore e ws → IsVariable (decls_of unit) g ty → kind_of ty ≡ Some k → i < words_of_ty ty → ThereIs IsWord (word_at (slice_get ws) (e.entity n g) i)
+  word_there g ty k i ws fits is of less = there_map (IsWellTypedWord (kind_of ty)) IsWord (word_at (slice_get ws) (e.entity n g) i) ((variable_stretch g ty ws fits is).1 i less) (λ w h. word_by (kind_of ty) k w of h)
 
 -- the locals
 
@@ -123,7 +123,7 @@ module _ (e : Env) (a : Activation) (older : List Activation) (memory : List Blo
   thread = record { activations = a ∷ older; memory = memory; fresh = fresh }
 
   -- where it stands
-  abbrev pub standing : List ℕ → Here
+  abbrev pub standing : List ℕ → StepContext
   standing ws = record { config = thread; newest = a; older = older; words = ws }
 
   -- a local of the newest activation
@@ -196,15 +196,15 @@ module _ (e : Env) (a : Activation) (older : List Activation) (memory : List Blo
     pub moves_there : (k : Kind) (o : Object) (p m q : ℕ) → Points k o p → size_of (cells_at memory o) ≡ Some m → q ≤ m → Points k o q
     moves_there k o p m q points size at_most = record { begun_before = points.begun_before; in_reach = within_by k o p m q points size at_most }
 
-    module _ (modules : List TypedModuleTree) (suits : Suits modules e) (unit : TypedModuleTree) (unit_is : slice_get modules a.function.unit ≡ Some unit) (ws : List ℕ) (fits : FitsWords e ws) where
+    module _ (modules : List TypedModuleTree) (well_formed : IsWellFormed modules e) (unit : TypedModuleTree) (unit_is : slice_get modules a.function.unit ≡ Some unit) (ws : List ℕ) (fits : IsWellTypedStore e ws) where
       -- what evaluating meets
-      pub sees : Sees Points (types_of e a) (map decl_of unit.module_tree.items) (sight_of e (standing ws)) ws memory
+      pub sees : Sees Points (types_of e a) (decls_of unit) (eval_context_of e (standing ws)) ws memory
       sees = record {
         integers = integer_there;
         pointers = pointer_there;
         own = own_there;
         loads = load_there;
         moves = moves_there;
-        lengths = λ g ty is. length_there modules e suits unit a.function.unit unit_is g ty ws fits is;
-        words = λ g ty k i is of less. word_there modules e suits unit a.function.unit unit_is g ty k i ws fits is of less;
+        lengths = λ g ty is. length_there modules e well_formed unit a.function.unit unit_is g ty ws fits is;
+        words = λ g ty k i is of less. word_there modules e well_formed unit a.function.unit unit_is g ty k i ws fits is of less;
       }

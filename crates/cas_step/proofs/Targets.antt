@@ -10,27 +10,27 @@ use Rattle.cas_base.specs.declared.kind.Kind.{Kind}
 use Rattle.cas_base.specs.declared.kind.Ty.{Ty}
 use Rattle.cas_base.specs.declared.kind.Ty.TheVariants.{Void, Int, Ptr, Array}
 use Rattle.cas_base.proofs.KindLaws.{narrowed_is_of_kind}
-use Rattle.cas_typed.specs.Modules.{decl_of}
+use Rattle.cas_typed.specs.Modules.{decls_of}
 use Rattle.cas_typed.specs.Resolved as t
 use Rattle.cas_typed.specs.Resolved.{TypedExprTree, TypedTargetTree, to_local, to_global, to_element, to_behind, TypedStmtTree, TypedStmtOption, absent, present, TypedStmtList, TypedFunTree, TypedModuleTree}
 use Rattle.cas_typed.specs.Sorts as so
 use Rattle.cas_typed.specs.Sorts.{IsLocal, IsDeclared, IsValue, AreValues, IsCell, MayKeep, MayReturn, IsTest, AreSorted}
 use Rattle.cas_step.specs.Asks.{Value, word, null, pointer, Asks, and_then, word_in, pointed}
 use Rattle.cas_step.specs.Env.{Entity, function, outside, shared, table, lock, length_of, Env}
-use Rattle.cas_step.specs.Evaluate.{Sight, Cell, of_object, of_global, only_place, element_place, value_of, values_of, target_of}
-use Rattle.cas_step.specs.Fits.{kind_of, StandsFor, Suits, FitsWords}
+use Rattle.cas_step.specs.Evaluate.{EvalContext, Cell, of_object, of_global, only_place, element_place, value_of, values_of, target_of}
+use Rattle.cas_step.specs.Well_formed.{kind_of, StandsFor, IsWellFormed, IsWellTypedStore}
 use Rattle.cas_typed.specs.Literals.{HasWords, TargetHasWords, AllHaveWords}
 use Rattle.cas_step.specs.Pointers.{cell_behind}
 use Rattle.cas_step.specs.Sound.{Gets, types_of, IsObjectOf, PointsTo, IsOfType, cell_type, AreBlocks}
-use Rattle.cas_step.specs.Answered.{Got, got, bad, stuck, value_at}
-use Rattle.cas_step.specs.Step.{Object, Activation, Block, Config, sight_of, cells_at}
+use Rattle.cas_step.specs.Answered.{Got, got, bad, got_stuck, value_at}
+use Rattle.cas_step.specs.Step.{Object, Activation, Block, Config, eval_context_of, cells_at}
 use Rattle.cas_step.proofs.Memory.{MayHold, value_there}
 use Rattle.cas_step.proofs.Situation.{thread, standing, own, own_types, own_match, sees, stands_for}
 use Rattle.cas_step.proofs.Values.{ThereIs, IsWord, OfSort, Aims, Sure, sure_then, word_sure, pointed_sure, cell_sure, only_sure, element_sure, value_sure}
 use Rattle.cas_step.proofs.Within.{Any}
 
-module _ (modules : List TypedModuleTree) (e : Env) (suits : Suits modules e) (a : Activation) (older : List Activation) (memory : List Block) (fresh : ℕ) (started : a.serial < fresh)
-    (blocks : AreBlocks e (thread e a older memory fresh started) (a ∷ older) memory) (unit : TypedModuleTree) (unit_is : slice_get modules a.function.unit ≡ Some unit) (ws : List ℕ) (fits : FitsWords e ws) where
+module _ (modules : List TypedModuleTree) (e : Env) (well_formed : IsWellFormed modules e) (a : Activation) (older : List Activation) (memory : List Block) (fresh : ℕ) (started : a.serial < fresh)
+    (blocks : AreBlocks e (thread e a older memory fresh started) (a ∷ older) memory) (unit : TypedModuleTree) (unit_is : slice_get modules a.function.unit ≡ Some unit) (ws : List ℕ) (fits : IsWellTypedStore e ws) where
   abbrev pub c : Config
   c = record { activations = a ∷ older; memory = memory; fresh = fresh }
 
@@ -38,27 +38,27 @@ module _ (modules : List TypedModuleTree) (e : Env) (suits : Suits modules e) (a
   vs = types_of e a
 
   abbrev ds : List Decl
-  ds = map decl_of unit.module_tree.items
+  ds = decls_of unit
 
   abbrev pub Certain : {A : Type 0} → (A → Type 0) → Asks Object A → Type 0
-  Certain P x = Sure (PointsTo e c) vs ds (sight_of e (standing e a older memory fresh started ws)) ws memory (sees e a older memory fresh started blocks modules suits unit unit_is ws fits) P x
+  Certain P x = Sure (PointsTo e c) vs ds (eval_context_of e (standing e a older memory fresh started ws)) ws memory (sees e a older memory fresh started blocks modules well_formed unit unit_is ws fits) P x
 
   pub certain_then : {A B : Type 0} (P : A → Type 0) (Q : B → Type 0) (x : Asks Object A) (more : A → Asks Object B) → Certain P x → ((v : A) → P v → Certain Q (more v)) → Certain Q (and_then x more)
-  certain_then P Q x more h go = sure_then (PointsTo e c) vs ds (sight_of e (standing e a older memory fresh started ws)) ws memory (sees e a older memory fresh started blocks modules suits unit unit_is ws fits) P Q x more h go
+  certain_then P Q x more h go = sure_then (PointsTo e c) vs ds (eval_context_of e (standing e a older memory fresh started ws)) ws memory (sees e a older memory fresh started blocks modules well_formed unit unit_is ws fits) P Q x more h go
 
   pub gets_map : {A : Type 0} (P Q : A → Type 0) (x : Got A) → Gets P x → ((v : A) → P v → Q v) → Gets Q x
   gets_map P Q (got rs v) h go = go v h
   gets_map P Q (bad rs why) h go = tt
-  gets_map P Q (stuck rs) h go = absurd h
+  gets_map P Q (got_stuck rs) h go = absurd h
 
-  abbrev sight : Sight Object
-  sight = sight_of e (standing e a older memory fresh started ws)
+  abbrev sight : EvalContext Object
+  sight = eval_context_of e (standing e a older memory fresh started ws)
 
   pub sort_certain : (x : TypedExprTree) (sort : so.Sort) → so.HasSort vs ds x sort → HasWords x → Certain (OfSort (PointsTo e c) sort) (value_of sight x)
-  sort_certain x sort h w = value_sure (PointsTo e c) vs ds sight ws memory (sees e a older memory fresh started blocks modules suits unit unit_is ws fits) x sort h w
+  sort_certain x sort h w = value_sure (PointsTo e c) vs ds sight ws memory (sees e a older memory fresh started blocks modules well_formed unit unit_is ws fits) x sort h w
 
   word_certain : (v : Value Object) → OfSort (PointsTo e c) so.word v → Certain IsWord (word_in v)
-  word_certain v h = word_sure (PointsTo e c) vs ds sight ws memory (sees e a older memory fresh started blocks modules suits unit unit_is ws fits) v h
+  word_certain v h = word_sure (PointsTo e c) vs ds sight ws memory (sees e a older memory fresh started blocks modules well_formed unit unit_is ws fits) v h
 
   -- a pointer of the kind, as a value of its type
   pointer_typed : (k : Kind) (v : Value Object) → OfSort (PointsTo e c) (so.pointer k) v → IsOfType e c (Ptr k) v
@@ -175,13 +175,13 @@ module _ (modules : List TypedModuleTree) (e : Env) (suits : Suits modules e) (a
       record { first = first; len = len; guard = by; is_shared = is; kind = stands.1 i less ∙ ap Some of }
 
   writable : (g i : ℕ) (ty : Ty) (k : Kind) (guard : List ℕ) → IsDeclared ds g (Shared ty guard) → kind_of ty ≡ Some k → i < words_of_ty ty → IsWritable g i k
-  writable g i ty k guard declared of less = writable_by g i ty k guard (e.entity a.function.unit g) refl (stands_for modules e suits unit a.function.unit unit_is g (Shared ty guard) declared) of less
+  writable g i ty k guard declared of less = writable_by g i ty k guard (e.entity a.function.unit g) refl (stands_for modules e well_formed unit a.function.unit unit_is g (Shared ty guard) declared) of less
 
   pub target_certain : (target : TypedTargetTree) (ty : Ty) → IsCell vs ds target ty → IsScalar ty → TargetHasWords target → Certain (CellFits ty) (target_of sight target)
   target_certain (to_local n) ty h scalar w = own_cell n ty h scalar
   target_certain (to_global g at) (Int k) h scalar w =
       certain_then (IsLess 1) (CellFits (Int k)) (only_place (length_of (sight.entity g))) _
-      (only_sure (PointsTo e c) vs ds sight ws memory (sees e a older memory fresh started blocks modules suits unit unit_is ws fits) g k (Shared (Int k) h.0, h.1, refl))
+      (only_sure (PointsTo e c) vs ds sight ws memory (sees e a older memory fresh started blocks modules well_formed unit unit_is ws fits) g k (Shared (Int k) h.0, h.1, refl))
       (λ i less. (k, refl, writable g i (Int k) k h.0 h.1 refl less))
   target_certain (to_global g at) (Ptr k) h scalar w = absurd h
   target_certain (to_global g at) Void h scalar w = absurd h
@@ -189,7 +189,7 @@ module _ (modules : List TypedModuleTree) (e : Env) (suits : Suits modules e) (a
   target_certain (to_element g at sign x) (Int k) h scalar w =
       certain_then (OfSort (PointsTo e c) so.word) (CellFits (Int k)) (value_of sight x) _ (sort_certain x so.word h.3 w) (λ v l.
       certain_then (IsLess h.1) (CellFits (Int k)) (element_place sight g sign v) _
-      (element_sure (PointsTo e c) vs ds sight ws memory (sees e a older memory fresh started blocks modules suits unit unit_is ws fits) g k h.1 sign v (Shared (Array k h.1) h.0, h.2, refl) l)
+      (element_sure (PointsTo e c) vs ds sight ws memory (sees e a older memory fresh started blocks modules well_formed unit unit_is ws fits) g k h.1 sign v (Shared (Array k h.1) h.0, h.2, refl) l)
       (λ i less. (k, refl, writable g i (Array k h.1) k h.0 h.2 refl less)))
   target_certain (to_element g at sign x) (Ptr k) h scalar w = absurd h
   target_certain (to_element g at sign x) Void h scalar w = absurd h
@@ -197,9 +197,9 @@ module _ (modules : List TypedModuleTree) (e : Env) (suits : Suits modules e) (a
   target_certain (to_behind j p) (Int k) h scalar w =
       certain_then (OfSort (PointsTo e c) (so.pointer k)) (CellFits (Int k)) (value_of sight p) _ (sort_certain p (so.pointer k) h.1 w) (λ u l.
       certain_then (Aims (PointsTo e c) k) (CellFits (Int k)) (pointed u) _
-      (pointed_sure (PointsTo e c) vs ds sight ws memory (sees e a older memory fresh started blocks modules suits unit unit_is ws fits) k u l) (λ to i.
+      (pointed_sure (PointsTo e c) vs ds sight ws memory (sees e a older memory fresh started blocks modules well_formed unit unit_is ws fits) k u l) (λ to i.
       certain_then (IsBehind k) (CellFits (Int k)) (cell_behind to) _
-      (cell_sure (PointsTo e c) vs ds sight ws memory (sees e a older memory fresh started blocks modules suits unit unit_is ws fits) k to i) (λ d m.
+      (cell_sure (PointsTo e c) vs ds sight ws memory (sees e a older memory fresh started blocks modules well_formed unit unit_is ws fits) k to i) (λ d m.
       (any_there (OfSort (PointsTo e c) so.word) (value_at (cells_at memory d.0) d.1) m.1, behind_holds k d.0 d.1 m.0))))
   target_certain (to_behind j p) (Ptr k) h scalar w = absurd h
   target_certain (to_behind j p) Void h scalar w = absurd h

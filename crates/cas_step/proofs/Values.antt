@@ -1,4 +1,5 @@
--- The value of a well-sorted expression is a word or a pointer as its sort says, and there is sense in it, where what answers is so.
+-- The value of a well-sorted expression is a word or a pointer as its sort says, and there is sense in it, where
+-- what answers is so.
 use Rattle.std.proofs.Common.{arith, ◌≡◌, inl, inr, ℕ, ◌^◌, ◌+◌, ◌<◌, ◌≤◌, ℤ, pos, neg_ℤ, Bool, true, false, List, [], Option, Some, None, refl, sym, subst, if◌then◌else◌}
 use Rattle.std.specs.Prelude.{⊤, slice_get, ◌⊎◌, ◌+ℤ◌, nat_lt, ◌==◌, ◌||◌}
 use Rattle.std.proofs.lemmas.Bool.{ltb-true}
@@ -17,15 +18,15 @@ use Rattle.cas_typed.specs.Sorts as so
 use Rattle.cas_typed.specs.Sorts.{Sort, IsLocal, IsVariable, HasSort, IsTest}
 use Rattle.cas_typed.specs.Types as ty
 use Rattle.cas_typed.specs.Types.{IsEquality, IsOrder}
-use Rattle.cas_step.specs.Asks.{Value, word, null, pointer, Asks, gives, fails, senseless, reads, looks, loads, and_then, word_in, pointed}
+use Rattle.cas_step.specs.Asks.{Value, word, null, pointer, Asks, gives, fails, stuck, reads, looks, loads, and_then, word_in, pointed}
 use Rattle.cas_step.specs.Env.{length_of}
-use Rattle.cas_step.specs.Fits.{kind_of}
-use Rattle.cas_step.specs.Evaluate.{Sight, either, global_value, only_place, place_among, element_place, forward, backward, on_both, a_word, a_truth, condition, value_of, test_of}
+use Rattle.cas_step.specs.Well_formed.{kind_of}
+use Rattle.cas_step.specs.Evaluate.{EvalContext, either, global_value, only_place, place_among, element_place, forward, backward, on_both, a_word, a_truth, condition, value_of, test_of}
 use Rattle.cas_typed.specs.Literals.{HasWords}
 use Rattle.cas_step.specs.Operators.{number_of, place_below, or_index, binary_result}
 use Rattle.cas_step.specs.Pointers.{if_live, moved, behind, cell_behind, places, difference, is_same_place, equal, compared}
 use Rattle.cas_step.specs.Sound.{Gets}
-use Rattle.cas_step.specs.Answered.{Got, got, bad, stuck, having_read, if_there, trace_of, answered, size_of, value_at, word_at}
+use Rattle.cas_step.specs.Answered.{Got, got, bad, got_stuck, having_read, if_there, trace_of, answered, size_of, value_at, word_at}
 use Rattle.cas_step.specs.Step.{Object, Block, cells_at}
 use Rattle.cas_step.proofs.Answering.{got_then, answered-and_then}
 use Rattle.cas_step.proofs.Within.{Any, below}
@@ -34,12 +35,12 @@ use Rattle.cas_step.proofs.Words.{GivesWord, binary_words, unary_words, sub_word
 pub gets-having_read : {A : Type 0} (P : A → Type 0) (before : List ℕ) (x : Got A) → Gets P x → Gets P (having_read before x)
 gets-having_read P before (got rs a) h = h
 gets-having_read P before (bad rs why) h = tt
-gets-having_read P before (stuck rs) h = absurd h
+gets-having_read P before (got_stuck rs) h = absurd h
 
 got_so : {A B : Type 0} (P : A → Type 0) (Q : B → Type 0) (x : Got A) (next : A → Got B) → Gets P x → ((a : A) → P a → Gets Q (next a)) → Gets Q (got_then x next)
 got_so P Q (got rs a) next h go = gets-having_read Q rs (next a) (go a h)
 got_so P Q (bad rs why) next h go = tt
-got_so P Q (stuck rs) next h go = absurd h
+got_so P Q (got_stuck rs) next h go = absurd h
 
 abbrev pub IsWord : ℕ → Type 0
 IsWord n = n < 2 ^ 32
@@ -66,8 +67,9 @@ module _ (Points : Kind → Object → ℕ → Type 0) where
   Aims k None = ⊤
   Aims k (Some a) = Points k a.0 a.1
 
-  -- what answers: locals have values of their types, pointers point to words and may move within their objects, and globals have words
-  pub record Sees (vs : List Ty) (ds : List Decl) (s : Sight Object) (ws : List ℕ) (memory : List Block) : Type 0 where
+  -- what answers: locals have values of their types, pointers point to words and may move within their objects, and
+  -- globals have words
+  pub record Sees (vs : List Ty) (ds : List Decl) (s : EvalContext Object) (ws : List ℕ) (memory : List Block) : Type 0 where
     pub integers : (n : ℕ) (k : Kind) → IsLocal vs n (Int k) → ThereIs (OfSort so.word) (value_at (cells_at memory (s.own n)) 0)
     pub pointers : (n : ℕ) (k : Kind) → IsLocal vs n (Ptr k) → ThereIs (OfSort (so.pointer k)) (value_at (cells_at memory (s.own n)) 0)
     pub own : (n : ℕ) (k : Kind) → IsLocal vs n (Int k) ⊎ ((len : ℕ) × IsLocal vs n (Array k len)) → Points k (s.own n) 0
@@ -76,7 +78,7 @@ module _ (Points : Kind → Object → ℕ → Type 0) where
     pub lengths : (g : ℕ) (ty : Ty) → IsVariable ds g ty → length_of (s.entity g) ≡ Some (words_of_ty ty)
     pub words : (g : ℕ) (ty : Ty) (k : Kind) (i : ℕ) → IsVariable ds g ty → kind_of ty ≡ Some k → i < words_of_ty ty → ThereIs IsWord (word_at (slice_get ws) (s.entity g) i)
 
-module _ (Points : Kind → Object → ℕ → Type 0) (vs : List Ty) (ds : List Decl) (s : Sight Object) (ws : List ℕ) (memory : List Block) (sees : Sees Points vs ds s ws memory) where
+module _ (Points : Kind → Object → ℕ → Type 0) (vs : List Ty) (ds : List Decl) (s : EvalContext Object) (ws : List ℕ) (memory : List Block) (sees : Sees Points vs ds s ws memory) where
   -- what is got is so, and there is sense in it
   abbrev pub Sure : {A : Type 0} → (A → Type 0) → Asks Object A → Type 0
   Sure P x = Gets P (answered s.entity (slice_get ws) (cells_at memory) x)
@@ -205,7 +207,7 @@ module _ (Points : Kind → Object → ℕ → Type 0) (vs : List Ty) (ds : List
   given_sure : (x : Asks Object ℕ) → GivesWord x → Sure IsWord x
   given_sure (gives n) h = h
   given_sure (fails why) h = tt
-  given_sure senseless h = absurd h
+  given_sure stuck h = absurd h
   given_sure (reads g i more) h = absurd h
   given_sure (looks o more) h = absurd h
   given_sure (loads o p more) h = absurd h

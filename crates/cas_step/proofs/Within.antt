@@ -8,9 +8,9 @@ use Rattle.cas_syntax.specs.declared.tree.BinaryOperator.TheVariants as bin
 use Rattle.cas_typed.specs.declared.tree.Signedness.{Signedness}
 use Rattle.cas_typed.specs.Resolved as t
 use Rattle.cas_typed.specs.Resolved.{TypedExprTree, TypedTargetTree, to_local, to_global, to_element, to_behind}
-use Rattle.cas_step.specs.Asks.{Value, word, null, pointer, Asks, gives, fails, senseless, reads, looks, loads, and_then, word_in, pointed}
+use Rattle.cas_step.specs.Asks.{Value, word, null, pointer, Asks, gives, fails, stuck, reads, looks, loads, and_then, word_in, pointed}
 use Rattle.cas_step.specs.Env.{Entity, length_of}
-use Rattle.cas_step.specs.Evaluate.{Sight, Cell, of_object, of_global, either, local_value, global_value, only_place, place_among, element_place, forward, backward, on_both, a_word, a_truth, condition, value_of, values_of, test_of, target_of}
+use Rattle.cas_step.specs.Evaluate.{EvalContext, Cell, of_object, of_global, either, local_value, global_value, only_place, place_among, element_place, forward, backward, on_both, a_word, a_truth, condition, value_of, values_of, test_of, target_of}
 use Rattle.cas_step.specs.Laws.{names, target_names, names_of_all}
 use Rattle.cas_step.specs.Operators.{number_of, place_below, or_index, or_undefined, quotient, remainder, binary_result}
 use Rattle.cas_step.specs.Pointers.{live, moved, behind, cell_behind, places, difference, is_same_place, equal, compared}
@@ -28,7 +28,7 @@ IsPlaceIn it i = IsBelow i (length_of it)
 abbrev pub Within : {O A : Type 0} → (ℕ → Option Entity) → (ℕ → Type 0) → Asks O A → (A → Type 0) → Type 0
 Within entity N (gives a) P = P a
 Within entity N (fails why) P = ⊤
-Within entity N senseless P = ⊤
+Within entity N stuck P = ⊤
 Within entity N (reads g i more) P = N g × IsPlaceIn (entity g) i × ((n : ℕ) → Within entity N (more n) P)
 Within entity N (looks o more) P = (size : Option ℕ) → Within entity N (more size) P
 Within {O} entity N (loads o p more) P = (v : Value O) → Within entity N (more v) P
@@ -46,7 +46,7 @@ module _ {O : Type 0} (entity : ℕ → Option Entity) (N : ℕ → Type 0) wher
       ((a : A) → P a → Within entity N (next a) Q) → Within entity N (and_then x next) Q
   then_within P Q (gives a) next h go = go a h
   then_within P Q (fails why) next h go = tt
-  then_within P Q senseless next h go = tt
+  then_within P Q stuck next h go = tt
   then_within P Q (reads g i more) next h go = (h.0, h.1, λ n. then_within P Q (more n) next (h.2 n) go)
   then_within P Q (looks o more) next h go = λ size. then_within P Q (more size) next (h size) go
   then_within P Q (loads o p more) next h go = λ v. then_within P Q (more v) next (h v) go
@@ -177,12 +177,12 @@ pub below : (limit : ℕ) (i : ℤ) (n : ℕ) → place_below limit i ≡ Some n
 below limit (pos m) n e = below_by limit m n (nat_lt m limit) refl e
 below limit (negsuc m) n e = absurd (cc e)
 
-module _ {O : Type 0} (s : Sight O) (N : ℕ → Type 0) where
+module _ {O : Type 0} (s : EvalContext O) (N : ℕ → Type 0) where
   among_within : (g : ℕ) → N g → (len : Option ℕ) → (i : ℤ) → Within {O = O} s.entity N (place_among len i) (λ n. N g × IsBelow n len)
   among_within g named None i = tt
   among_within g named (Some len) i = index_within s.entity N (λ n. N g × IsBelow n (Some len)) (place_below len i) gives (λ n is. (named, below len i n is))
 
-  only_by : (g : ℕ) → N g → (len : ℕ) (is_one : Bool) → nat_eq len 1 ≡ is_one → Within {O = O} s.entity N (if is_one then gives 0 else senseless) (λ n. N g × IsBelow n (Some len))
+  only_by : (g : ℕ) → N g → (len : ℕ) (is_one : Bool) → nat_eq len 1 ≡ is_one → Within {O = O} s.entity N (if is_one then gives 0 else stuck) (λ n. N g × IsBelow n (Some len))
   only_by g named len true e = (named, subst (λ k. 0 < k) (sym (eqb-true len 1 e)) (omega arith))
   only_by g named len false e = tt
 

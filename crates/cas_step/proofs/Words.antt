@@ -49,7 +49,7 @@ div_word a b h k defined = fits_word (int_div (signed a) (signed b)) (quotient_f
 rem_word : (a b : ℕ) → a < 2 ^ 32 → word_of (int_rem (signed a) (signed b)) < 2 ^ 32
 rem_word a b h = fits_word (int_rem (signed a) (signed b)) (rem_fits (signed a) (signed b) (signed_fits a h))
 
--- a word, where there is one
+-- a word, if there is one
 abbrev pub IsWordIfAny : Option ℕ → Type 0
 IsWordIfAny None = ⊤
 IsWordIfAny (Some n) = n < 2 ^ 32

@@ -1,12 +1,12 @@
--- What is claimed of steps, in the language's own words.
+-- The laws of steps.
 use Rattle.std.specs.Prelude.{◌≡◌, ⊤, ℕ, ◌+◌, ◌<◌, ◌≤◌, List, [], ◌∷◌, ◌++◌, length, Option, Some, None, slice_get, Contains}
 use Rattle.cas_base.specs.declared.act.Act.{Act}
 use Rattle.cas_base.specs.declared.act.Act.TheVariants as act
 use Rattle.cas_typed.specs.Resolved as t
 use Rattle.cas_typed.specs.Resolved.{TypedExprTree, TypedTargetTree, to_local, to_global, to_element, to_behind, TypedStmtTree, skip, assign, call, block, if_, while_, do_, for_, break_, continue_, return_, lock, unlock, print, TypedModuleTree, absent, present}
 use Rattle.cas_step.specs.Env.{FunctionAt, shared, table, Env}
-use Rattle.cas_step.specs.Fits.{Suits, AreEntries, FitsWords, FitsConfig}
-use Rattle.cas_step.specs.Items.{Todo, begin, begun, loop, next}
+use Rattle.cas_step.specs.Well_formed.{IsWellFormed, AreEntries, IsWellTypedStore, IsReachable}
+use Rattle.cas_step.specs.Continuation.{ContItem, begin, begun, loop, next}
 use Rattle.cas_step.specs.Step.{Activation, Config, Step, step}
 
 -- the globals that are named, in order of text
@@ -55,14 +55,14 @@ statement_names (return_ p a) = option_names a
 statement_names (print p a) = names a
 statement_names _ = []
 
--- those of the first item
-abbrev pub item_names : List Todo → List ℕ
+-- those of the first item of a continuation
+abbrev pub item_names : List ContItem → List ℕ
 item_names [] = []
-item_names (begin a ∷ todo) = statement_names a
-item_names (begun p c a ∷ todo) = names c
-item_names (loop p c after a ∷ todo) = option_names c
-item_names (next p absent ∷ todo) = []
-item_names (next p (present a) ∷ todo) = statement_names a
+item_names (begin a ∷ cont) = statement_names a
+item_names (begun p c a ∷ cont) = names c
+item_names (loop p c after a ∷ cont) = option_names c
+item_names (next p absent ∷ cont) = []
+item_names (next p (present a) ∷ cont) = statement_names a
 
 -- the word with this number belongs to one of these shared globals of a module
 abbrev pub IsWordOf : Env → (unit : ℕ) → (globals : List ℕ) → (number : ℕ) → Type 0
@@ -72,18 +72,18 @@ IsWordOf e unit globals n = (g first len : ℕ) × (guard : Option ℕ) × Conta
 abbrev pub FootprintsAreNamed : Type 0
 FootprintsAreNamed = (e : Env) (ws : List ℕ) (c : Config) (a : Activation) (older : List Activation) (s : Step) →
     c.activations ≡ a ∷ older → step e ws c ≡ Some s → (n : ℕ) → Contains (s.reads ++ s.writes) n →
-    IsWordOf e a.function.unit (item_names a.todo) n
+    IsWordOf e a.function.unit (item_names a.cont) n
 
 -- the same words in all tables of constants
 abbrev pub AgreeOnTables : Env → (ws vs : List ℕ) → Type 0
 AgreeOnTables e ws vs = (unit g first len i : ℕ) → e.entity unit g ≡ Some (table first len) → i < len → slice_get ws (first + i) ≡ slice_get vs (first + i)
 
--- the words after a step are those before, but for those that it writes, which are these
+-- the words after a step are those before it, except the written ones, which are these
 abbrev pub ChangesOnly : (written : List ℕ) → (before after these : List ℕ) → Type 0
 ChangesOnly written before after these =
     ((n : ℕ) → Contains written n → slice_get after n ≡ slice_get these n) × ((n : ℕ) → (Contains written n → ⊥) → slice_get after n ≡ slice_get before n)
 
--- the second step does the same as the first, but that it begins at these words
+-- the second step does the same as the first, over these words
 pub record AreSame (vs : List ℕ) (s r : Step) : Type 0 where
   pub act : r.act ≡ s.act
   pub next : r.next ≡ s.next
@@ -93,29 +93,29 @@ pub record AreSame (vs : List ℕ) (s r : Step) : Type 0 where
   pub place : r.place ≡ s.place
   pub words : ChangesOnly s.writes vs r.words s.words
 
--- A step is determined by the configuration and the words that it reads, tables aside, which never change.
+-- A step is determined by the configuration, the words that it reads, and the tables of constants, which never change.
 abbrev pub StepsAreDetermined : Type 0
 StepsAreDetermined = (e : Env) (ws vs : List ℕ) (c : Config) (s : Step) → length ws ≡ length vs → AgreeOnTables e ws vs →
     step e ws c ≡ Some s → ((n : ℕ) → Contains s.reads n → slice_get ws n ≡ slice_get vs n) →
     (r : Step) × (step e vs c ≡ Some r) × AreSame vs s r
 
--- A step writes its footprint's words alone.
-abbrev pub WritesAreToldOf : Type 0
-WritesAreToldOf = (e : Env) (ws : List ℕ) (c : Config) (s : Step) → step e ws c ≡ Some s → ChangesOnly s.writes ws s.words s.words
+-- A step changes only words that its footprint reports as written.
+abbrev pub WritesAreReported : Type 0
+WritesAreReported = (e : Env) (ws : List ℕ) (c : Config) (s : Step) → step e ws c ≡ Some s → ChangesOnly s.writes ws s.words s.words
 
 -- Tables of constants never change.
 abbrev pub TablesStay : Type 0
 TablesStay = (modules : List TypedModuleTree) (e : Env) (ws : List ℕ) (c : Config) (s : Step) →
-    Suits modules e → step e ws c ≡ Some s → AgreeOnTables e ws s.words
+    IsWellFormed modules e → step e ws c ≡ Some s → AgreeOnTables e ws s.words
 
 -- a step that isn't Bad
 abbrev pub IsTaken : Act → Type 0
 IsTaken (act.Bad why) = ⊥
 IsTaken _ = ⊤
 
--- A thread that fits and hasn't ended has a step over words that fit: it is never stuck. Where the step isn't Bad its next
--- configuration and the next words fit.
-abbrev pub StepsFit : Type 0
-StepsFit = (modules : List TypedModuleTree) (e : Env) (entries : List FunctionAt) (ws : List ℕ) (c : Config) (a : Activation) (older : List Activation) →
-    Suits modules e → AreEntries modules e entries → FitsConfig e entries c → FitsWords e ws → c.activations ≡ a ∷ older →
-    (s : Step) × (step e ws c ≡ Some s) × (IsTaken s.act → FitsConfig e entries s.next × FitsWords e s.words)
+-- A reachable thread that hasn't ended has a step over each well-typed store, so it is never stuck. Unless the step
+-- is Bad, the next configuration is reachable and the next store well-typed.
+abbrev pub ReachableThreadsStep : Type 0
+ReachableThreadsStep = (modules : List TypedModuleTree) (e : Env) (entries : List FunctionAt) (ws : List ℕ) (c : Config) (a : Activation) (older : List Activation) →
+    IsWellFormed modules e → AreEntries modules e entries → IsReachable e entries c → IsWellTypedStore e ws → c.activations ≡ a ∷ older →
+    (s : Step) × (step e ws c ≡ Some s) × (IsTaken s.act → IsReachable e entries s.next × IsWellTypedStore e s.words)

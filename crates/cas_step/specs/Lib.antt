@@ -2,8 +2,8 @@ pub mod Answered
 pub mod Asks
 pub mod Env
 pub mod Evaluate
-pub mod Fits
-pub mod Items
+pub mod Well_formed
+pub mod Continuation
 pub mod Laws
 pub mod Operators
 pub mod Pointers

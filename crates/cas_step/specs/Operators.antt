@@ -1,4 +1,4 @@
--- Operators on words, and numbers as operators read them.
+-- Operators on words, and the numbers that they read words as.
 use Rattle.std.specs.Prelude.{ℕ, ◌-◌, ◌^◌, ℤ, pos, negsuc, int_lt, int_le, nat_lt, ◌==◌, Bool, true, false, not, Option, Some, None, if◌then◌else◌, bit_and, bit_or, bit_xor}
 use Rattle.cas_base.specs.Word.{signed, word_add, word_sub, word_mul, word_shl, word_shr, word_sar, word_div_signed, word_rem_signed, word_div_unsigned, word_rem_unsigned}
 use Rattle.cas_base.specs.declared.act.Why.TheVariants.{DivZero, DivRange, Index}
@@ -15,7 +15,7 @@ abbrev pub number_of : Signedness → ℕ → ℤ
 number_of Signed n = signed n
 number_of Unsigned n = pos n
 
--- 1 where it is so, else 0
+-- 1 for true, 0 for false
 abbrev pub truth : Bool → ℕ
 truth true = 1
 truth false = 0
@@ -24,17 +24,17 @@ truth false = 0
 abbrev pub is_true : ℕ → Bool
 is_true n = not (n == 0)
 
--- the place at this number, where it is from 0 to below the limit
+-- the place with this number, if it is from 0 to below the limit
 abbrev pub place_below : (limit : ℕ) → ℤ → Option ℕ
 place_below limit (pos n) = if nat_lt n limit then Some n else None
 place_below limit (negsuc n) = None
 
--- what follows where there is a place
+-- the evaluation at a place, if there is one; else the index is out of range
 abbrev pub or_index : {O A : Type 0} → Option ℕ → (ℕ → Asks O A) → Asks O A
 or_index (Some n) next = next n
 or_index None next = fails Index
 
--- a quotient or remainder by this divisor, where there is one
+-- a quotient or remainder by this divisor, if it is defined
 abbrev pub or_undefined : {O : Type 0} → (divisor : ℕ) → Option ℕ → Asks O ℕ
 or_undefined b (Some n) = gives n
 or_undefined b None = fails (if b == 0 then DivZero else DivRange)
@@ -47,7 +47,7 @@ abbrev pub remainder : Signedness → ℕ → ℕ → Option ℕ
 remainder Signed a b = word_rem_signed a b
 remainder Unsigned a b = word_rem_unsigned a b
 
--- a shift to the right, which on a signed operand keeps the sign
+-- a shift to the right; on a signed operand it keeps the sign
 abbrev pub shifted_right : Signedness → ℕ → ℕ → ℕ
 shifted_right Signed a b = word_sar a b
 shifted_right Unsigned a b = word_shr a b

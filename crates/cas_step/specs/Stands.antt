@@ -1,8 +1,8 @@
--- Which statements stand in a function's body, and which items an activation of it may have to do.
+-- The statements within a function's body, and the continuations that an activation of the function may have.
 use Rattle.std.specs.Prelude.{◌≡◌, ◌⊎◌, ⊤, Bool, true, false, List, [], ◌∷◌, Option, Some, None}
 use Rattle.cas_base.specs.declared.place.Place.{Place}
 use Rattle.cas_typed.specs.Resolved.{TypedExprTree, TypedStmtTree, block, if_, while_, do_, for_, TypedStmtOption, present, TypedStmtList, no_more, one_more}
-use Rattle.cas_step.specs.Items.{Todo, begin, begun, loop, next, after_break, after_continue}
+use Rattle.cas_step.specs.Continuation.{ContItem, begin, begun, loop, next, after_break, after_continue}
 
 -- one of these statements
 abbrev pub IsAmong : TypedStmtList → TypedStmtTree → Type 0
@@ -24,30 +24,30 @@ pub data StandsIn (body : TypedStmtList) : (in_loop : Bool) → TypedStmtTree �
   of_for : (l : Bool) (p : Place) (i : TypedStmtOption) (c : Option TypedExprTree) (u : TypedStmtOption) (a : TypedStmtTree) →
       StandsIn body l (for_ p i c u a) → StandsIn body true a
 
--- there are such items
-abbrev pub AreThere : Option (List Todo) → Type 0
+-- there is a continuation
+abbrev pub AreThere : Option (List ContItem) → Type 0
 AreThere None = ⊥
-AreThere (Some todo) = ⊤
+AreThere (Some cont) = ⊤
 
--- in a loop these items have an end and a next turn to jump to
-abbrev pub MayLeave : (in_loop : Bool) → List Todo → Type 0
-MayLeave false todo = ⊤
-MayLeave true todo = AreThere (after_break todo) × AreThere (after_continue todo)
+-- in a loop the continuation has the loop's end, and the end of its turn, to jump to
+abbrev pub MayLeave : (in_loop : Bool) → List ContItem → Type 0
+MayLeave false cont = ⊤
+MayLeave true cont = AreThere (after_break cont) × AreThere (after_continue cont)
 
--- a loop of the body, which begins like this
+-- a `while` or `do` of the body, with this place, condition and inner statement
 abbrev pub IsLoopOf : TypedStmtList → (in_loop : Bool) → Place → TypedExprTree → TypedStmtTree → Type 0
 IsLoopOf body l p c a = StandsIn body l (while_ p c a) ⊎ StandsIn body l (do_ p a c)
 
--- behind these items comes the loop whose turn this ends
-abbrev pub IsTurnOf : Place → (after : TypedStmtOption) → List Todo → Type 0
-IsTurnOf p after (loop q c u a ∷ todo) = (p ≡ q) × (after ≡ u)
+-- the continuation begins with the `for` whose last part this is
+abbrev pub IsTurnOf : Place → (after : TypedStmtOption) → List ContItem → Type 0
+IsTurnOf p after (loop q c u a ∷ cont) = (p ≡ q) × (after ≡ u)
 IsTurnOf p after _ = ⊥
 
--- items that an activation of a function with this body may have to do: statements of the body, loops of the body that have
--- begun, and turns of those loops
-abbrev pub MayDo : TypedStmtList → List Todo → Type 0
+-- a continuation that an activation of a function with this body may have: statements of the body, loops of the body
+-- that have begun, and ends of their turns
+abbrev pub MayDo : TypedStmtList → List ContItem → Type 0
 MayDo body [] = ⊤
-MayDo body (begin a ∷ todo) = ((l : Bool) × StandsIn body l a × MayLeave l todo) × MayDo body todo
-MayDo body (begun p c a ∷ todo) = ((l : Bool) × IsLoopOf body l p c a) × MayDo body todo
-MayDo body (loop p c u a ∷ todo) = ((l : Bool) × (i : TypedStmtOption) × StandsIn body l (for_ p i c u a) × MayLeave l todo) × MayDo body todo
-MayDo body (next p u ∷ todo) = IsTurnOf p u todo × MayDo body todo
+MayDo body (begin a ∷ cont) = ((l : Bool) × StandsIn body l a × MayLeave l cont) × MayDo body cont
+MayDo body (begun p c a ∷ cont) = ((l : Bool) × IsLoopOf body l p c a) × MayDo body cont
+MayDo body (loop p c u a ∷ cont) = ((l : Bool) × (i : TypedStmtOption) × StandsIn body l (for_ p i c u a) × MayLeave l cont) × MayDo body cont
+MayDo body (next p u ∷ cont) = IsTurnOf p u cont × MayDo body cont

@@ -1,10 +1,15 @@
-//! The steps of a thread over resolved statements, as definitions in `specs/`: values and what evaluating asks for
-//! (`Asks`), operators on words (`Operators`) and on pointers (`Pointers`), the value of an expression and the cell of a
-//! target (`Evaluate`), the items that an activation has to do and what each does (`Items`), what is got where words and
-//! objects answer (`Answered`), functions and what the items of modules stand for (`Env`), the memory and the step of a
-//! thread (`Step`), which environments suit modules, and which words and threads fit (`Fits`, with `Literals`), what holds
-//! of each thread that fits (`Sound`, with `Stands`), and what is claimed of steps (`Laws`). The contracts of `laws` are
-//! proved. Small programs are run in `proofs/Examples.antt` and `proofs/Place_examples.antt`.
+//! The small-step semantics of the language, for one thread over resolved statements. This crate has definitions and
+//! their laws, and no code. Read the definitions in `specs/` in this order:
+//!
+//! - `Asks`: values, and evaluation as a tree of queries; `Operators` and `Pointers`: operators on words and on
+//!   pointers; `Evaluate`: the value of an expression and the cell of a target; `Answered`: evaluation with its
+//!   queries answered;
+//! - `Continuation`: continuations and the effect of each statement, the table of the language's steps;
+//! - `Env`: environments; `Step`: memory and the step of a thread;
+//! - `Well_formed`: well-formed environments, well-typed stores and reachable threads; `Sound`, with `Stands`: sound
+//!   threads; `Laws`: the laws of steps.
+//!
+//! The contracts of `laws` are proved. `proofs/Examples.antt` and `proofs/Place_examples.antt` run small programs.
 #![tactic(auto)]
 
 pub mod laws;

@@ -5,34 +5,34 @@ use Rattle.cas_base.specs.declared.kind.Ty.{Ty}
 use Rattle.cas_typed.specs.declared.rows.StmtRow.{StmtRow}
 use Rattle.cas_typed.specs.declared.typed.Typed.{Typed}
 use Rattle.cas_step.specs.Env.{Env, Entity}
-use Rattle.cas_step.specs.Items.{Todo, deed_of}
-use Rattle.cas_step.specs.Step.{Activation, Block, Here, entity_in, sight_of}
-use Rattle.cas_eval.specs.Answer.{Around, answer, sight}
+use Rattle.cas_step.specs.Continuation.{ContItem, effect_of}
+use Rattle.cas_step.specs.Step.{Activation, Block, StepContext, entity_in, eval_context_of}
+use Rattle.cas_eval.specs.Answer.{EvalState, answer, eval_context}
 use Rattle.cas_eval.specs.declared.values.NoResult.{NoResult}
-use Rattle.cas_thread.specs.Around.{around_in}
+use Rattle.cas_thread.specs.Eval_state.{eval_state_in}
 use Rattle.cas_thread.specs.Control.{after}
-use Rattle.cas_thread.specs.Deeds.{Begins, IsCall, IsFirst, IsJump}
+use Rattle.cas_thread.specs.Effects.{FirstStatementIs, IsCall, IsFirst, IsJump}
 use Rattle.cas_thread.specs.Frames.{AreFrames, IsFrame}
-use Rattle.cas_thread.specs.Todos.{Shows}
+use Rattle.cas_thread.specs.Continuations.{IsContinuation}
 use Rattle.cas_thread.specs.declared.config.Frame.{Frame}
-use Rattle.cas_thread.specs.declared.deed.First.{First}
-use Rattle.cas_thread.specs.declared.todo.Todo as code
+use Rattle.cas_thread.specs.declared.effect.First.{First}
+use Rattle.cas_thread.specs.declared.continuation.ContItem as code
 
-pub around_same : (e : Env) (h : Here) (r : Around) → ((g : ℕ) → r.entity g ≡ entity_in e h g) → r.words ≡ h.words → r.memory ≡ h.config.memory → r.serial ≡ h.newest.serial → r ≡ around_in e h
+pub around_same : (e : Env) (h : StepContext) (r : EvalState) → ((g : ℕ) → r.entity g ≡ entity_in e h g) → r.words ≡ h.words → r.memory ≡ h.config.memory → r.serial ≡ h.newest.serial → r ≡ eval_state_in e h
 around_same e h r entities words memory serial =
     ap (λ (f : ℕ → Option Entity). record { entity = f; words = r.words; memory = r.memory; serial = r.serial }) (fun_ext entities)
     ∙ ap (λ (ws : List ℕ). record { entity = entity_in e h; words = ws; memory = r.memory; serial = r.serial }) words
     ∙ ap (λ (m : List Block). record { entity = entity_in e h; words = h.words; memory = m; serial = r.serial }) memory
     ∙ ap (λ (n : ℕ). record { entity = entity_in e h; words = h.words; memory = h.config.memory; serial = n }) serial
 
-pub first_there : (e : Env) (h : Here) (r : Around) (ret : Ty) (rows : List StmtRow) (xs : List code.Todo) (first : Result First NoResult) →
-    r ≡ around_in e h → ret ≡ (e.function h.newest.function).ret → Shows rows xs h.newest.todo →
-    ((it : List Todo) → Shows rows xs it → IsFirst (answer r (deed_of (sight r) ret it)) (λ is. after is it) (Begins IsCall it) (Begins IsJump it) first) →
-    IsFirst (answer (around_in e h) (deed_of (sight_of e h) (e.function h.newest.function).ret h.newest.todo)) (λ is. after is h.newest.todo) (Begins IsCall h.newest.todo) (Begins IsJump h.newest.todo) first
-first_there e h r ret rows xs first around returns shows is =
-    let todo = h.newest.todo in
-    subst (λ (t : Ty). IsFirst (answer (around_in e h) (deed_of (sight_of e h) t todo)) (λ truth. after truth todo) (Begins IsCall todo) (Begins IsJump todo) first) returns
-    (subst (λ (x : Around). IsFirst (answer x (deed_of (sight x) ret todo)) (λ truth. after truth todo) (Begins IsCall todo) (Begins IsJump todo) first) around (is todo shows))
+pub first_there : (e : Env) (h : StepContext) (r : EvalState) (ret : Ty) (rows : List StmtRow) (xs : List code.ContItem) (first : Result First NoResult) →
+    r ≡ eval_state_in e h → ret ≡ (e.function h.newest.function).ret → IsContinuation rows xs h.newest.cont →
+    ((it : List ContItem) → IsContinuation rows xs it → IsFirst (answer r (effect_of (eval_context r) ret it)) (λ is. after is it) (FirstStatementIs IsCall it) (FirstStatementIs IsJump it) first) →
+    IsFirst (answer (eval_state_in e h) (effect_of (eval_context_of e h) (e.function h.newest.function).ret h.newest.cont)) (λ is. after is h.newest.cont) (FirstStatementIs IsCall h.newest.cont) (FirstStatementIs IsJump h.newest.cont) first
+first_there e h r ret rows xs first eval_state returns shows is =
+    let cont = h.newest.cont in
+    subst (λ (t : Ty). IsFirst (answer (eval_state_in e h) (effect_of (eval_context_of e h) t cont)) (λ truth. after truth cont) (FirstStatementIs IsCall cont) (FirstStatementIs IsJump cont) first) returns
+    (subst (λ (x : EvalState). IsFirst (answer x (effect_of (eval_context x) ret cont)) (λ truth. after truth cont) (FirstStatementIs IsCall cont) (FirstStatementIs IsJump cont) first) eval_state (is cont shows))
 
 -- the newest frame is the newest activation
 

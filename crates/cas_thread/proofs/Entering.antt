@@ -15,8 +15,8 @@ use Rattle.cas_typed.specs.declared.tree.Destination.{Destination}
 use Rattle.cas_typed.specs.declared.typed.Typed.{Typed}
 use Rattle.cas_step.specs.Asks.{Value}
 use Rattle.cas_step.specs.Env.{Env, Entity, function, outside, shared, table, lock, FunctionAt, Function}
-use Rattle.cas_step.specs.Items.{Todo, begin_all}
-use Rattle.cas_step.specs.Step.{Activation, Block, Config, Here, Object, Step, call_step, doing, locals_of, step_to, with_call}
+use Rattle.cas_step.specs.Continuation.{ContItem, begin_all}
+use Rattle.cas_step.specs.Step.{Activation, Block, Config, StepContext, Object, Step, call_step, doing, locals_of, step_to, with_call}
 use Rattle.cas_program.specs.Program.{body_item, env_of, function_in, function_of, function_with}
 use Rattle.cas_memory.specs.Blocks.{AreBefore}
 use Rattle.cas_whole.specs.Bodies.{typed_at}
@@ -27,7 +27,7 @@ use Rattle.cas_thread.specs.Control.{after}
 use Rattle.cas_thread.specs.Frames.{AreFrames, AreParts, IsFrame, rows_at, rows_of}
 use Rattle.cas_thread.specs.Room.{Fits}
 use Rattle.cas_thread.specs.Stepping.{gone}
-use Rattle.cas_thread.specs.Todos.{Shows}
+use Rattle.cas_thread.specs.Continuations.{IsContinuation}
 use Rattle.cas_thread.specs.declared.config.Frame.{Frame}
 use Rattle.cas_thread.proofs.Frames_kept.{before_later}
 use Rattle.cas_thread.proofs.There.{typed_there}
@@ -63,10 +63,10 @@ nowhere (Some g) f is none = cc none
 module _ (ts : List Typed) (ms : List TypedModuleTree) (typed : AreTyped ts ms) (at : FunctionAt) (f : TypedFun) (there : typed_at ts at.unit at.place ≡ Some f) where
   -- the frame of a new call
   pub new_frame_is : (frame : Frame) (serial : ℕ) (target : Option Destination) → at ≡ record { unit = frame.unit; place = frame.place } → serial ≡ frame.serial → target ≡ frame.target →
-      ((it : TypedFunTree) → IsFunctionOf it f → Shows f.rows (reverse frame.todo.items) (begin_all it.body [])) →
-      ((it : TypedFunTree) → IsFunctionOf it f → Fits (vec_capacity frame.todo) (begin_all it.body [])) →
-      IsFrame ts frame (record { serial = serial; function = at; target = target; todo = begin_all ((env_of ms).function at).body [] })
-  new_frame_is frame serial target at_is serial_is target_is todo room =
+      ((it : TypedFunTree) → IsFunctionOf it f → IsContinuation f.rows (reverse frame.cont.items) (begin_all it.body [])) →
+      ((it : TypedFunTree) → IsFunctionOf it f → Fits (vec_capacity frame.cont) (begin_all it.body [])) →
+      IsFrame ts frame (record { serial = serial; function = at; target = target; cont = begin_all ((env_of ms).function at).body [] })
+  new_frame_is frame serial target at_is serial_is target_is cont room =
       let w = typed_there ts ms at.unit at.place f typed there in
       let body : ((env_of ms).function at).body ≡ w.1.body =
       ap (λ (g : Function). g.body) (function_is ms at w.0 w.1 w.2 w.3) ∙ with_body w.1 (body_item (slice_get w.0.module_tree.items w.1.item)) in
@@ -76,9 +76,9 @@ module _ (ts : List Typed) (ms : List TypedModuleTree) (typed : AreTyped ts ms) 
         function = at_is;
         there = subst IsSome (sym found) refl;
         target = target_is;
-        todo = subst (λ (b : TypedStmtList). Shows (rows_at ts frame.unit frame.place) (reverse frame.todo.items) (begin_all b [])) (sym body)
-            (subst (λ (rs : List StmtRow). Shows rs (reverse frame.todo.items) (begin_all w.1.body [])) (sym (ap rows_of found)) (todo w.1 w.4));
-        room = subst (λ (b : TypedStmtList). Fits (vec_capacity frame.todo) (begin_all b [])) (sym body) (room w.1 w.4);
+        cont = subst (λ (b : TypedStmtList). IsContinuation (rows_at ts frame.unit frame.place) (reverse frame.cont.items) (begin_all b [])) (sym body)
+            (subst (λ (rs : List StmtRow). IsContinuation rs (reverse frame.cont.items) (begin_all w.1.body [])) (sym (ap rows_of found)) (cont w.1 w.4));
+        room = subst (λ (b : TypedStmtList). Fits (vec_capacity frame.cont) (begin_all b [])) (sym body) (room w.1 w.4);
       }
 
   -- the locals of a new call
@@ -89,19 +89,19 @@ module _ (ts : List Typed) (ms : List TypedModuleTree) (typed : AreTyped ts ms) 
       (ap (λ (g : Function). g.locals) (function_is ms at w.0 w.1 w.2 w.3) ∙ with_locals w.1 (body_item (slice_get w.0.module_tree.items w.1.item))
       ∙ ap (map (λ v. v.ty)) (sym w.4.locals))
 
-  pub entered : (h : Here) (frame : Frame) (before between after_ : List Frame) (target : Option Destination) (vs : List (Value Object)) (memory left : List Block) (fresh next : ℕ) →
+  pub entered : (h : StepContext) (frame : Frame) (before between after_ : List Frame) (target : Option Destination) (vs : List (Value Object)) (memory left : List Block) (fresh next : ℕ) →
       at ≡ record { unit = frame.unit; place = frame.place } → fresh ≡ frame.serial → target ≡ frame.target →
-      ((it : TypedFunTree) → IsFunctionOf it f → Shows f.rows (reverse frame.todo.items) (begin_all it.body [])) →
-      ((it : TypedFunTree) → IsFunctionOf it f → Fits (vec_capacity frame.todo) (begin_all it.body [])) →
+      ((it : TypedFunTree) → IsFunctionOf it f → IsContinuation f.rows (reverse frame.cont.items) (begin_all it.body [])) →
+      ((it : TypedFunTree) → IsFunctionOf it f → Fits (vec_capacity frame.cont) (begin_all it.body [])) →
       AreParts ts before memory fresh h.config → h.config.activations ≡ h.newest ∷ h.older →
       ((all : List Activation) → AreFrames ts (reverse before) all → AreFrames ts (reverse between) (gone true all)) →
       after_ ≡ between ++ frame ∷ [] → left ≡ record { serial = fresh; locals = locals_of (map (λ v. v.ty) f.locals) vs } ∷ memory → next ≡ fresh + 1 →
-      AreParts ts after_ left next (with_call (env_of ms) (doing h (after true h.newest.todo)) h.config.memory h.config.fresh at vs target)
-  entered h frame before between after_ target vs memory left fresh next at_is serial_is target_is todo room parts is goes pushed left_is next_is =
+      AreParts ts after_ left next (with_call (env_of ms) (doing h (after true h.newest.cont)) h.config.memory h.config.fresh at vs target)
+  entered h frame before between after_ target vs memory left fresh next at_is serial_is target_is cont room parts is goes pushed left_is next_is =
       let n = h.config.fresh in
-      let newest = new_frame_is frame n target at_is (parts.fresh_is ∙ serial_is) target_is todo room in
-      let others : AreFrames ts (reverse between) (doing h (after true h.newest.todo)) = subst (λ (all : List Activation). AreFrames ts (reverse between) (gone true all)) is (goes h.config.activations parts.frames_are) in
-      let calls : List Activation = record { serial = n; function = at; target = target; todo = begin_all ((env_of ms).function at).body [] } ∷ doing h (after true h.newest.todo) in
+      let newest = new_frame_is frame n target at_is (parts.fresh_is ∙ serial_is) target_is cont room in
+      let others : AreFrames ts (reverse between) (doing h (after true h.newest.cont)) = subst (λ (all : List Activation). AreFrames ts (reverse between) (gone true all)) is (goes h.config.activations parts.frames_are) in
+      let calls : List Activation = record { serial = n; function = at; target = target; cont = begin_all ((env_of ms).function at).body [] } ∷ doing h (after true h.newest.cont) in
       record {
         frames_are = subst (λ (fs : List Frame). AreFrames ts fs calls) (sym (ap reverse pushed ∙ reverse-append between (frame ∷ []))) (newest, others);
         memory_is = ap (λ (ls : List (List (Value Object))). record { serial = n; locals = ls } ∷ h.config.memory) (locals_are vs)
@@ -112,28 +112,28 @@ module _ (ts : List Typed) (ms : List TypedModuleTree) (typed : AreTyped ts ms) 
       }
 
 -- what a call's step is, by where its function stands
-pub called_step : (e : Env) (h : Here) (rs : List ℕ) (s : Step) (it : Option Entity) (vs : List (Value Object)) (target : Option Destination) (todo : List Todo) (at : ℕ × ℕ) →
-    Some at ≡ function_place it → call_step e h rs it vs target todo ≡ Some s →
-    (it ≡ Some (function (stands_at at))) × (step_to e h rs act.Quiet (with_call e (doing h todo) h.config.memory h.config.fresh (stands_at at) vs target) ≡ s)
-called_step e h rs s None vs target todo at place is = absurd (cc is)
-called_step e h rs s (Some outside) vs target todo at place is = absurd (cc is)
-called_step e h rs s (Some (shared first len guard)) vs target todo at place is = absurd (cc is)
-called_step e h rs s (Some (table first len)) vs target todo at place is = absurd (cc is)
-called_step e h rs s (Some (lock n)) vs target todo at place is = absurd (cc is)
-called_step e h rs s (Some (function f)) vs target todo at place is =
+pub called_step : (e : Env) (h : StepContext) (rs : List ℕ) (s : Step) (it : Option Entity) (vs : List (Value Object)) (target : Option Destination) (cont : List ContItem) (at : ℕ × ℕ) →
+    Some at ≡ function_place it → call_step e h rs it vs target cont ≡ Some s →
+    (it ≡ Some (function (stands_at at))) × (step_to e h rs act.Quiet (with_call e (doing h cont) h.config.memory h.config.fresh (stands_at at) vs target) ≡ s)
+called_step e h rs s None vs target cont at place is = absurd (cc is)
+called_step e h rs s (Some outside) vs target cont at place is = absurd (cc is)
+called_step e h rs s (Some (shared first len guard)) vs target cont at place is = absurd (cc is)
+called_step e h rs s (Some (table first len)) vs target cont at place is = absurd (cc is)
+called_step e h rs s (Some (lock n)) vs target cont at place is = absurd (cc is)
+called_step e h rs s (Some (function f)) vs target cont at place is =
     let same : at ≡ (f.unit, f.place) = cc place in
     let one : f ≡ stands_at at = sym (ap stands_at same) in
-    let step : step_to e h rs act.Quiet (with_call e (doing h todo) h.config.memory h.config.fresh f vs target) ≡ s = cc is in
-    (ap (λ (g : FunctionAt). Some (function g)) one, subst (λ (g : FunctionAt). step_to e h rs act.Quiet (with_call e (doing h todo) h.config.memory h.config.fresh g vs target) ≡ s) one step)
+    let step : step_to e h rs act.Quiet (with_call e (doing h cont) h.config.memory h.config.fresh f vs target) ≡ s = cc is in
+    (ap (λ (g : FunctionAt). Some (function g)) one, subst (λ (g : FunctionAt). step_to e h rs act.Quiet (with_call e (doing h cont) h.config.memory h.config.fresh g vs target) ≡ s) one step)
 
-pub called_nowhere : (e : Env) (h : Here) (rs : List ℕ) (s : Step) (it : Option Entity) (vs : List (Value Object)) (target : Option Destination) (todo : List Todo) →
-    None ≡ function_place it → call_step e h rs it vs target todo ≡ Some s → ⊥
-called_nowhere e h rs s None vs target todo place is = cc is
-called_nowhere e h rs s (Some outside) vs target todo place is = cc is
-called_nowhere e h rs s (Some (shared first len guard)) vs target todo place is = cc is
-called_nowhere e h rs s (Some (table first len)) vs target todo place is = cc is
-called_nowhere e h rs s (Some (lock n)) vs target todo place is = cc is
-called_nowhere e h rs s (Some (function f)) vs target todo place is = cc place
+pub called_nowhere : (e : Env) (h : StepContext) (rs : List ℕ) (s : Step) (it : Option Entity) (vs : List (Value Object)) (target : Option Destination) (cont : List ContItem) →
+    None ≡ function_place it → call_step e h rs it vs target cont ≡ Some s → ⊥
+called_nowhere e h rs s None vs target cont place is = cc is
+called_nowhere e h rs s (Some outside) vs target cont place is = cc is
+called_nowhere e h rs s (Some (shared first len guard)) vs target cont place is = cc is
+called_nowhere e h rs s (Some (table first len)) vs target cont place is = cc is
+called_nowhere e h rs s (Some (lock n)) vs target cont place is = cc is
+called_nowhere e h rs s (Some (function f)) vs target cont place is = cc place
 
 -- where a function stands, one is found
 

@@ -1,8 +1,8 @@
 -- A thread of the code is one thread.
 use Rattle.std.proofs.Common.{◌≡◌, ℕ, ◌+◌, List, [], ◌∷◌, reverse, Option, Some, None, refl, sym, ap, ◌∙◌}
 use Rattle.cas_base.specs.declared.place.Place.{Place}
-use Rattle.cas_step.specs.Items as items
-use Rattle.cas_step.specs.Items.{begin, begun, loop, next}
+use Rattle.cas_step.specs.Continuation as items
+use Rattle.cas_step.specs.Continuation.{begin, begun, loop, next}
 use Rattle.cas_step.specs.Step.{Activation, Config}
 use Rattle.cas_typed.specs.declared.rows.StmtRow.{StmtRow}
 use Rattle.cas_typed.specs.declared.rows.StmtRowForm.{StmtRowForm}
@@ -13,11 +13,11 @@ use Rattle.cas_typed.specs.Resolved.{TypedExprTree, TypedStmtTree, skip, assign,
 use Rattle.cas_whole.specs.declared.program.Program.{Program}
 use Rattle.cas_thread.specs.Frames.{AreFrames, IsFrame, rows_at}
 use Rattle.cas_thread.specs.Thread.{IsThread}
-use Rattle.cas_thread.specs.Todos.{IsAt, IsBegun, IsLoop, IsNext, IsPart, Shows}
+use Rattle.cas_thread.specs.Continuations.{IsAt, IsBegunRow, IsLoopRow, IsNextRow, IsPart, IsContinuation}
 use Rattle.cas_thread.specs.declared.config.Config as code
 use Rattle.cas_thread.specs.declared.config.Frame.{Frame}
-use Rattle.cas_thread.specs.declared.todo.Todo.{Todo}
-use Rattle.cas_thread.specs.declared.todo.Todo.TheVariants.{Begin, Begun, Loop, Next}
+use Rattle.cas_thread.specs.declared.continuation.ContItem.{ContItem}
+use Rattle.cas_thread.specs.declared.continuation.ContItem.TheVariants.{Begin, Begun, Loop, Next}
 use Rattle.cas_thread.proofs.Reading.{at_this}
 
 -- a row stands for one statement
@@ -112,50 +112,50 @@ part_is_one rows (present a) absent (Some i) h k = absurd k
 part_is_one rows (present a) (present b) (Some i) h k = ap present (at_once rows i a b h k)
 
 begun_once : (rows : List StmtRow) (p p' : Place) (c c' : TypedExprTree) (a a' : TypedStmtTree) (q : Place) (form : StmtRowForm) →
-    IsBegun rows p c a q form → IsBegun rows p' c' a' q form → begun p c a ≡ begun p' c' a'
+    IsBegunRow rows p c a q form → IsBegunRow rows p' c' a' q form → begun p c a ≡ begun p' c' a'
 begun_once rows p p' c c' a a' q (row.While x i) h k = cc (h.0, h.1, k.0, k.1, at_once rows i a a' h.2 k.2)
 begun_once rows p p' c c' a a' q (row.Do i x) h k = cc (h.0, h.1, k.0, k.1, at_once rows i a a' h.2 k.2)
 begun_once rows p p' c c' a a' q _ h k = absurd h
 
 loop_once : (rows : List StmtRow) (p p' : Place) (c c' : Option TypedExprTree) (u u' : TypedStmtOption) (a a' : TypedStmtTree) (q : Place) (form : StmtRowForm) →
-    IsLoop rows p c u a q form → IsLoop rows p' c' u' a' q form → loop p c u a ≡ loop p' c' u' a'
+    IsLoopRow rows p c u a q form → IsLoopRow rows p' c' u' a' q form → loop p c u a ≡ loop p' c' u' a'
 loop_once rows p p' c c' u u' a a' q (row.For f x j i) h k = cc (h.0, h.1, k.0, k.1, part_is_one rows u u' j h.2 k.2, at_once rows i a a' h.3 k.3)
 loop_once rows p p' c c' u u' a a' q _ h k = absurd h
 
 next_once : (rows : List StmtRow) (p p' : Place) (u u' : TypedStmtOption) (q : Place) (form : StmtRowForm) →
-    IsNext rows p u q form → IsNext rows p' u' q form → next p u ≡ next p' u'
+    IsNextRow rows p u q form → IsNextRow rows p' u' q form → next p u ≡ next p' u'
 next_once rows p p' u u' q (row.For f x j i) h k = cc (h.0, k.0, part_is_one rows u u' j h.1 k.1)
 next_once rows p p' u u' q _ h k = absurd h
 
-shown_once : (rows : List StmtRow) (xs : List Todo) (todo others : List items.Todo) → Shows rows xs todo → Shows rows xs others → todo ≡ others
+shown_once : (rows : List StmtRow) (xs : List ContItem) (cont others : List items.ContItem) → IsContinuation rows xs cont → IsContinuation rows xs others → cont ≡ others
 shown_once rows [] [] [] h k = refl
 shown_once rows [] [] (it ∷ its) h k = absurd k
 shown_once rows [] (it ∷ its) others h k = absurd h
-shown_once rows (Begin n ∷ xs) (begin a ∷ todo) (begin b ∷ others) h k = cc (at_once rows n a b h.0 k.0, shown_once rows xs todo others h.1 k.1)
-shown_once rows (Begin n ∷ xs) (begin a ∷ todo) _ h k = absurd k
+shown_once rows (Begin n ∷ xs) (begin a ∷ cont) (begin b ∷ others) h k = cc (at_once rows n a b h.0 k.0, shown_once rows xs cont others h.1 k.1)
+shown_once rows (Begin n ∷ xs) (begin a ∷ cont) _ h k = absurd k
 shown_once rows (Begin n ∷ xs) _ others h k = absurd h
-shown_once rows (Begun n ∷ xs) (begun p c a ∷ todo) (begun p' c' a' ∷ others) h k =
-    cc (begun_once rows p p' c c' a a' h.0.0.place h.0.0.form h.0.2 (at_this rows n h.0.0 (IsBegun rows p' c' a') h.0.1 k.0), shown_once rows xs todo others h.1 k.1)
-shown_once rows (Begun n ∷ xs) (begun p c a ∷ todo) _ h k = absurd k
+shown_once rows (Begun n ∷ xs) (begun p c a ∷ cont) (begun p' c' a' ∷ others) h k =
+    cc (begun_once rows p p' c c' a a' h.0.0.place h.0.0.form h.0.2 (at_this rows n h.0.0 (IsBegunRow rows p' c' a') h.0.1 k.0), shown_once rows xs cont others h.1 k.1)
+shown_once rows (Begun n ∷ xs) (begun p c a ∷ cont) _ h k = absurd k
 shown_once rows (Begun n ∷ xs) _ others h k = absurd h
-shown_once rows (Loop n ∷ xs) (loop p c u a ∷ todo) (loop p' c' u' a' ∷ others) h k =
-    cc (loop_once rows p p' c c' u u' a a' h.0.0.place h.0.0.form h.0.2 (at_this rows n h.0.0 (IsLoop rows p' c' u' a') h.0.1 k.0), shown_once rows xs todo others h.1 k.1)
-shown_once rows (Loop n ∷ xs) (loop p c u a ∷ todo) _ h k = absurd k
+shown_once rows (Loop n ∷ xs) (loop p c u a ∷ cont) (loop p' c' u' a' ∷ others) h k =
+    cc (loop_once rows p p' c c' u u' a a' h.0.0.place h.0.0.form h.0.2 (at_this rows n h.0.0 (IsLoopRow rows p' c' u' a') h.0.1 k.0), shown_once rows xs cont others h.1 k.1)
+shown_once rows (Loop n ∷ xs) (loop p c u a ∷ cont) _ h k = absurd k
 shown_once rows (Loop n ∷ xs) _ others h k = absurd h
-shown_once rows (Next n ∷ xs) (next p u ∷ todo) (next p' u' ∷ others) h k =
-    cc (next_once rows p p' u u' h.0.0.place h.0.0.form h.0.2 (at_this rows n h.0.0 (IsNext rows p' u') h.0.1 k.0), shown_once rows xs todo others h.1 k.1)
-shown_once rows (Next n ∷ xs) (next p u ∷ todo) _ h k = absurd k
+shown_once rows (Next n ∷ xs) (next p u ∷ cont) (next p' u' ∷ others) h k =
+    cc (next_once rows p p' u u' h.0.0.place h.0.0.form h.0.2 (at_this rows n h.0.0 (IsNextRow rows p' u') h.0.1 k.0), shown_once rows xs cont others h.1 k.1)
+shown_once rows (Next n ∷ xs) (next p u ∷ cont) _ h k = absurd k
 shown_once rows (Next n ∷ xs) _ others h k = absurd h
 
 -- frames are those of one list of activations, and the thread of one
 
 frame_once : (ts : List Typed) (f : Frame) (a b : Activation) → IsFrame ts f a → IsFrame ts f b → a ≡ b
 frame_once ts f a b h k =
-    let todo : a.todo ≡ b.todo = shown_once (rows_at ts f.unit f.place) (reverse f.todo.items) a.todo b.todo h.todo k.todo in
-    ap (λ n. record { serial = n; function = a.function; target = a.target; todo = a.todo }) (h.serial ∙ sym k.serial)
-    ∙ ap (λ g. record { serial = b.serial; function = g; target = a.target; todo = a.todo }) (h.function ∙ sym k.function)
-    ∙ ap (λ t. record { serial = b.serial; function = b.function; target = t; todo = a.todo }) (h.target ∙ sym k.target)
-    ∙ ap (λ its. record { serial = b.serial; function = b.function; target = b.target; todo = its }) todo
+    let cont : a.cont ≡ b.cont = shown_once (rows_at ts f.unit f.place) (reverse f.cont.items) a.cont b.cont h.cont k.cont in
+    ap (λ n. record { serial = n; function = a.function; target = a.target; cont = a.cont }) (h.serial ∙ sym k.serial)
+    ∙ ap (λ g. record { serial = b.serial; function = g; target = a.target; cont = a.cont }) (h.function ∙ sym k.function)
+    ∙ ap (λ t. record { serial = b.serial; function = b.function; target = t; cont = a.cont }) (h.target ∙ sym k.target)
+    ∙ ap (λ its. record { serial = b.serial; function = b.function; target = b.target; cont = its }) cont
 
 frames_once : (ts : List Typed) (fs : List Frame) (all others : List Activation) → AreFrames ts fs all → AreFrames ts fs others → all ≡ others
 frames_once ts [] [] [] h k = refl

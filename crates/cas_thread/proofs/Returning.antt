@@ -7,7 +7,7 @@ use Rattle.cas_typed.specs.declared.typed.Typed.{Typed}
 use Rattle.cas_step.specs.Answered.{value_at}
 use Rattle.cas_step.specs.Asks.{Value}
 use Rattle.cas_step.specs.Env.{Env}
-use Rattle.cas_step.specs.Step.{Activation, Block, Here, Object, Step, cells_at, converted, memory_keeping, memory_storing, memory_with, memory_without, return_step, return_to, step_to, thread_with}
+use Rattle.cas_step.specs.Step.{Activation, Block, StepContext, Object, Step, cells_at, converted, memory_keeping, memory_storing, memory_with, memory_without, return_step, return_to, step_to, thread_with}
 use Rattle.cas_memory.specs.Blocks.{AreBefore}
 use Rattle.cas_thread.specs.Frames.{AreFrames, AreParts, IsFrame}
 use Rattle.cas_thread.specs.Stepping.{newest_serial}
@@ -40,13 +40,13 @@ frames_popped ts old new f all older a popped are is =
     frames_of ts f (reverse new) all older a (subst (λ fs. AreFrames ts fs all) (ap reverse popped ∙ reverse-append new (f ∷ [])) are) is
 
 -- what a return to a caller leaves
-returned_to : (e : Env) (h : Here) (rs : List ℕ) (older : List Activation) (kept : Option (List Block)) (s : Step) → return_to e h rs older kept ≡ Some s →
+returned_to : (e : Env) (h : StepContext) (rs : List ℕ) (older : List Activation) (kept : Option (List Block)) (s : Step) → return_to e h rs older kept ≡ Some s →
     (m : List Block) × (kept ≡ Some m) × (act.Quiet ≡ s.act) × (thread_with h older m ≡ s.next)
 returned_to e h rs older None s is = absurd (cc is)
 returned_to e h rs older (Some m) s is =
     let same : step_to e h rs act.Quiet (thread_with h older m) ≡ s = cc is in (m, refl, ap (λ x. x.act) same, ap (λ x. x.next) same)
 
-module _ (ts : List Typed) (e : Env) (h : Here) (rs : List ℕ) (s : Step) (value : Option (Value Object)) (new : List Frame) (f : Frame) (memory : List Block) (fresh : ℕ)
+module _ (ts : List Typed) (e : Env) (h : StepContext) (rs : List ℕ) (s : Step) (value : Option (Value Object)) (new : List Frame) (f : Frame) (memory : List Block) (fresh : ℕ)
     (newest : IsFrame ts f h.newest) (memory_is : h.config.memory ≡ memory) (fresh_is : h.config.fresh ≡ fresh) (before : AreBefore h.config.fresh h.config.memory) where
   back_to : (older : List Activation) (serial : ℕ) (kept : List Block) → AreFrames ts (reverse new) older → Some serial ≡ newest_serial older →
       ((m : List Block) → memory_keeping (memory_without memory f.serial) serial f.target value ≡ Some m → kept ≡ m) →
@@ -87,7 +87,7 @@ module _ (ts : List Typed) (e : Env) (h : Here) (rs : List ℕ) (s : Step) (valu
         }),
       )
 
-module _ (ts : List Typed) (e : Env) (h : Here) (rs : List ℕ) (s : Step) (value : Option (Value Object)) (old new : List Frame) (f : Frame) (memory : List Block) (fresh : ℕ)
+module _ (ts : List Typed) (e : Env) (h : StepContext) (rs : List ℕ) (s : Step) (value : Option (Value Object)) (old new : List Frame) (f : Frame) (memory : List Block) (fresh : ℕ)
     (popped : old ≡ new ++ f ∷ []) (parts : AreParts ts old memory fresh h.config) (is : h.config.activations ≡ h.newest ∷ h.older) where
   pub given_back : (serial : ℕ) (kept : List Block) → ((all : List Activation) → AreFrames ts (reverse new) all → Some serial ≡ newest_serial all) →
       ((m : List Block) → memory_keeping (memory_without memory f.serial) serial f.target value ≡ Some m → kept ≡ m) →

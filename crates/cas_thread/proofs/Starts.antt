@@ -7,7 +7,7 @@ use Rattle.cas_typed.specs.declared.rows.TypedFun.{TypedFun}
 use Rattle.cas_typed.specs.declared.typed.Typed.{Typed}
 use Rattle.cas_step.specs.Asks.{Value}
 use Rattle.cas_step.specs.Env.{FunctionAt}
-use Rattle.cas_step.specs.Items.{begin_all}
+use Rattle.cas_step.specs.Continuation.{begin_all}
 use Rattle.cas_step.specs.Step.{Block, Object, locals_of, start}
 use Rattle.cas_program.specs.Laws.{EntriesHoldNone}
 use Rattle.cas_program.specs.Program.{env_of, entries_of}
@@ -17,19 +17,19 @@ use Rattle.cas_whole.specs.Whole.{AreTyped, function_at as stands_at}
 use Rattle.cas_whole.specs.declared.program.Program.{Program}
 use Rattle.cas_thread.specs.Frames.{AreParts}
 use Rattle.cas_thread.specs.Room.{Fits}
-use Rattle.cas_thread.specs.Todos.{Shows}
+use Rattle.cas_thread.specs.Continuations.{IsContinuation}
 use Rattle.cas_thread.specs.declared.config.Frame.{Frame}
 use Rattle.cas_thread.proofs.Entering.{found_there, locals_are, new_frame_is}
 
 -- the thread at the start of a function that is there
 pub starts_at : (ts : List Typed) (ms : List TypedModuleTree) → AreTyped ts ms → (at : FunctionAt) (f : TypedFun) → typed_at ts at.unit at.place ≡ Some f →
     (frame : Frame) (frames : List Frame) (memory : List Block) (vs : List (Value Object)) → at ≡ record { unit = frame.unit; place = frame.place } → 0 ≡ frame.serial → None ≡ frame.target →
-    ((it : TypedFunTree) → IsFunctionOf it f → Shows f.rows (reverse frame.todo.items) (begin_all it.body [])) →
-    ((it : TypedFunTree) → IsFunctionOf it f → Fits (vec_capacity frame.todo) (begin_all it.body [])) →
+    ((it : TypedFunTree) → IsFunctionOf it f → IsContinuation f.rows (reverse frame.cont.items) (begin_all it.body [])) →
+    ((it : TypedFunTree) → IsFunctionOf it f → Fits (vec_capacity frame.cont) (begin_all it.body [])) →
     frames ≡ frame ∷ [] → memory ≡ record { serial = 0; locals = locals_of (map (λ v. v.ty) f.locals) vs } ∷ [] →
     AreParts ts frames memory 1 (start (env_of ms) at vs)
-starts_at ts ms typed at f there frame frames memory vs at_is serial_is target_is todo room frames_is memory_is =
-    let newest = new_frame_is ts ms typed at f there frame 0 None at_is serial_is target_is todo room in
+starts_at ts ms typed at f there frame frames memory vs at_is serial_is target_is cont room frames_is memory_is =
+    let newest = new_frame_is ts ms typed at f there frame 0 None at_is serial_is target_is cont room in
     subst (λ (fs : List Frame). AreParts ts fs memory 1 (start (env_of ms) at vs)) (sym frames_is) (record {
       frames_are = (newest, tt);
       memory_is = ap (λ (ls : List (List (Value Object))). let b : Block = record { serial = 0; locals = ls } in b ∷ []) (locals_are ts ms typed at f there vs) ∙ sym memory_is;

@@ -1,7 +1,7 @@
 -- Which function of the resolved modules a function of the code is.
 use Rattle.std.proofs.Common.{◌≡◌, ℕ, zero, suc, List, [], ◌∷◌, Option, Some, None, refl, subst}
 use Rattle.std.specs.Prelude.{IsSome, slice_get}
-use Rattle.cas_step.specs.Fits.{IsAt}
+use Rattle.cas_step.specs.Well_formed.{IsAt}
 use Rattle.cas_typed.specs.Numbered.{IsFunctionOf}
 use Rattle.cas_typed.specs.Resolved.{TypedFunTree, TypedModuleTree}
 use Rattle.cas_typed.specs.Whole.{AreFunctionsOf}

@@ -1,9 +1,9 @@
-pub mod Around
+pub mod Eval_state
 pub mod Calls
 pub mod Control
-pub mod Deeds
+pub mod Effects
 pub mod Frames
 pub mod Room
 pub mod Stepping
 pub mod Thread
-pub mod Todos
+pub mod Continuations

@@ -1,12 +1,12 @@
-//! Calls: the arguments are evaluated, and an activation of the function begins, with room for all items that it can have to
-//! do at once.
+//! Calls: the arguments are evaluated, and an activation of the function begins, with room for all items that it can
+//! have in its continuation.
 
 ghost use Rattle.std.specs.Prelude.{◌≡◌, [], ℕ, List, Some, None, true, IfNone, IfSome, IfOk, reverse, slice_get, vec_capacity};
 ghost use Rattle.cas_base.specs.declared.kind.Ty.{Ty};
-ghost use Rattle.cas_step.specs.Items as items;
-ghost use Rattle.cas_step.specs.Items.{begin_all, deed_of};
+ghost use Rattle.cas_step.specs.Continuation as items;
+ghost use Rattle.cas_step.specs.Continuation.{begin_all, effect_of};
 ghost use Rattle.cas_memory.specs.Entities.{entity_if};
-ghost use Rattle.cas_eval.specs.Answer.{answer, around, sight};
+ghost use Rattle.cas_eval.specs.Answer.{answer, eval_state, eval_context};
 ghost use Rattle.cas_typed.specs.Numbered as numbered;
 ghost use Rattle.cas_typed.specs.Numbered.{IsRow};
 ghost use Rattle.cas_typed.specs.Resolved.{TypedFunTree, TypedStmtTree};
@@ -14,16 +14,16 @@ ghost use Rattle.cas_typed.specs.declared.rows.StmtRow.{StmtRow};
 ghost use Rattle.cas_whole.specs.Bodies.{typed_at};
 ghost use Rattle.cas_thread.specs.Calls.{IsCallOf, IsReady, function_place};
 ghost use Rattle.cas_thread.specs.Control.{after};
-ghost use Rattle.cas_thread.specs.Deeds.{Begins, IsCall};
+ghost use Rattle.cas_thread.specs.Effects.{FirstStatementIs, IsCall};
 ghost use Rattle.cas_thread.specs.Room.{Fits};
-ghost use Rattle.cas_thread.specs.Todos.{Shows};
+ghost use Rattle.cas_thread.specs.Continuations.{IsContinuation};
 
 use crate::config::Frame;
+use crate::continuation::ContItem;
 use crate::control::begin_each;
 use crate::first::first_row;
-use crate::todo::Todo;
 use cas_base::NoMemory;
-use cas_eval::{Here, NoArguments, arguments, entity_at};
+use cas_eval::{EvalContext, NoArguments, arguments, entity_at};
 use cas_memory::{Entity, Value};
 use cas_typed::{Destination, StmtRow, StmtRowForm, Typed, TypedExpr, TypedFun};
 use std::alloc::Global;
@@ -65,23 +65,23 @@ fn called_in(row: &StmtRow) -> Option<Called<'_>>
 }
 
 /// The call that comes first, if one does.
-pub(crate) fn first_call<'a>(rows: &'a [StmtRow], todo: &[Todo]) -> Option<Called<'a>>
-    ensures some { IfSome result (λ called. (it : List items.Todo) → Shows rows.now (reverse todo.now) it → Begins (IsCallOf called) it) }
-    ensures none { IfNone result ((it : List items.Todo) → Shows rows.now (reverse todo.now) it → ¬ (Begins IsCall it)) }
+pub(crate) fn first_call<'a>(rows: &'a [StmtRow], cont: &[ContItem]) -> Option<Called<'a>>
+    ensures some { IfSome result (λ called. (it : List items.ContItem) → IsContinuation rows.now (reverse cont.now) it → FirstStatementIs (IsCallOf called) it) }
+    ensures none { IfNone result ((it : List items.ContItem) → IsContinuation rows.now (reverse cont.now) it → ¬ (FirstStatementIs IsCall it)) }
 {
-    called_in(first_row(rows, todo)?)
+    called_in(first_row(rows, cont)?)
 }
 
 /// A call with its arguments, from left to right.
 pub(crate) fn evaluated(
     alloc: Global,
-    here: &Here<'_>,
+    context: &EvalContext<'_>,
     called: &Called<'_>,
 ) -> Result<Ready, NoArguments>
-    ensures { (ret : Ty) (it : List items.Todo) → Begins (IsCallOf called.now) it
-        → IsReady (answer (around here.now) (deed_of (sight (around here.now)) ret it)) (after true it) result }
+    ensures { (ret : Ty) (it : List items.ContItem) → FirstStatementIs (IsCallOf called.now) it
+        → IsReady (answer (eval_state context.now) (effect_of (eval_context (eval_state context.now)) ret it)) (after true it) result }
 {
-    let values = arguments(alloc, here, called.args)?;
+    let values = arguments(alloc, context, called.args)?;
     Ok(Ready {
         kept: called.kept,
         item: called.item,
@@ -89,7 +89,7 @@ pub(crate) fn evaluated(
     })
 }
 
-/// Where the function stands that an item is, if it is one: its module, and its place among those of the module.
+/// The function that an item stands for, if it is one: its module, and its place among those of the module.
 pub(crate) fn function_of(items: &[Option<Entity>], item: u32) -> Option<(u32, u32)>
     ensures { result ≡ function_place (entity_if (slice_get items.now item)) }
 {
@@ -108,7 +108,7 @@ pub(crate) fn function_at(modules: &[Typed], unit: u32, place: u32) -> Option<&T
     typed.functions().get(place as usize)
 }
 
-/// A call of a function at its start, with room for all items that it can have to do at once.
+/// A call of a function at its start, with room for its longest continuation.
 pub(crate) fn new_frame(
     alloc: Global,
     serial: u64,
@@ -120,18 +120,18 @@ pub(crate) fn new_frame(
     ensures unit { IfOk result (λ f. f.unit ≡ at.0) }
     ensures place { IfOk result (λ f. f.place ≡ at.1) }
     ensures target { IfOk result (λ f. f.target ≡ target) }
-    ensures todo { IfOk result (λ f. (it : TypedFunTree) → numbered.IsFunctionOf it function.now → Shows function.now.rows (reverse f.todo.items) (begin_all it.body [])) }
-    ensures room { IfOk result (λ f. (it : TypedFunTree) → numbered.IsFunctionOf it function.now → Fits (vec_capacity f.todo) (begin_all it.body [])) }
+    ensures cont { IfOk result (λ f. (it : TypedFunTree) → numbered.IsFunctionOf it function.now → IsContinuation function.now.rows (reverse f.cont.items) (begin_all it.body [])) }
+    ensures room { IfOk result (λ f. (it : TypedFunTree) → numbered.IsFunctionOf it function.now → Fits (vec_capacity f.cont) (begin_all it.body [])) }
 {
     let rows = function.rows.as_slice();
     let parts = function.body.as_slice();
-    let mut todo = Vec::with_capacity(alloc, 2 * rows.len() + parts.len())?;
-    begin_each(rows, &mut todo, parts);
+    let mut cont = Vec::with_capacity(alloc, 2 * rows.len() + parts.len())?;
+    begin_each(rows, &mut cont, parts);
     Ok(Frame {
         serial,
         unit: at.0,
         place: at.1,
         target,
-        todo,
+        cont,
     })
 }

@@ -1,7 +1,7 @@
 //! Threads: their activations, each as a frame, and their memory.
 
 ghost use Rattle.std.specs.Prelude.{◌≡◌, ◌↔◌, ◌∷◌, IsTrue, ℕ, List, [], None, Some, option_map, reverse, vec_capacity, vec_len};
-ghost use Rattle.cas_step.specs.Items as items;
+ghost use Rattle.cas_step.specs.Continuation as items;
 ghost use Rattle.cas_step.specs.Env.{Env};
 ghost use Rattle.cas_step.specs.Step as step;
 ghost use Rattle.cas_step.specs.Step.{converted as converted_value, doing, memory_keeping, memory_with, return_step, thread_with};
@@ -13,8 +13,8 @@ ghost use Rattle.cas_thread.specs.Stepping.{IsTaken, gone, newest_serial};
 ghost use Rattle.cas_thread.specs.Thread.{IsThread};
 ghost use Rattle.cas_whole.specs.declared.program.Program.{Program};
 
+use crate::continuation::ContItem;
 use crate::control::advance;
-use crate::todo::Todo;
 use cas_base::{Act, Ty, narrow};
 use cas_memory::{Memory, Object, Value};
 use cas_typed::{Destination, StmtRow, Typed};
@@ -31,8 +31,8 @@ pub(crate) struct Frame {
     pub place: u32,
     /// The caller's local for its result.
     pub target: Option<Destination>,
-    /// What it has to do, the first item last.
-    pub todo: Vec<Todo>,
+    /// Its continuation, the first item last.
+    pub cont: Vec<ContItem>,
 }
 
 /// A thread.
@@ -47,7 +47,7 @@ pub struct Config {
     pub(crate) fresh: u64,
 }
 
-/// The rows of the function at a place of a module; none where there is no such function.
+/// The rows of the function at a place of a module; none if there is no such function.
 #[tactic(auto, using(crate::proofs::Getting::get_there, crate::proofs::Getting::get_past))]
 pub(crate) fn rows_of(modules: &[Typed], unit: u32, place: u32) -> &[StmtRow]
     ensures { result.now ≡ rows_at modules.now unit place }
@@ -61,19 +61,19 @@ pub(crate) fn rows_of(modules: &[Typed], unit: u32, place: u32) -> &[StmtRow]
     }
 }
 
-// Goes on in a frame behind its first item.
+// Continues in a frame after its first item.
 fn advance_frame(modules: &[Typed], frame: Frame, holds: bool) -> Frame
     requires { ∥ ((a : step.Activation) × IsFrame modules.now frame a) ∥₁ }
     ensures { (a : step.Activation) → IsFrame modules.now frame a
-        → IsFrame modules.now result (record { serial = a.serial; function = a.function; target = a.target; todo = after holds a.todo }) }
+        → IsFrame modules.now result (record { serial = a.serial; function = a.function; target = a.target; cont = after holds a.cont }) }
 {
     let mut frame = frame;
     let rows = rows_of(modules, frame.unit, frame.place);
-    advance(rows, &mut frame.todo, holds);
+    advance(rows, &mut frame.cont, holds);
     frame
 }
 
-/// Goes on in the newest frame behind its first item. It takes no memory.
+/// Continues in the newest frame after its first item. It takes no memory.
 pub(crate) fn advance_newest(modules: &[Typed], frames: &mut Vec<Frame>, holds: bool)
     requires { ∥ ((all : List step.Activation) × AreFrames modules.now (reverse frames.old.items) all) ∥₁ }
     ensures frames { (all : List step.Activation) → AreFrames modules.now (reverse frames.old.items) all
@@ -95,21 +95,21 @@ impl Config {
         caller_of(&self.frames).is_none()
     }
 
-    /// Goes on in the newest call behind its first item. It takes no memory.
-    pub(crate) fn go_on(&mut self, modules: &[Typed], holds: bool)
+    /// Continues in the newest call after its first item. It takes no memory.
+    pub(crate) fn proceed(&mut self, modules: &[Typed], holds: bool)
         requires { ∥ IsAThread modules.now self.old ∥₁ }
-        ensures goes { (h : step.Here) → AreThread modules.now self.old h.config → h.config.activations ≡ h.newest ∷ h.older
-            → AreThread modules.now self.new (thread_with h (doing h (after holds h.newest.todo)) h.config.memory) }
+        ensures goes { (h : step.StepContext) → AreThread modules.now self.old h.config → h.config.activations ≡ h.newest ∷ h.older
+            → AreThread modules.now self.new (thread_with h (doing h (after holds h.newest.cont)) h.config.memory) }
         ensures len { vec_len self.new.frames ≡ vec_len self.old.frames }
         ensures room { vec_capacity self.new.frames ≡ vec_capacity self.old.frames }
     {
         advance_newest(modules, &mut self.frames, holds);
     }
 
-    /// Stores a value at a place of an object. Where there is no such place nothing changes.
+    /// Stores a value at a place of an object. If there is no such place, nothing changes.
     pub(crate) fn store(&mut self, object: Object, place: u32, value: Value)
-        ensures { (modules : List Typed) (h : step.Here) (todo : List items.Todo) → AreThread modules self.old (thread_with h (doing h todo) h.config.memory)
-            → AreThread modules self.new (thread_with h (doing h todo) (memory_with h.config.memory (object_of object) place (value_of value))) }
+        ensures { (modules : List Typed) (h : step.StepContext) (cont : List items.ContItem) → AreThread modules self.old (thread_with h (doing h cont) h.config.memory)
+            → AreThread modules self.new (thread_with h (doing h cont) (memory_with h.config.memory (object_of object) place (value_of value))) }
     {
         self.memory.store(object, place, value);
     }
@@ -153,10 +153,10 @@ fn keep(memory: &mut Memory, serial: u64, target: Option<Destination>, value: Op
 }
 
 impl Config {
-    /// Returns from the newest call with this value: to the caller, or, from the outermost call, to the end of the thread.
-    /// None where there is no call.
-    pub(crate) fn give_back(&mut self, value: Option<Value>) -> Option<Act>
-        ensures { (modules : List Typed) (e : Env) (h : step.Here) (rs : List ℕ) (s : step.Step) → AreThread modules self.old h.config → h.config.activations ≡ h.newest ∷ h.older
+    /// Returns from the newest call with this value: to the caller, or, from the outermost call, to the end of the
+    /// thread. None if there is no call.
+    pub(crate) fn return_value(&mut self, value: Option<Value>) -> Option<Act>
+        ensures { (modules : List Typed) (e : Env) (h : step.StepContext) (rs : List ℕ) (s : step.Step) → AreThread modules self.old h.config → h.config.activations ≡ h.newest ∷ h.older
             → return_step e h rs h.older (option_map value_of value) ≡ Some s → IsTaken modules result self.new s }
     {
         match self.frames.pop() {

@@ -2,7 +2,7 @@
 
 ghost use Rattle.std.specs.Prelude.{◌≡◌, ◌∷◌, ℕ, List, Some, None, true, IfOk, OnErr, map};
 ghost use Rattle.cas_base.specs.declared.act.Act.TheVariants as act;
-ghost use Rattle.cas_step.specs.Fits.{IsAt};
+ghost use Rattle.cas_step.specs.Well_formed.{IsAt};
 ghost use Rattle.cas_step.specs.Step as step;
 ghost use Rattle.cas_step.specs.Step.{doing, step_to, with_call};
 ghost use Rattle.cas_memory.specs.Values.{value_of};
@@ -20,8 +20,8 @@ use cas_memory::Value;
 use cas_typed::{Destination, Typed};
 
 impl Config {
-    /// Goes on behind the newest call's first item, and begins a call of the function that stands there with these
-    /// arguments. None where there is no such function. On want of memory nothing changes.
+    /// Continues after the newest call's first item, and begins a call of the function that stands there with these
+    /// arguments. None if there is no such function. If it runs out of memory, nothing changes.
     pub(crate) fn enter(
         &mut self,
         modules: &[Typed],
@@ -30,9 +30,9 @@ impl Config {
         values: &[Value],
     ) -> Result<Option<Act>, NoMemory>
         requires { ∥ IsAThread modules.now self.old ∥₁ }
-        ensures taken { IfOk result (λ done. (ms : List TypedModuleTree) (h : step.Here) (rs : List ℕ) (s : step.Step) (m : TypedModuleTree) (it : TypedFunTree) → AreTyped modules.now ms
+        ensures taken { IfOk result (λ done. (ms : List TypedModuleTree) (h : step.StepContext) (rs : List ℕ) (s : step.Step) (m : TypedModuleTree) (it : TypedFunTree) → AreTyped modules.now ms
             → AreThread modules.now self.old h.config → h.config.activations ≡ h.newest ∷ h.older → IsAt ms (stands_at at) m it
-            → step_to (env_of ms) h rs act.Quiet (with_call (env_of ms) (doing h (after true h.newest.todo)) h.config.memory h.config.fresh (stands_at at) (map value_of values.now) target) ≡ s
+            → step_to (env_of ms) h rs act.Quiet (with_call (env_of ms) (doing h (after true h.newest.cont)) h.config.memory h.config.fresh (stands_at at) (map value_of values.now) target) ≡ s
             → IsTaken modules.now done self.new s) }
         ensures kept { OnErr result ((c : step.Config) → AreThread modules.now self.old c → AreThread modules.now self.new c) }
     {

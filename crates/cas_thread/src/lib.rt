@@ -1,18 +1,19 @@
-//! The step of a thread in code. What an activation has to do stands as numbers of rows (`todo`), which change by the first of
-//! them alone (`control`); a thread is its activations with their memory (`config`). A step looks at what comes first
-//! (`first`), and evaluates (`deed`); then it goes on, stores, takes or gives back a lock, puts a word out, or returns (`take`),
-//! or it calls (`call`, `enter`): `step` is all of it. What is offered: a thread's start (`starting`), its next step (`thread`),
-//! the act of that step without the step (`acting`), its place (`place`), the lock that it takes (`locking`), and whether it
-//! puts a word out (`printing`). Contracts speak of the definitions of `cas_step`: `specs/Thread` says which thread of the
-//! definition one of the code is. It stands on `cas_base`, `cas_typed`, `cas_step`, `cas_memory`, `cas_eval`, `cas_program` and
-//! `cas_whole`.
+//! The step of a thread in code. A continuation has the numbers of rows (`continuation`), which change by
+//! the first of them alone (`control`); a thread is its activations with their memory (`config`). A step looks at
+//! what comes first (`first`), and evaluates (`effect`); then it continues, stores, takes or releases a lock, puts a
+//! word out, or returns (`take`), or it calls (`call`, `enter`): `step` is all of it. What is offered: a thread's
+//! start (`starting`), its next step (`thread`), the act of that step without the step (`acting`), its place
+//! (`place`), the lock that it takes (`locking`), and whether it outputs a word (`printing`). Contracts speak of
+//! the definitions of `cas_step`: `specs/Thread` says which thread of the definition one of the code is. It stands
+//! on `cas_base`, `cas_typed`, `cas_step`, `cas_memory`, `cas_eval`, `cas_program` and `cas_whole`.
 #![tactic(auto)]
 
 mod acting;
 mod call;
 mod config;
+mod continuation;
 mod control;
-mod deed;
+mod effect;
 mod enter;
 mod first;
 pub mod laws;
@@ -23,7 +24,6 @@ mod starting;
 mod step;
 mod take;
 mod thread;
-mod todo;
 
 pub use acting::act_of;
 pub use config::Config;

@@ -9,7 +9,7 @@ ghost use Rattle.cas_typed.specs.declared.typed.Typed.{Typed};
 ghost use Rattle.cas_whole.specs.Bodies.{typed_at};
 ghost use Rattle.cas_whole.specs.Whole.{AreTyped, function_at as stands_at};
 ghost use Rattle.cas_thread.specs.Frames.{AreThread};
-ghost use Rattle.cas_thread.specs.Thread.{Starts};
+ghost use Rattle.cas_thread.specs.Thread.{IsStarted};
 
 use crate::call::{function_at, new_frame};
 use crate::config::Config;
@@ -51,10 +51,11 @@ fn started_at(
     })
 }
 
-/// The thread of a program with this number, at its start: its entry is called with the number. An error is want of memory.
+/// The thread of a program with this number, at its start: its entry is called with the number. An error is want of
+/// memory.
 pub fn start(alloc: Global, program: &Program, thread: u32) -> Result<Config, NoMemory>
     requires { thread < length program.now.entries }
-    ensures { IfOk result (λ config. Starts program.now thread config) }
+    ensures { IfOk result (λ config. IsStarted program.now thread config) }
 {
     entries_are_entered();
     match entry_at(program.entries(), thread) {

@@ -4,42 +4,38 @@ ghost use Rattle.std.specs.Prelude.{◌≡◌, [], ◌∷◌, ℕ, List, Some, N
 ghost use Rattle.cas_base.specs.declared.act.Act.TheVariants as act;
 ghost use Rattle.cas_memory.specs.Entities.{entity_if};
 ghost use Rattle.cas_thread.specs.declared.config.Frame as code;
-ghost use Rattle.cas_step.specs.Items.{deed_of};
 ghost use Rattle.cas_step.specs.Step as step;
-ghost use Rattle.cas_step.specs.Step.{sight_of, step_here};
-ghost use Rattle.cas_eval.specs.Answer.{answer};
 ghost use Rattle.cas_program.specs.Program.{env_of};
 ghost use Rattle.cas_typed.specs.Resolved.{TypedModuleTree};
 ghost use Rattle.cas_whole.specs.Program_of.{IsProgramOf};
-ghost use Rattle.cas_thread.specs.Around.{around_in};
 ghost use Rattle.cas_thread.specs.Calls.{IsReadied, IsReady};
 ghost use Rattle.cas_thread.specs.Control.{after};
-ghost use Rattle.cas_thread.specs.Deeds.{Begins, IsCall, IsFirst, IsJump};
+ghost use Rattle.cas_thread.specs.Effects.{FirstStatementIs, IsCall, IsFirst, IsJump};
 ghost use Rattle.cas_thread.specs.Frames.{AreThread};
-ghost use Rattle.cas_thread.specs.Stepping.{AreEntities, IsStep};
+ghost use Rattle.cas_thread.specs.Stepping.{AreEntities, AtCall, AtStep, AtThread, IsStep, OfStep, evaluated_effect};
 
 use crate::call::{Ready, evaluated, first_call, function_of};
 use crate::config::{Config, Frame, rows_of};
-use crate::deed::{First, first_step};
+use crate::effect::{First, first_step};
 use cas_base::{Act, NoMemory};
-use cas_eval::{Here, NoArguments, NoResult, check_arguments};
+use cas_eval::{EvalContext, NoArguments, NoResult, check_arguments};
 use cas_memory::Entity;
 use cas_program::laws::declarations_agree;
 use cas_whole::Program;
 
-/// Where the newest call evaluates.
-pub(crate) fn here_in<'a>(
+/// The context in which the newest call evaluates.
+pub(crate) fn context_in<'a>(
     program: &'a Program,
     config: &'a Config,
     words: &'a [u32],
     frame: &Frame,
-) -> Here<'a>
+) -> EvalContext<'a>
     ensures items { (ms : List TypedModuleTree) (names : List (List ℕ)) (item : ℕ) → IsProgramOf program.now ms names → entity_if (slice_get result.items.now item) ≡ (env_of ms).entity frame.now.unit item }
     ensures words { result.words.now ≡ words.now }
     ensures memory { result.memory.now ≡ config.now.memory }
     ensures serial { result.serial ≡ frame.now.serial }
 {
-    Here {
+    EvalContext {
         items: program.items(frame.unit),
         words,
         memory: &config.memory,
@@ -56,19 +52,16 @@ pub(crate) fn newest(config: &Config) -> Option<&Frame>
     Some(frame)
 }
 
-/// What comes first in a thread: the deed of its newest call's first item, a call or a jump, or why there is nothing.
+/// The first item of the newest call: its effect, or that it is a call or a jump, or why it has no effect.
 pub(crate) fn first(program: &Program, config: &Config, words: &[u32]) -> Result<First, NoResult>
-    ensures { (ms : List TypedModuleTree) (names : List (List ℕ)) (h : step.Here) → IsProgramOf program.now ms names → AreThread program.now.modules config.now h.config
-        → h.config.activations ≡ h.newest ∷ h.older → words.now ≡ h.words
-        → IsFirst (answer (around_in (env_of ms) h) (deed_of (sight_of (env_of ms) h) ((env_of ms).function h.newest.function).ret h.newest.todo))
-        (λ is. after is h.newest.todo) (Begins IsCall h.newest.todo) (Begins IsJump h.newest.todo) result }
+    ensures { AtStep program.now config.now words.now (λ ms h. IsFirst (evaluated_effect ms h) (λ is. after is h.newest.cont) (FirstStatementIs IsCall h.newest.cont) (FirstStatementIs IsJump h.newest.cont) result) }
 {
     match newest(config) {
         Some(frame) => match program.function(frame.unit, frame.place) {
             Some(body) => {
                 let rows = rows_of(program.modules(), frame.unit, frame.place);
-                let here = here_in(program, config, words, frame);
-                first_step(&here, rows, body.ret, frame.todo.as_slice())
+                let context = context_in(program, config, words, frame);
+                first_step(&context, rows, body.ret, frame.cont.as_slice())
             }
             None => Err(NoResult::Stuck),
         },
@@ -78,8 +71,7 @@ pub(crate) fn first(program: &Program, config: &Config, words: &[u32]) -> Result
 
 /// What the items of the newest call's module stand for.
 pub(crate) fn items_of<'a>(program: &'a Program, config: &Config) -> &'a [Option<Entity>]
-    ensures { (ms : List TypedModuleTree) (names : List (List ℕ)) (h : step.Here) → IsProgramOf program.now ms names → AreThread program.now.modules config.now h.config
-        → h.config.activations ≡ h.newest ∷ h.older → AreEntities result.now (env_of ms) h }
+    ensures { AtThread program.now config.now (λ ms h. AreEntities result.now (env_of ms) h) }
 {
     match newest(config) {
         Some(frame) => program.items(frame.unit),
@@ -89,17 +81,15 @@ pub(crate) fn items_of<'a>(program: &'a Program, config: &Config) -> &'a [Option
 
 // The call that comes first, with its arguments.
 fn ready(program: &Program, config: &Config, words: &[u32]) -> Result<Ready, NoArguments>
-    ensures { (ms : List TypedModuleTree) (names : List (List ℕ)) (h : step.Here) → IsProgramOf program.now ms names → AreThread program.now.modules config.now h.config
-        → h.config.activations ≡ h.newest ∷ h.older → words.now ≡ h.words → Begins IsCall h.newest.todo
-        → IsReady (answer (around_in (env_of ms) h) (deed_of (sight_of (env_of ms) h) ((env_of ms).function h.newest.function).ret h.newest.todo)) (after true h.newest.todo) result }
+    ensures { AtCall program.now config.now words.now (λ ms h. IsReady (evaluated_effect ms h) (after true h.newest.cont) result) }
 {
     match newest(config) {
         Some(frame) => {
             let rows = rows_of(program.modules(), frame.unit, frame.place);
-            match first_call(rows, frame.todo.as_slice()) {
+            match first_call(rows, frame.cont.as_slice()) {
                 Some(called) => {
-                    let here = here_in(program, config, words, frame);
-                    evaluated(config.alloc, &here, &called)
+                    let context = context_in(program, config, words, frame);
+                    evaluated(config.alloc, &context, &called)
                 }
                 None => Err(NoArguments::OfValue(NoResult::Stuck)),
             }
@@ -114,17 +104,15 @@ pub(crate) fn arguments_of(
     config: &Config,
     words: &[u32],
 ) -> Result<(), NoResult>
-    ensures { (ms : List TypedModuleTree) (names : List (List ℕ)) (h : step.Here) → IsProgramOf program.now ms names → AreThread program.now.modules config.now h.config
-        → h.config.activations ≡ h.newest ∷ h.older → words.now ≡ h.words → Begins IsCall h.newest.todo
-        → IsReadied (answer (around_in (env_of ms) h) (deed_of (sight_of (env_of ms) h) ((env_of ms).function h.newest.function).ret h.newest.todo)) result }
+    ensures { AtCall program.now config.now words.now (λ ms h. IsReadied (evaluated_effect ms h) result) }
 {
     match newest(config) {
         Some(frame) => {
             let rows = rows_of(program.modules(), frame.unit, frame.place);
-            match first_call(rows, frame.todo.as_slice()) {
+            match first_call(rows, frame.cont.as_slice()) {
                 Some(called) => {
-                    let here = here_in(program, config, words, frame);
-                    check_arguments(&here, called.args)
+                    let context = context_in(program, config, words, frame);
+                    check_arguments(&context, called.args)
                 }
                 None => Err(NoResult::Stuck),
             }
@@ -133,18 +121,14 @@ pub(crate) fn arguments_of(
     }
 }
 
-// What a call comes to where there was no room for its arguments: Bad ones are Bad all the same.
+// The step of a call if there was no room for its arguments: if evaluating them is Bad, the step is Bad all the same.
 fn call_without_room(
     program: &Program,
     config: &Config,
     words: &[u32],
 ) -> Result<Option<Act>, NoMemory>
-    ensures taken { IfOk result (λ done. (ms : List TypedModuleTree) (names : List (List ℕ)) (h : step.Here) (s : step.Step) → IsProgramOf program.now ms names
-        → AreThread program.now.modules config.now h.config → h.config.activations ≡ h.newest ∷ h.older → words.now ≡ h.words → Begins IsCall h.newest.todo
-        → step_here (env_of ms) h ≡ Some s → IsStep program.now.modules done config.now words.now s) }
-    ensures quiet { OnErr result ((ms : List TypedModuleTree) (names : List (List ℕ)) (h : step.Here) (s : step.Step) → IsProgramOf program.now ms names
-        → AreThread program.now.modules config.now h.config → h.config.activations ≡ h.newest ∷ h.older → words.now ≡ h.words → Begins IsCall h.newest.todo
-        → step_here (env_of ms) h ≡ Some s → s.act ≡ act.Quiet) }
+    ensures taken { IfOk result (λ done. AtCall program.now config.now words.now (OfStep (IsStep program.now.modules done config.now words.now))) }
+    ensures quiet { OnErr result (AtCall program.now config.now words.now (OfStep (λ s. s.act ≡ act.Quiet))) }
 {
     match arguments_of(program, config, words) {
         Ok(_) => Err(NoMemory),
@@ -156,13 +140,9 @@ fn call_without_room(
 // The step of a call.
 fn call(program: &Program, config: &mut Config, words: &[u32]) -> Result<Option<Act>, NoMemory>
     requires { ∥ ((ms : List TypedModuleTree) × (names : List (List ℕ)) × (c : step.Config) × IsProgramOf program.now ms names × AreThread program.now.modules config.old c) ∥₁ }
-    ensures taken { IfOk result (λ done. (ms : List TypedModuleTree) (names : List (List ℕ)) (h : step.Here) (s : step.Step) → IsProgramOf program.now ms names
-        → AreThread program.now.modules config.old h.config → h.config.activations ≡ h.newest ∷ h.older → words.now ≡ h.words → Begins IsCall h.newest.todo
-        → step_here (env_of ms) h ≡ Some s → IsStep program.now.modules done config.new words.now s) }
+    ensures taken { IfOk result (λ done. AtCall program.now config.old words.now (OfStep (IsStep program.now.modules done config.new words.now))) }
     ensures kept { OnErr result ((c : step.Config) → AreThread program.now.modules config.old c → AreThread program.now.modules config.new c) }
-    ensures quiet { OnErr result ((ms : List TypedModuleTree) (names : List (List ℕ)) (h : step.Here) (s : step.Step) → IsProgramOf program.now ms names
-        → AreThread program.now.modules config.old h.config → h.config.activations ≡ h.newest ∷ h.older → words.now ≡ h.words → Begins IsCall h.newest.todo
-        → step_here (env_of ms) h ≡ Some s → s.act ≡ act.Quiet) }
+    ensures quiet { OnErr result (AtCall program.now config.old words.now (OfStep (λ s. s.act ≡ act.Quiet))) }
 {
     declarations_agree();
     let modules = program.modules();
@@ -184,33 +164,28 @@ fn call(program: &Program, config: &mut Config, words: &[u32]) -> Result<Option<
     }
 }
 
-/// The step of a thread: its act. None where there is no such step, as in no typed module.
+/// The step of a thread: its act. None if there is no such step, as in no typed module.
 pub(crate) fn step_in(
     program: &Program,
     config: &mut Config,
     words: &mut [u32],
 ) -> Result<Option<Act>, NoMemory>
     requires { ∥ ((ms : List TypedModuleTree) × (names : List (List ℕ)) × (c : step.Config) × IsProgramOf program.now ms names × AreThread program.now.modules config.old c) ∥₁ }
-    ensures taken { IfOk result (λ act. (ms : List TypedModuleTree) (names : List (List ℕ)) (h : step.Here) (s : step.Step) → IsProgramOf program.now ms names
-        → AreThread program.now.modules config.old h.config → h.config.activations ≡ h.newest ∷ h.older → words.old ≡ h.words
-        → step_here (env_of ms) h ≡ Some s → IsStep program.now.modules act config.new words.new s) }
+    ensures taken { IfOk result (λ act. AtStep program.now config.old words.old (OfStep (IsStep program.now.modules act config.new words.new))) }
     ensures kept { OnErr result ((c : step.Config) → AreThread program.now.modules config.old c → AreThread program.now.modules config.new c) }
     ensures words { OnErr result (words.new ≡ words.old) }
-    ensures calls { OnErr result ((ms : List TypedModuleTree) (names : List (List ℕ)) (h : step.Here) → IsProgramOf program.now ms names → AreThread program.now.modules config.old h.config
-        → h.config.activations ≡ h.newest ∷ h.older → words.old ≡ h.words → Begins IsCall h.newest.todo) }
-    ensures quiet { OnErr result ((ms : List TypedModuleTree) (names : List (List ℕ)) (h : step.Here) (s : step.Step) → IsProgramOf program.now ms names
-        → AreThread program.now.modules config.old h.config → h.config.activations ≡ h.newest ∷ h.older → words.old ≡ h.words
-        → step_here (env_of ms) h ≡ Some s → s.act ≡ act.Quiet) }
+    ensures calls { OnErr result (AtStep program.now config.old words.old (λ _ h. FirstStatementIs IsCall h.newest.cont)) }
+    ensures quiet { OnErr result (AtStep program.now config.old words.old (OfStep (λ s. s.act ≡ act.Quiet))) }
 {
     let modules = program.modules();
     match first(program, config, words) {
         Ok(first) => match first {
-            First::Does(deed) => {
+            First::Does(effect) => {
                 let items = items_of(program, config);
-                Ok(config.take(modules, items, words, deed))
+                Ok(config.take(modules, items, words, effect))
             }
             First::Jump => {
-                config.go_on(modules, true);
+                config.proceed(modules, true);
                 Ok(Some(Act::Quiet))
             }
             First::Call => call(program, config, words),

@@ -5,15 +5,15 @@ ghost use Rattle.cas_base.specs.declared.act.Act.TheVariants as act;
 ghost use Rattle.cas_step.specs.Answered.{got};
 ghost use Rattle.cas_step.specs.Env.{Env};
 ghost use Rattle.cas_step.specs.Step as step;
-ghost use Rattle.cas_step.specs.Step.{step_doing};
+ghost use Rattle.cas_step.specs.Step.{step_with_effect};
 ghost use Rattle.cas_memory.specs.Entities.{entity_if};
 ghost use Rattle.cas_thread.specs.Control.{after};
-ghost use Rattle.cas_thread.specs.Deeds.{deed_with};
+ghost use Rattle.cas_thread.specs.Effects.{effect_with};
 ghost use Rattle.cas_thread.specs.Frames.{IsAThread};
-ghost use Rattle.cas_thread.specs.Stepping.{IsStep, Stands, lock_word, shared_word};
+ghost use Rattle.cas_thread.specs.Stepping.{IsStep, IsStepContext, lock_word, shared_word};
 
 use crate::config::Config;
-use crate::deed::Deed;
+use crate::effect::Effect;
 use cas_base::Act;
 use cas_eval::entity_at;
 use cas_memory::Entity;
@@ -49,7 +49,7 @@ fn put(words: &mut [u32], number: usize, word: u32)
 }
 
 impl Config {
-    // Writes a word at a place of the global that an item is, and goes on.
+    // Writes a word at a place of the global that an item is, and continues.
     fn write(
         &mut self,
         modules: &[Typed],
@@ -59,13 +59,13 @@ impl Config {
         word: u32,
     ) -> Option<Act>
         requires { ∥ IsAThread modules.now self.old ∥₁ }
-        ensures { (e : Env) (h : step.Here) (rs : List ℕ) (s : step.Step) → Stands modules.now items.now self.old words.old e h
-            → step.global_step e h rs (step.entity_in e h target.0) target.1 word (after true h.newest.todo) ≡ Some s
+        ensures { (e : Env) (h : step.StepContext) (rs : List ℕ) (s : step.Step) → IsStepContext modules.now items.now self.old words.old e h
+            → step.global_step e h rs (step.entity_in e h target.0) target.1 word (after true h.newest.cont) ≡ Some s
             → IsStep modules.now result self.new words.new s }
     {
         let number = number_of(items, target.0, target.1)?;
         put(words, number, word);
-        self.go_on(modules, true);
+        self.proceed(modules, true);
         Some(Act::Quiet)
     }
 
@@ -78,15 +78,15 @@ impl Config {
         takes: bool,
     ) -> Option<Act>
         requires { ∥ IsAThread modules.now self.old ∥₁ }
-        ensures takes { (e : Env) (h : step.Here) (rs : List ℕ) (s : step.Step) (words : List ℕ) → takes ≡ true → Stands modules.now items.now self.old words e h
-            → step.lock_step e h rs (step.entity_in e h item) act.Lock (after true h.newest.todo) ≡ Some s
+        ensures takes { (e : Env) (h : step.StepContext) (rs : List ℕ) (s : step.Step) (words : List ℕ) → takes ≡ true → IsStepContext modules.now items.now self.old words e h
+            → step.lock_step e h rs (step.entity_in e h item) act.Lock (after true h.newest.cont) ≡ Some s
             → IsStep modules.now result self.new words s }
-        ensures gives { (e : Env) (h : step.Here) (rs : List ℕ) (s : step.Step) (words : List ℕ) → takes ≡ false → Stands modules.now items.now self.old words e h
-            → step.lock_step e h rs (step.entity_in e h item) act.Unlock (after true h.newest.todo) ≡ Some s
+        ensures gives { (e : Env) (h : step.StepContext) (rs : List ℕ) (s : step.Step) (words : List ℕ) → takes ≡ false → IsStepContext modules.now items.now self.old words e h
+            → step.lock_step e h rs (step.entity_in e h item) act.Unlock (after true h.newest.cont) ≡ Some s
             → IsStep modules.now result self.new words s }
     {
         let word = lock_of(items, item)?;
-        self.go_on(modules, true);
+        self.proceed(modules, true);
         if takes {
             Some(Act::Lock(word))
         } else {
@@ -94,37 +94,37 @@ impl Config {
         }
     }
 
-    /// Does a deed: the act of its step. None where it has no sense, as in no typed module.
+    /// Does an effect: the act of its step. None if it is stuck, as in no typed module.
     pub(crate) fn take(
         &mut self,
         modules: &[Typed],
         items: &[Option<Entity>],
         words: &mut [u32],
-        deed: Deed,
+        effect: Effect,
     ) -> Option<Act>
         requires { ∥ IsAThread modules.now self.old ∥₁ }
-        ensures { (e : Env) (h : step.Here) (rs : List ℕ) (s : step.Step) → Stands modules.now items.now self.old words.old e h
-            → step_doing e h (got rs (deed_with (λ is. after is h.newest.todo) deed)) ≡ Some s
+        ensures { (e : Env) (h : step.StepContext) (rs : List ℕ) (s : step.Step) → IsStepContext modules.now items.now self.old words.old e h
+            → step_with_effect e h (got rs (effect_with (λ is. after is h.newest.cont) effect)) ≡ Some s
             → IsStep modules.now result self.new words.new s }
     {
-        match deed {
-            Deed::Goes(holds) => {
-                self.go_on(modules, holds);
+        match effect {
+            Effect::Continues(holds) => {
+                self.proceed(modules, holds);
                 Some(Act::Quiet)
             }
-            Deed::Stores(object, place, value) => {
-                self.go_on(modules, true);
+            Effect::Stores(object, place, value) => {
+                self.proceed(modules, true);
                 self.store(object, place, value);
                 Some(Act::Quiet)
             }
-            Deed::Writes(item, place, word) => {
+            Effect::Writes(item, place, word) => {
                 self.write(modules, items, words, (item, place), word)
             }
-            Deed::Returns(value) => self.give_back(value),
-            Deed::Locks(item) => self.locks(modules, items, item, true),
-            Deed::Unlocks(item) => self.locks(modules, items, item, false),
-            Deed::Prints(word) => {
-                self.go_on(modules, true);
+            Effect::Returns(value) => self.return_value(value),
+            Effect::Locks(item) => self.locks(modules, items, item, true),
+            Effect::Unlocks(item) => self.locks(modules, items, item, false),
+            Effect::Prints(word) => {
+                self.proceed(modules, true);
                 Some(Act::Out(word))
             }
         }

@@ -6,7 +6,7 @@ use Rattle.cas_step.specs.Asks.{word}
 use Rattle.cas_step.specs.Env.{Env, FunctionAt}
 use Rattle.cas_step.specs.Step as step
 use Rattle.cas_step.specs.Step.{start}
-use Rattle.cas_thread.specs.Thread.{IsThread, Starts}
+use Rattle.cas_thread.specs.Thread.{IsThread, IsStarted}
 use Rattle.cas_thread.specs.declared.config.Config.{Config}
 use Rattle.cas_turn.specs.Shown.{AreThreads}
 use Rattle.cas_typed.specs.Resolved.{TypedModuleTree}
@@ -54,7 +54,7 @@ at_within (x ∷ xs) (suc n) within = at_within xs n (omega (arith, within))
 
 -- the threads at the first entries, and one more
 pub begun_more : (p : Program) (ks : List Config) (k : Config) (n : ℕ) (ms : List TypedModuleTree) (names : List (List ℕ)) → IsProgramOf p ms names → n < length p.entries →
-    AreThreads p ks (started (env_of ms) 0 (take n (entries_of ms names))) → Starts p n k → AreThreads p (ks ++ k ∷ []) (started (env_of ms) 0 (take (n + 1) (entries_of ms names)))
+    AreThreads p ks (started (env_of ms) 0 (take n (entries_of ms names))) → IsStarted p n k → AreThreads p (ks ++ k ∷ []) (started (env_of ms) 0 (take (n + 1) (entries_of ms names)))
 begun_more p ks k n ms names is within are starts =
     let (f, at) = at_within (entries_of ms names) n (omega (arith, entries_length p ms names is)) in
     let e = env_of ms in

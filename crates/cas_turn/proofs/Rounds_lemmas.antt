@@ -32,7 +32,7 @@ answered_stays e w i answer.Ended h other = ap (after_turn w i) h
 answered_stays e w i (answer.Waits l holder) h other = ap (after_turn w i) h
 answered_stays e w i (answer.Bad why unit place) h other = ap (after_turn w i) h
 
--- turns of two schedules, one behind the other
+-- turns of two schedules, one after the other
 pub turns-append : (e : Env) (w : World) (xs ys : List ℕ) → turns e w (xs ++ ys) ≡ turns e (turns e w xs) ys
 turns-append e w [] ys = refl
 turns-append e w (i ∷ xs) ys = turns-append e (turn e w i) xs ys

@@ -10,8 +10,8 @@ use Rattle.cas_base.specs.declared.act.Why.{Why}
 use Rattle.cas_program.specs.Program.{env_of}
 use Rattle.cas_step.specs.Step as step
 use Rattle.cas_step.specs.Step.{Activation, Step, step_of}
-use Rattle.cas_thread.specs.Deeds.{Begins, IsCall}
-use Rattle.cas_thread.specs.Thread.{Goes, IsThread, Stands, lock_of}
+use Rattle.cas_thread.specs.Effects.{FirstStatementIs, IsCall}
+use Rattle.cas_thread.specs.Thread.{IsUnfinished, IsThread, CanStep, lock_of}
 use Rattle.cas_thread.specs.declared.config.Config.{Config}
 use Rattle.cas_base.specs.declared.place.Place.{Place}
 use Rattle.cas_turn.specs.Answers.{Answers, BeginsCall, IsRunning, MayWantMemory, free_shown, state_shown}
@@ -22,7 +22,7 @@ use Rattle.cas_typed.specs.Resolved.{TypedModuleTree}
 use Rattle.cas_whole.specs.declared.program.Program.{Program}
 use Rattle.cas_world.specs.Turns.{State, running, waits, bad, at_lock, at_step, at_next}
 
--- a thread that hasn't ended goes on
+-- a thread that hasn't ended continues
 
 newest_of : (activations : List Activation) → activations ≢ [] → (a : Activation) × (older : List Activation) × (activations ≡ a ∷ older)
 newest_of [] goes_on = absurd (goes_on refl)
@@ -35,7 +35,7 @@ module _ (p : Program) (k : Config) where
   told_to_go_on b told is = λ ms names c program thread none. let both : IsTrue b = (told p c thread).1 none in cc
 
   module _ (ws : List ℕ) (hs : List (Option ℕ)) (there : ∥ IsThere p k ∥₁) (may : ForThread p k (λ ms c. ∥ MayTurn ws hs ms c ∥₁)) (goes_on : ForThread p k (λ ms c. c.activations ≢ [])) where
-    pub stands : ∥ Stands p k ws ∥₁
+    pub stands : ∥ CanStep p k ws ∥₁
     stands = ∥∥₁_elim there ∥∥₁_prop (λ t. ∥∥₁_map (may t.modules t.names t.config t.program t.thread) (λ m.
         let (a, older, is) = newest_of t.config.activations (goes_on t.modules t.names t.config t.program t.thread) in
         record {
@@ -52,7 +52,7 @@ module _ (p : Program) (k : Config) where
         }))
 
 -- what stands goes
-pub goes_from_stands : (p : Program) (k : Config) (ws : List ℕ) → ∥ Stands p k ws ∥₁ → ∥ Goes p k ∥₁
+pub goes_from_stands : (p : Program) (k : Config) (ws : List ℕ) → ∥ CanStep p k ws ∥₁ → ∥ IsUnfinished p k ∥₁
 goes_from_stands p k ws h = ∥∥₁_map h (λ s. record {
   modules = s.modules;
   names = s.names;
@@ -70,7 +70,7 @@ some_unless : {A : Type 0} (o : Option A) → o ≢ None → (x : A) × (o ≡ S
 some_unless None there = absurd (there refl)
 some_unless (Some x) there = (x, refl)
 
--- the next step of a thread that goes on
+-- the next step of a thread that continues
 pub next_step : (ws : List ℕ) (hs : List (Option ℕ)) (ms : List TypedModuleTree) (c : step.Config) → ∥ MayTurn ws hs ms c ∥₁ → c.activations ≢ [] →
     (s : Step) × (step.step (env_of ms) ws c ≡ Some s)
 next_step ws hs ms c may goes_on = some_unless (step.step (env_of ms) ws c) (λ none. ∥∥₁_elim may ⊥_prop (λ m.
@@ -156,7 +156,7 @@ false_not false h f = tt
 
 -- where memory is taken
 
-pub begins_call : (activations : List Activation) → activations ≢ [] → ((a : Activation) (older : List Activation) → activations ≡ a ∷ older → Begins IsCall a.todo) → BeginsCall activations
+pub begins_call : (activations : List Activation) → activations ≢ [] → ((a : Activation) (older : List Activation) → activations ≡ a ∷ older → FirstStatementIs IsCall a.cont) → BeginsCall activations
 begins_call [] goes_on calls = absurd (goes_on refl)
 begins_call (a ∷ older) goes_on calls = calls a older refl
 

@@ -4,7 +4,7 @@ use Rattle.std.specs.Prelude.{OnOk, OnErr}
 use Rattle.std.proofs.Math.Logic.{∥∥₁_map}
 use Rattle.cas_program.specs.Program.{env_of, entries_of, initial_words}
 use Rattle.cas_step.specs.Env.{Env}
-use Rattle.cas_step.specs.Fits.{FitsWords}
+use Rattle.cas_step.specs.Well_formed.{IsWellTypedStore}
 use Rattle.cas_step.specs.Step as step
 use Rattle.cas_step.specs.Step.{Activation, Step}
 use Rattle.cas_thread.specs.Thread.{IsThread}
@@ -18,7 +18,7 @@ use Rattle.cas_typed.specs.Resolved.{TypedModuleTree}
 use Rattle.cas_whole.specs.Program_of.{IsProgramOf}
 use Rattle.cas_whole.specs.declared.program.Program.{Program}
 use Rattle.cas_world.proofs.Turns.{running_may}
-use Rattle.cas_world.specs.Fitting.{IsFitting, WorldsFit}
+use Rattle.cas_world.specs.Sound_worlds.{IsSoundWorld, WorldsAreSound}
 use Rattle.cas_world.specs.Races.{program_world}
 use Rattle.cas_world.specs.Turns.{State, running, ended, waits, bad, at_config, at_next, state_of}
 use Rattle.cas_world.specs.World.{World, first_world, holders_after, out_after, world_after, and_step, Reaches}
@@ -131,8 +131,8 @@ module _ (facts : Facts) (p : Program) (ks : List Config) (ws : List ℕ) (hs : 
   is_reached reached ms names w is = ∥∥₁_map reached (λ r. reached_too ms r.0 names r.1 w r.2 is r.3 r.4)
 
   -- and it fits
-  pub is_fitting : WorldsFit → ∥ IsReached ∥₁ → (ms : List TypedModuleTree) (names : List (List ℕ)) (w : World) → IsWorld ms names w → ∥ IsFitting ms (env_of ms) w ∥₁
-  is_fitting fit reached ms names w is = ∥∥₁_map (is_reached reached ms names w is) (λ r.
+  pub is_sound_world : WorldsAreSound → ∥ IsReached ∥₁ → (ms : List TypedModuleTree) (names : List (List ℕ)) (w : World) → IsWorld ms names w → ∥ IsSoundWorld ms (env_of ms) w ∥₁
+  is_sound_world fit reached ms names w is = ∥∥₁_map (is_reached reached ms names w is) (λ r.
       let few : length names ≤ 2 ^ 32 = omega (arith, is.program.few_entries) in
       fit ms names is.program.program few w r)
 
@@ -150,10 +150,10 @@ module _ (facts : Facts) (p : Program) (ks : List Config) (ws : List ℕ) (hs : 
       pub state_there : state_of (env_of ms) w i ≡ state_in ws hs ms c
       state_there = ap (at_config (env_of ms) w) stands ∙ ap (at_next w.holders) step_there ∙ ap (λ v. at_next v (step.step (env_of ms) ws c)) (sym is.holders_are)
 
-      may_turn : IsFitting ms (env_of ms) w → MayTurn ws hs ms c
+      may_turn : IsSoundWorld ms (env_of ms) w → MayTurn ws hs ms c
       may_turn f = record {
         sound = f.sound i c stands;
-        words_fit = subst (λ v. FitsWords (env_of ms) v) (sym is.words_are) f.words;
+        words_fit = subst (λ v. IsWellTypedStore (env_of ms) v) (sym is.words_are) f.words;
         steps = λ a older goes.
             let (s, next) = f.steps i c a older stands goes in
             let same : next.config ≡ c = cc (sym next.stands ∙ stands) in
@@ -163,7 +163,7 @@ module _ (facts : Facts) (p : Program) (ks : List Config) (ws : List ℕ) (hs : 
             (holder, ap (λ v. slice_get v l) is.holders_are ∙ held);
       }
 
-    pub may : WorldsFit → ∥ IsReached ∥₁ → ForThread p k (λ ms c. ∥ MayTurn ws hs ms c ∥₁)
+    pub may : WorldsAreSound → ∥ IsReached ∥₁ → ForThread p k (λ ms c. ∥ MayTurn ws hs ms c ∥₁)
     may fit reached ms names c program thread = ∥∥₁_map reached (λ r.
         let (d, stands, other) = thread_at p ks r.2.threads i k r.3.threads_are at in
         let few : length r.1 ≤ 2 ^ 32 = omega (arith, r.3.program.few_entries) in

@@ -1,4 +1,4 @@
--- Which world of a program the parts of a world of the code are.
+-- The world of a program that the parts of a world of the code stand for.
 use Rattle.std.specs.Prelude.{◌≡◌, ⊤, ℕ, List, [], ◌∷◌, Option}
 use Rattle.cas_step.specs.Step as step
 use Rattle.cas_thread.specs.Thread.{IsThread}
@@ -14,7 +14,8 @@ AreThreads p [] [] = ⊤
 AreThreads p (k ∷ ks) (c ∷ cs) = IsThread p k c × AreThreads p ks cs
 AreThreads p _ _ = ⊥
 
--- These threads, words, holders and this output of the code are the world, of the program of these modules and names.
+-- These threads, words, holders and this output of the code are this world of the program with these modules and
+-- entries.
 pub record AreWorldOf (p : Program) (threads : List Config) (words : List ℕ) (holders : List (Option ℕ)) (out : List (ℕ × ℕ))
     (modules : List TypedModuleTree) (names : List (List ℕ)) (w : World) : Type 0 where
   pub program : IsProgramOf p modules names

@@ -1,8 +1,8 @@
--- A thread of the code, and the words and holders around it, before and after a turn.
+-- A thread of the code, with the words and holders of its world, before and after a turn.
 use Rattle.std.specs.Prelude.{◌≡◌, ℕ, List, ◌∷◌, Option, Some, None, slice_get}
 use Rattle.cas_base.specs.declared.act.Act.TheVariants as act
 use Rattle.cas_program.specs.Program.{env_of}
-use Rattle.cas_step.specs.Fits.{FitsWords}
+use Rattle.cas_step.specs.Well_formed.{IsWellTypedStore}
 use Rattle.cas_step.specs.Sound.{IsSound}
 use Rattle.cas_step.specs.Step as step
 use Rattle.cas_step.specs.Step.{Activation, Step}
@@ -22,19 +22,19 @@ pub record IsThere (p : Program) (k : Config) : Type 0 where
   pub program : IsProgramOf p modules names
   pub thread : IsThread p k config
 
--- A thread of a world that fits: it is sound, the words fit, it has a step if it hasn't ended, and a lock that its step takes is
--- there.
+-- A thread of a sound world: it is sound, the store is well-typed, the thread has a step if it hasn't ended, and a
+-- lock that its step takes exists.
 pub record MayTurn (words : List ℕ) (holders : List (Option ℕ)) (modules : List TypedModuleTree) (c : step.Config) : Type 0 where
   pub sound : IsSound modules (env_of modules) c
-  pub words_fit : FitsWords (env_of modules) words
+  pub words_fit : IsWellTypedStore (env_of modules) words
   pub steps : (a : Activation) (older : List Activation) → c.activations ≡ a ∷ older → (s : Step) × (step.step (env_of modules) words c ≡ Some s)
   pub locks : (l : ℕ) (s : Step) → step.step (env_of modules) words c ≡ Some s → s.act ≡ act.Lock l → (holder : Option ℕ) × (slice_get holders l ≡ Some holder)
 
--- of the thread that the thread of the code is, in the program of these modules, this holds
+-- this holds of the program's modules and of the thread that the thread of the code stands for
 abbrev pub ForThread : Program → Config → (List TypedModuleTree → step.Config → Type 0) → Type 0
 ForThread p k P = (modules : List TypedModuleTree) (names : List (List ℕ)) (c : step.Config) → IsProgramOf p modules names → IsThread p k c → P modules c
 
--- what it stands at
+-- its state
 abbrev pub state_in : (words : List ℕ) → (holders : List (Option ℕ)) → List TypedModuleTree → step.Config → State
 state_in words holders modules c = at_next holders (step.step (env_of modules) words c)
 
@@ -43,7 +43,7 @@ abbrev pub holder_in : Option (Option ℕ) → Option ℕ
 holder_in None = None
 holder_in (Some holder) = holder
 
--- The thread with this number took the step: it, the words, the holders and the output are now those behind it.
+-- The thread with this number took the step: the thread, the words, the holders and the output are those after it.
 pub record IsAfter (p : Program) (thread : ℕ) (holders : List (Option ℕ)) (out : List (ℕ × ℕ)) (s : Step)
     (k : Config) (words : List ℕ) (held : List (Option ℕ)) (put : List (ℕ × ℕ)) : Type 0 where
   pub next : IsThread p k s.next

@@ -1,11 +1,11 @@
-//! What is told of a thread in a world.
+//! The answers of turns, and the states of threads in a world.
 
 use cas_base::{Place, Why};
 
 /// Why a turn of a thread didn't take its step.
 #[derive(Clone, Copy, Debug, PartialEq, Eq)]
 pub enum WorldAnswer {
-    /// Want of memory, at a call or at a word that is put out. The next step isn't Bad.
+    /// It ran out of memory, at a call or at a word that is output. The next step isn't Bad.
     Memory,
     /// The next step takes a lock that a thread has.
     Waits {
@@ -21,12 +21,12 @@ pub enum WorldAnswer {
         why: Why,
         /// The number of the module.
         module: u32,
-        /// Where the statement stands in it.
+        /// The place of the statement in it.
         place: Place,
     },
 }
 
-/// What a thread stands at.
+/// The state of a thread.
 #[derive(Clone, Copy, Debug, PartialEq, Eq)]
 pub enum ThreadState {
     /// It may take its next step.
@@ -45,7 +45,7 @@ pub enum ThreadState {
         why: Why,
         /// The number of the module.
         module: u32,
-        /// Where the statement stands in it.
+        /// The place of the statement in it.
         place: Place,
     },
 }

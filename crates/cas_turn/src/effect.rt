@@ -28,7 +28,7 @@ pub(crate) fn hold(holders: &mut [Option<u32>], act: Act, thread: u32)
     }
 }
 
-/// Appends what an act of a thread puts out, for which there is room.
+/// Appends what an act of a thread outputs, for which there is room.
 pub(crate) fn put(out: &mut Vec<(u32, u32)>, act: Act, thread: u32)
     requires { (n : ℕ) → act ≡ Act.Out n → vec_len out.old < vec_capacity out.old }
     ensures { out.new.items ≡ out_after act thread out.old.items }

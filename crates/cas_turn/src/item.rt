@@ -1,6 +1,6 @@
 //! Items of schedules.
 
-/// Turns of one thread, one behind the other.
+/// Turns of one thread, one after the other.
 #[derive(Clone, Copy, Debug, PartialEq, Eq)]
 pub struct Item {
     /// The thread's number.

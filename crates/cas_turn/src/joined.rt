@@ -29,9 +29,9 @@ fn typed_modules(alloc: Global, modules: Vec<Checked>) -> Result<Vec<Typed>, NoM
     Ok(typed)
 }
 
-/// The program of these checked modules whose threads begin at these functions. It is refused as `settle` refuses the
-/// modules' declarations with these entries. The program is race-free, safe or not: no two threads that may step touch one
-/// shared word, one of them writing it.
+/// The program of these checked modules whose threads begin at these functions. It is refused as `settle` refuses
+/// the modules' declarations with these entries. The program is race-free, safe or not: no two threads that may step
+/// touch one shared word, one of them writing it.
 pub fn join(alloc: Global, modules: Vec<Checked>, entries: &[Name]) -> Result<Program, LinkFault>
     requires few_modules { vec_len modules < 2 ^ 32 }
     requires few_entries { length entries.now < 2 ^ 32 }

@@ -18,8 +18,8 @@ use cas_base::NoMemory;
 impl World {
     ghost use Rattle.cas_turn.specs.World_of.{IsWorldOf};
 
-    // A turn of a thread, and whether it took its step. After want of memory nothing has changed. It is told only where the
-    // thread may take its step, and the step begins a call or puts a word out.
+    // A turn of a thread, and whether it took its step. If it runs out of memory, nothing has changed. That
+    // happens only if the thread may take its step, and the step begins a call or outputs a word.
     fn takes_turn(&mut self, thread: u32) -> Result<bool, NoMemory>
         ensures program { self.new.program ≡ self.old.program }
         ensures threads { vec_len self.new.threads ≡ vec_len self.old.threads }
@@ -40,7 +40,7 @@ impl World {
         }
     }
 
-    // So many turns of a thread; one that changes nothing is the last.
+    // This many turns of a thread; one that changes nothing is the last.
     fn repeat(&mut self, thread: u32, count: u32) -> Result<(), NoMemory>
         ensures program { self.new.program ≡ self.old.program }
         ensures turns { OnOk result ((ms : List TypedModuleTree) (names : List (List ℕ)) (w : AWorld) → IsWorldOf self.old ms names w → IsWorldOf self.new ms names (turns (env_of ms) w (replicate count thread))) }
@@ -54,8 +54,9 @@ impl World {
         Ok(())
     }
 
-    /// The turns of a schedule, in its order. After want of memory the world is one that some of the turns come to, in their
-    /// order from the first on, and in the next turn the thread may take its step, which begins a call or puts a word out.
+    /// The turns of a schedule, in its order. If it runs out of memory, the world is one that some of the turns come
+    /// to, in their order from the first on, and in the next turn the thread may take its step, which begins a call
+    /// or outputs a word.
     pub fn schedule(&mut self, items: &[Item]) -> Result<(), NoMemory>
         ensures program { self.new.program ≡ self.old.program }
         ensures turns { OnOk result ((ms : List TypedModuleTree) (names : List (List ℕ)) (w : AWorld) → IsWorldOf self.old ms names w → IsWorldOf self.new ms names (turns (env_of ms) w (unrolled items.now))) }
@@ -84,9 +85,9 @@ impl World {
         Ok(moved)
     }
 
-    /// So many rounds over all threads in order; one that changes nothing is the last. After want of memory the world is one that
-    /// some of the turns come to, in their order from the first on, and in the next turn the thread may take its step, which
-    /// begins a call or puts a word out.
+    /// This many rounds over all threads in order; one that changes nothing is the last. If it runs out of memory, the
+    /// world is one that some of the turns come to, in their order from the first on, and in the next turn the
+    /// thread may take its step, which begins a call or outputs a word.
     pub fn rounds(&mut self, count: u32) -> Result<(), NoMemory>
         ensures program { self.new.program ≡ self.old.program }
         ensures rounds { OnOk result ((ms : List TypedModuleTree) (names : List (List ℕ)) (w : AWorld) → IsWorldOf self.old ms names w → IsWorldOf self.new ms names (definition.rounds (env_of ms) w count)) }

@@ -1,7 +1,7 @@
-//! What a thread stands at.
+//! The states of threads.
 
 ghost use Rattle.std.specs.Prelude.{◌≡◌, ℕ, List, slice_get, IfSome, IfNone};
-ghost use Rattle.cas_thread.specs.Thread.{Goes, Stands, Steps};
+ghost use Rattle.cas_thread.specs.Thread.{IsUnfinished, CanStep, OfNextStep};
 ghost use Rattle.cas_turn.specs.Answers.{free_shown, state_shown};
 ghost use Rattle.cas_turn.specs.Standing.{ForThread, IsThere, MayTurn, holder_in, state_in};
 
@@ -20,15 +20,15 @@ fn holder_of(holders: &[Option<u32>], lock: u32) -> Option<u32>
     }
 }
 
-/// The lock that the next step of a thread waits for, with the thread that has it.
+/// The lock that the next step of a thread waits for, with the thread that holds it.
 pub(crate) fn wait_of(
     program: &Program,
     config: &Config,
     holders: &[Option<u32>],
 ) -> Option<(u32, u32)>
-    requires { ∥ Goes program.now config.now ∥₁ }
-    ensures waits { IfSome result (λ wait. (words : List ℕ) → Steps program.now config.now words (λ s. (s.act ≡ Act.Lock wait.0) × (slice_get holders.now wait.0 ≡ Some (Some wait.1)))) }
-    ensures free { IfNone result ((words : List ℕ) → Steps program.now config.now words (λ s. (l : ℕ) → s.act ≡ Act.Lock l → holder_in (slice_get holders.now l) ≡ None)) }
+    requires { ∥ IsUnfinished program.now config.now ∥₁ }
+    ensures waits { IfSome result (λ wait. (words : List ℕ) → OfNextStep program.now config.now words (λ s. (s.act ≡ Act.Lock wait.0) × (slice_get holders.now wait.0 ≡ Some (Some wait.1)))) }
+    ensures free { IfNone result ((words : List ℕ) → OfNextStep program.now config.now words (λ s. (l : ℕ) → s.act ≡ Act.Lock l → holder_in (slice_get holders.now l) ≡ None)) }
 {
     match next_lock(program, config) {
         Some(lock) => match holder_of(holders, lock) {
@@ -39,10 +39,10 @@ pub(crate) fn wait_of(
     }
 }
 
-// What a thread stands at that hasn't ended and waits for no lock.
+// The state of a thread that hasn't ended and waits for no lock.
 fn free_state(program: &Program, config: &Config, shared: &Shared) -> ThreadState
-    requires { ∥ Stands program.now config.now shared.now.words.items ∥₁ }
-    ensures { Steps program.now config.now shared.now.words.items (λ s. result ≡ free_shown s s.act) }
+    requires { ∥ CanStep program.now config.now shared.now.words.items ∥₁ }
+    ensures { OfNextStep program.now config.now shared.now.words.items (λ s. result ≡ free_shown s s.act) }
 {
     match act_of(program, config, shared) {
         Act::Bad(why) => {
@@ -54,7 +54,7 @@ fn free_state(program: &Program, config: &Config, shared: &Shared) -> ThreadStat
     }
 }
 
-/// What a thread stands at.
+/// The state of a thread.
 pub(crate) fn state_at(
     program: &Program,
     config: &Config,

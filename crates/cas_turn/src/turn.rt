@@ -2,7 +2,7 @@
 
 ghost use Rattle.std.specs.Prelude.{◌≡◌, ◌≢◌, ℕ, ◌<◌, List, [], slice_get, IfErr, OnOk, OnErr, vec_len, vec_capacity};
 ghost use Rattle.std.specs.Bool.{OnTrue, OnFalse};
-ghost use Rattle.cas_thread.specs.Thread.{Goes, Stands, Steps};
+ghost use Rattle.cas_thread.specs.Thread.{IsUnfinished, CanStep, OfNextStep};
 ghost use Rattle.cas_turn.specs.Answers.{Answers, IsRunning};
 ghost use Rattle.cas_turn.specs.Standing.{ForThread, IsAfter, IsThere, IsUnmoved, MayTurn, holder_in, state_in};
 
@@ -13,7 +13,7 @@ use cas_base::{Act, Why};
 use cas_thread::{Config, Shared, act_of, next_prints, place_of, thread_step};
 use cas_whole::Program;
 
-// Whether an act puts a word out.
+// Whether an act outputs a word.
 fn puts_out(act: Act) -> bool
     ensures out { OnTrue result ((n : ℕ) × (act ≡ Act.Out n)) }
     ensures other { OnFalse result ((n : ℕ) → act ≢ Act.Out n) }
@@ -28,12 +28,13 @@ fn puts_out(act: Act) -> bool
     }
 }
 
-// Whether there is room for what the next step puts out, if it puts a word out. Room is taken only where the step is a print.
+// Whether there is room for what the next step outputs, if it outputs a word. Room is taken only if the step is
+// a print.
 fn has_room(program: &Program, config: &Config, shared: &Shared, out: &mut Vec<(u32, u32)>) -> bool
-    requires { ∥ Stands program.now config.now shared.now.words.items ∥₁ }
+    requires { ∥ CanStep program.now config.now shared.now.words.items ∥₁ }
     ensures same { out.new.items ≡ out.old.items }
-    ensures room { OnTrue result (Steps program.now config.now shared.now.words.items (λ s. (n : ℕ) → s.act ≡ Act.Out n → vec_len out.new < vec_capacity out.new)) }
-    ensures full { OnFalse result (Steps program.now config.now shared.now.words.items (λ s. (n : ℕ) × (s.act ≡ Act.Out n))) }
+    ensures room { OnTrue result (OfNextStep program.now config.now shared.now.words.items (λ s. (n : ℕ) → s.act ≡ Act.Out n → vec_len out.new < vec_capacity out.new)) }
+    ensures full { OnFalse result (OfNextStep program.now config.now shared.now.words.items (λ s. (n : ℕ) × (s.act ≡ Act.Out n))) }
 {
     if out.len() < out.capacity() {
         return true;
@@ -49,8 +50,8 @@ fn has_room(program: &Program, config: &Config, shared: &Shared, out: &mut Vec<(
 
 // The answer of a thread whose next step is Bad.
 fn bad_at(program: &Program, config: &Config, why: Why) -> WorldAnswer
-    requires { ∥ Goes program.now config.now ∥₁ }
-    ensures { (words : List ℕ) → Steps program.now config.now words (λ s. result ≡ WorldAnswer.Bad why s.unit s.place) }
+    requires { ∥ IsUnfinished program.now config.now ∥₁ }
+    ensures { (words : List ℕ) → OfNextStep program.now config.now words (λ s. result ≡ WorldAnswer.Bad why s.unit s.place) }
 {
     let (module, place) = place_of(program, config);
     WorldAnswer::Bad { why, module, place }
@@ -65,10 +66,10 @@ fn run(
     out: &mut Vec<(u32, u32)>,
     thread: u32,
 ) -> Result<(), WorldAnswer>
-    requires stands { ∥ Stands program.now config.old shared.old.words.items ∥₁ }
+    requires stands { ∥ CanStep program.now config.old shared.old.words.items ∥₁ }
     requires may { ForThread program.now config.old (λ ms c. ∥ MayTurn shared.old.words.items holders.old ms c ∥₁) }
     requires goes_on { ForThread program.now config.old (λ ms c. c.activations ≢ []) }
-    requires free { Steps program.now config.old shared.old.words.items (λ s. (l : ℕ) → s.act ≡ Act.Lock l → holder_in (slice_get holders.old l) ≡ None) }
+    requires free { OfNextStep program.now config.old shared.old.words.items (λ s. (l : ℕ) → s.act ≡ Act.Lock l → holder_in (slice_get holders.old l) ≡ None) }
     ensures taken { OnOk result (ForThread program.now config.old (λ ms c. IsRunning (state_in shared.old.words.items holders.old ms c)
         (λ s. IsAfter program.now thread holders.old out.old.items s config.new shared.new.words.items holders.new out.new.items))) }
     ensures unmoved { OnErr result (ForThread program.now config.old (λ _ c. IsUnmoved program.now c shared.old.words.items holders.old out.old.items config.new shared.new.words.items holders.new out.new.items)) }

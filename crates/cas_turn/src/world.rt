@@ -20,8 +20,8 @@ use cas_thread::{Config, Shared};
 use cas_whole::{Program, initial_words};
 use std::alloc::Global;
 
-/// A world of a program: its threads, the shared words, who holds the locks, and the output. There is always an interleaving
-/// of the program's threads that reaches it from the program's first world.
+/// A world of a program: its threads, the shared words, who holds the locks, and the output. There is always an
+/// interleaving of the program's threads that reaches it from the program's first world.
 #[derive(Drop)]
 pub struct World {
     program: Program,
@@ -29,7 +29,7 @@ pub struct World {
     shared: Shared,
     /// For each word the holder of the lock that it is, or none.
     holders: Vec<Option<u32>>,
-    /// The words that were put out, each behind its thread's number.
+    /// The words that were output, each after its thread's number.
     out: Vec<(u32, u32)>,
     pub ghost reached: { ∥ ((ms : List TypedModuleTree) × (names : List (List ℕ)) × (w : definition.World) × AreWorldOf program threads.items shared.words.items holders.items out.items ms names w × Reaches (env_of ms) (program_world ms names) w) ∥₁ },
     ghost numbered: { vec_len threads < 2 ^ 32 },
@@ -69,20 +69,20 @@ impl World {
         self.threads.len() as u32
     }
 
-    /// The output so far: the words that were put out, each behind its thread's number, the first one first.
+    /// The output so far: the words that were output, each after its thread's number, the first one first.
     pub fn out(&self) -> &[(u32, u32)]
         ensures { (ms : List TypedModuleTree) (names : List (List ℕ)) (w : definition.World) → IsWorldOf self.now ms names w → result.now ≡ w.out }
     {
         self.out.as_slice()
     }
 
-    /// What a thread stands at. A thread that isn't there has ended.
+    /// The state of a thread. A thread that isn't there has ended.
     pub fn state(&self, thread: u32) -> ThreadState
         ensures { (ms : List TypedModuleTree) (names : List (List ℕ)) (w : definition.World) → IsWorldOf self.now ms names w → result ≡ state_shown (state_of (env_of ms) w thread) }
     {
         cas_whole::laws::programs_are_one();
         cas_thread::laws::threads_are_one();
-        cas_world::laws::worlds_fit();
+        cas_world::laws::worlds_are_sound();
         if thread >= self.threads() {
             return ThreadState::Ended;
         }
@@ -90,8 +90,8 @@ impl World {
         state_at(&self.program, config, &self.shared, &self.holders)
     }
 
-    /// A turn of a thread: it takes its next step, or it is told why not, and nothing changes. Want of memory is told only where
-    /// the thread may take its step, and the step begins a call or puts a word out.
+    /// A turn of a thread: it takes its next step, or the answer says why not, and nothing changes. It runs out of
+    /// memory only if the thread may take its step, and the step begins a call or outputs a word.
     pub fn step(&mut self, thread: u32) -> Result<(), WorldAnswer>
         requires { thread < vec_len self.old.threads }
         ensures program { self.new.program ≡ self.old.program }
@@ -102,7 +102,7 @@ impl World {
     {
         cas_whole::laws::programs_are_one();
         cas_thread::laws::threads_are_one();
-        cas_world::laws::worlds_fit();
+        cas_world::laws::worlds_are_sound();
         turn(
             &self.program,
             &mut self.threads[thread as usize],

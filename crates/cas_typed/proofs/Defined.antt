@@ -9,7 +9,7 @@ use Rattle.cas_syntax.specs.Tree.{FunTree, ModuleTree}
 use Rattle.cas_typed.specs.Bodies.{bodies_of, IsOf, HasBodies, IsDefined}
 use Rattle.cas_typed.specs.Counts.{parameter_types}
 use Rattle.cas_typed.specs.Formed.{IsFormed}
-use Rattle.cas_typed.specs.Modules.{decl_of, IsTyped}
+use Rattle.cas_typed.specs.Modules.{IsTyped, decls_of}
 use Rattle.cas_typed.specs.Resolved.{TypedFunTree, TypedModuleTree}
 use Rattle.cas_typed.specs.Scopes.{locals_of_list}
 use Rattle.cas_typed.proofs.Bodied.{IsTyped-bodies}
@@ -46,7 +46,7 @@ body_defined r n d f h at e = found (there r.functions n (subst (λ k. n < k) (s
         same : (g : FunTree) × (slice_get (bodies_of r.module_tree.items) n ≡ Some g) × IsOf r.module_tree.items g it → IsDefined r n d
         same (g, at_g, of_g) = defined_of r n d f it is e (subst (λ x. IsOf r.module_tree.items x it) (cc) of_g)
 
-pub IsTyped-defined : (m : ModuleTree) (r : TypedModuleTree) (n : ℕ) (d : Decl) → IsFormed m → IsTyped m r → slice_get (functions_of (map decl_of r.module_tree.items)) n ≡ Some d → IsDefined r n d
+pub IsTyped-defined : (m : ModuleTree) (r : TypedModuleTree) (n : ℕ) (d : Decl) → IsFormed m → IsTyped m r → slice_get (functions_of (decls_of r)) n ≡ Some d → IsDefined r n d
 IsTyped-defined m r n d w h at = found (body_there (bodies_of r.module_tree.items) n d (sym (ap (λ ds. slice_get ds n) (IsFormed-defines r.module_tree (IsTyped-formed m r w h))) ∙ at))
   where
     found : (f : FunTree) × (slice_get (bodies_of r.module_tree.items) n ≡ Some f) × (f.decl ≡ d) → IsDefined r n d

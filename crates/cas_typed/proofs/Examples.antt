@@ -108,8 +108,9 @@ holds_rows :
     ≡ refused T1 30 (codes "f") ∷ refused T2 30 (codes "L") ∷ refused T3 9 (codes "f") ∷ Ok 1 ∷ []
 holds_rows = refl
 
--- void f(void) {} void f(void) {}   void f(int a, int a) {}   lock L; void L(void) {}   void f(int f) {}
--- void f(void) {} void f(void); void f(void);   int f(void); void f(void) {}   int f(void); void f(void) {} with `holds(f)` in the second
+-- void f(void) {} void f(void) {}   void f(int a, int a) {}   lock L; void L(void) {}   void f(int f) {} void
+-- f(void) {} void f(void); void f(void);   int f(void); void f(void) {}   int f(void); void f(void) {} with
+-- `holds(f)` in the second
 twice_rows :
     map answer ((function_of (codes "f") [] [] [] ∷ function_of (codes "f") [] [] [] ∷ [])
     ∷ (function_of (codes "f") (Int I32 ∷ Int I32 ∷ []) [] (parameter_of (codes "a") ∷ parameter_of (codes "a") ∷ []) ∷ [])
@@ -120,8 +121,8 @@ twice_rows :
     ≡ refused T2 9 (codes "f") ∷ refused T2 20 (codes "a") ∷ refused T2 9 (codes "L") ∷ Ok 1 ∷ Ok 1 ∷ refused T3 9 (codes "f") ∷ refused T3 9 (codes "f") ∷ []
 twice_rows = refl
 
--- const int t[0];   const int t[2] = {1, 2, 3};   const int t[2] = {1};   extern const int t[2]; const int t[3];   extern const int t[2]; const int t[2];
--- extern const int t[65537];   const int t[65537];
+-- const int t[0];   const int t[2] = {1, 2, 3};   const int t[2] = {1};   extern const int t[2]; const int t[3];
+-- extern const int t[2]; const int t[2]; extern const int t[65537];   const int t[65537];
 table_rows :
     map answer ((table_of (codes "t") true 0 [] ∷ []) ∷ (table_of (codes "t") true 2 (1 ∷ 2 ∷ 3 ∷ []) ∷ []) ∷ (table_of (codes "t") true 2 (1 ∷ []) ∷ [])
     ∷ (table_of (codes "t") false 2 [] ∷ table_of (codes "t") true 3 [] ∷ []) ∷ (table_of (codes "t") false 2 [] ∷ table_of (codes "t") true 2 [] ∷ [])

@@ -1,4 +1,4 @@
--- A module is typed exactly where the walk through it ends without a fault, with the same resolved module.
+-- A module is typed exactly if the walk through it ends without a fault, with the same resolved module.
 use Rattle.std.proofs.Common.{◌≡◌, ◌≤◌, ℕ, ◌+◌, Bool, true, false, ◌&&◌, ◌||◌, if◌then◌else◌, List, [], ◌∷◌, ◌++◌, length, Option, Some, None, Ok, refl, sym, ap, subst, ◌∙◌, arith}
 use Rattle.std.specs.Prelude.{nat_lt, nat_le, min, ◌^◌, ◌-◌}
 use Rattle.std.specs.List.{list_any}

@@ -15,7 +15,7 @@ use Rattle.cas_syntax.specs.declared.tree.BinaryOperator.{BinaryOperator}
 use Rattle.cas_syntax.specs.Tree.{ExprTree, TargetTree, StmtTree, StmtOption, StmtList, FunTree, ItemTree, global, prototype, define, ModuleTree}
 use Rattle.cas_typed.specs.declared.tree.Destination.{Destination}
 use Rattle.cas_typed.specs.Counts.{parameter_types, local_types}
-use Rattle.cas_typed.specs.Modules.{decl_of, return_type, locals_in, scope_in, IsFunction, AreItems, no_item, a_global, a_prototype, a_function, filled_item, IsTyped}
+use Rattle.cas_typed.specs.Modules.{decl_of, return_type, locals_in, scope_in, IsFunction, AreItems, no_item, a_global, a_prototype, a_function, filled_item, IsTyped, decls_of}
 use Rattle.cas_typed.specs.Resolved.{TypedExprTree, TypedTargetTree, TypedStmtTree, TypedStmtOption, TypedStmtList, TypedFunTree, TypedModuleTree}
 use Rattle.cas_typed.specs.Scopes.{Scope, inside, locals_of, locals_of_option, locals_of_list, after_option, parameters}
 use Rattle.cas_typed.specs.Sorts.{word, pointer, HasSort, IsValue, AreValues, IsCell, MayKeep, MayReturn, IsTest, IsSorted, IsSortedPart, AreSorted, IsSortedFunction, IsSortedModule}
@@ -206,5 +206,5 @@ same_decls (a ∷ items) = λ i. same_decl a i ∷ same_decls items i
 
 pub IsTyped-sorted : (m : ModuleTree) (r : TypedModuleTree) → IsTyped m r → IsSortedModule r
 IsTyped-sorted m r h =
-    All-from_recursion (IsSortedFunction (map decl_of r.module_tree.items)) r.functions
-    (items_sorted (map decl_of r.module_tree.items) (ap (λ (w : ModuleTree). map decl_of w.items) h.module_tree ∙ same_decls m.items) h.functions)
+    All-from_recursion (IsSortedFunction (decls_of r)) r.functions
+    (items_sorted (decls_of r) (ap (λ (w : ModuleTree). map decl_of w.items) h.module_tree ∙ same_decls m.items) h.functions)

@@ -86,7 +86,7 @@ otherwise_item (b ∷ bs) name otherwise g form h = test (bytes_eq b.name name) 
     test true h next = cc
     test false h next = next h
 
--- a declaration, so many behind the first
+-- a declaration, so many after the first
 abbrev IsBehind : (k : ℕ) → List Decl → (g : ℕ) → Form → Type 0
 IsBehind k ds g form = (i : ℕ) × (g ≡ k + i) × IsDeclared ds i form
 

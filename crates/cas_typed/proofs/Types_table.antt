@@ -188,8 +188,9 @@ refused T4 x = Err (fault T4 (at 9) x)
 refused T6 x = Err (fault T6 (at 9) x)
 refused code x = Err (fault code (at 5) x)
 
--- y = 1; lock(y); y(); x = f(1); p = x; p = d; x = v(); print(p); return x; (in a function that gives a pointer) lock(x);
--- x(); x = L; f = 1; t[0] = 1; *x = 1; x[0] = 1; p[p] = 1; g = f(1, 0); x = b; b = 1; p = &g; p = &p; break; continue;
+-- y = 1; lock(y); y(); x = f(1); p = x; p = d; x = v(); print(p); return x; (in a function that gives a pointer)
+-- lock(x); x(); x = L; f = 1; t[0] = 1; *x = 1; x[0] = 1; p[p] = 1; g = f(1, 0); x = b; b = 1; p = &g; p = &p;
+-- break; continue;
 faults :
     map here_is (sets (codes "y") one_ ∷ lock (at 5) (named (codes "y")) ∷ call (at 5) None (named (codes "y")) [] ∷
     call (at 5) (Some (named (codes "x"))) (named (codes "f")) (one_ ∷ []) ∷ sets (codes "p") (x_ (codes "x")) ∷ sets (codes "p") (x_ (codes "d")) ∷
@@ -218,7 +219,8 @@ orders :
     ≡ refused T1 (Some (codes "y")) ∷ refused T5 None ∷ refused T5 None ∷ refused T4 (Some (codes "f")) ∷ refused T1 (Some (codes "y")) ∷ refused T3 None ∷ []
 orders = refl
 
--- scopes: int y; int y;   int y; { int *y; y = 0; } y = 1;   { int y; } y = 1;   char x = x;   int f; f();   int L; lock(L);
+-- scopes: int y; int y;   int y; { int *y; y = 0; } y = 1;   { int y; } y = 1;   char x = x;   int f; f();   int L;
+-- lock(L);
 abbrev several : StmtList → Result t.TypedStmtList Fault
 several bs = walk_list Void false here bs
 

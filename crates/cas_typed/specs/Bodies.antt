@@ -12,8 +12,8 @@ bodies_of (global d vs p ∷ items) = bodies_of items
 bodies_of (prototype d hs p ∷ items) = bodies_of items
 bodies_of (define f ∷ items) = f ∷ bodies_of items
 
--- the function is resolved from this tree of an item: the item has its number, and its locals have the types of the parameters,
--- and then of the body's locals
+-- the function is resolved from this tree of an item: the item has its number, and its locals have the types of the
+-- parameters, and then of the body's locals
 pub record IsOf (items : List ItemTree) (f : FunTree) (it : TypedFunTree) : Type 0 where
   pub item : slice_get items it.item ≡ Some (define f)
   pub locals : map (λ v. v.ty) it.locals ≡ local_types f

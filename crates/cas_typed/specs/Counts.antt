@@ -26,7 +26,8 @@ most_functions = 1024
 abbrev pub most_words : ℕ
 most_words = 65536
 
--- the nodes of a tree: each statement and each expression in it counts 1; a target and an initialiser by themselves nothing
+-- the nodes of a tree: each statement and each expression in it counts 1; a target and an initialiser by themselves
+-- nothing
 
 abbrev pub nodes_of_expr : ExprTree → ℕ
 nodes_of_expr (literal n k) = 1

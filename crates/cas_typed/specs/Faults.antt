@@ -1,4 +1,4 @@
--- Faults of typing: what a walk answers in place of a resolved tree.
+-- Faults of typing, which a walk answers in place of a resolved tree.
 use Rattle.std.specs.Prelude.{ℕ, ◌-◌, ◌^◌, min, nat_lt, if◌then◌else◌, List, Option, Some, None, Result, Ok, Err}
 use Rattle.cas_base.specs.declared.place.Place.{Place}
 use Rattle.cas_syntax.specs.declared.tree.Ident.{Ident}

@@ -1,5 +1,6 @@
--- What holds of each module that a text is read as, typed or not: its literals and the lengths of arrays are words, its initial
--- values are values of their kinds, and each of its items declares what it is. (A tree may be made in other ways too.)
+-- What holds of each module that a text is read as, typed or not: its literals and the lengths of arrays are words,
+-- its initial values are values of their kinds, and each of its items declares what it is. (A tree may be made in
+-- other ways too.)
 use Rattle.std.specs.Prelude.{◌≡◌, ◌⊎◌, ⊤, ◌<◌, ◌^◌, ℕ, true, false, IsTrue, List, [], ◌∷◌, length, Option, Some, None, slice_get, All}
 use Rattle.cas_base.specs.Kind.{is_of_kind}
 use Rattle.cas_base.specs.declared.decl.Decl.{Decl}
@@ -124,8 +125,8 @@ IsFunctionForm (Shared ty guard) = ⊥
 IsFunctionForm (Table ty) = ⊥
 IsFunctionForm (Function ret params holds) = IsReturned ret × ArePassed params
 
--- a global has values only where it is defined, a prototype declares a function without defining it, and what has a body
--- defines one, each of whose parameters has a name
+-- a global has values only if it is defined, a prototype declares a function without defining it, and what has a
+-- body defines one, each of whose parameters has a name
 abbrev pub ItemIsFormed : ItemTree → Type 0
 ItemIsFormed (global d vs p) = IsGlobal d.form vs × ((d.defined ≡ true) ⊎ (vs ≡ []))
 ItemIsFormed (prototype d held p) = IsFunctionForm d.form × (d.defined ≡ false)

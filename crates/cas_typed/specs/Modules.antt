@@ -11,7 +11,8 @@ use Rattle.cas_base.specs.declared.kind.Ty.{Ty}
 use Rattle.cas_base.specs.declared.kind.Ty.TheVariants.{Void}
 use Rattle.cas_base.specs.declared.place.Place.{Place}
 use Rattle.cas_syntax.specs.declared.tree.Ident.{Ident}
-use Rattle.cas_syntax.specs.Tree.{FunTree, ItemTree, global, prototype, define, ModuleTree}
+use Rattle.cas_syntax.specs.declared.tree.Item.{Item}
+use Rattle.cas_syntax.specs.Tree.{FunTree, ItemTree, global, prototype, define, ModuleTree, item_tree}
 use Rattle.cas_typed.specs.declared.rows.Local.{Local}
 use Rattle.cas_typed.specs.Counts.{most_parameters, most_cells, most_nodes, most_functions, most_words, parameter_types, local_types, cells_of, nodes_of, function_count, word_count}
 use Rattle.cas_typed.specs.Resolved.{TypedStmtList, TypedFunTree, TypedModuleTree, list_makes_pointer}
@@ -25,6 +26,14 @@ decl_of (global d vs p) = d
 decl_of (prototype d hs p) = d
 decl_of (define f) = f.decl
 
+-- the declarations of a module, in order of text
+abbrev pub decls_of : TypedModuleTree → List Decl
+decls_of m = map decl_of m.module_tree.items
+
+-- the declarations of items of the code
+abbrev pub decls_of_items : List Item → List Decl
+decls_of_items items = map (λ a. decl_of (item_tree a)) items
+
 abbrev pub place_of : ItemTree → Place
 place_of (global d vs p) = p
 place_of (prototype d hs p) = p
@@ -35,12 +44,12 @@ abbrev pub values_of : ItemTree → List ℕ
 values_of (global d vs p) = vs
 values_of _ = []
 
--- the names of a function's parameters, where it has a body
+-- the names of a function's parameters, if it has a body
 abbrev pub parameter_names : ItemTree → List Ident
 parameter_names (define f) = f.params
 parameter_names _ = []
 
--- names at places; those for which there is none stand at the last place
+-- names at places; a name without a place of its own gets the last place
 abbrev pub placed : Place → List (List ℕ) → List Place → List Ident
 placed last [] ps = []
 placed last (name ∷ names) [] = record { name = name; place = last } ∷ placed last names []
@@ -64,7 +73,7 @@ abbrev pub undeclared_in : List Decl → List Ident → Option Ident
 undeclared_in decls [] = None
 undeclared_in decls (x ∷ xs) = if list_any (is_named x.name) decls then undeclared_in decls xs else Some x
 
--- the first of these names that stands before too, among these or the seen ones
+-- the first of these names that is among the earlier ones or the seen ones
 abbrev pub repeated : (seen : List (List ℕ)) → List Ident → Option Ident
 repeated seen [] = None
 repeated seen (x ∷ xs) = if list_any (bytes_eq x.name) seen then Some x else repeated (x.name ∷ seen) xs
@@ -102,7 +111,7 @@ abbrev pub return_type : Form → Ty
 return_type (Function ret params holds) = ret
 return_type _ = Void
 
--- An item is good behind these declarations.
+-- The item is typed after these declarations.
 pub record IsItem (before : List Decl) (a : ItemTree) : Type 0 where
   pub locks : are_locks before (held_names a) ≡ true
   pub held_once : repeated [] (held_names a) ≡ None
@@ -115,17 +124,17 @@ pub record IsItem (before : List Decl) (a : ItemTree) : Type 0 where
   pub functions : function_count (before ++ decl_of a ∷ []) ≤ most_functions
   pub words : word_count (before ++ decl_of a ∷ []) ≤ most_words
 
--- locals of these types in a function with this body, counted from this number on, behind so many cells
+-- locals of these types in a function with this body, counted from this number on, after this many cells
 abbrev pub locals_in : TypedStmtList → (number first : ℕ) → List Ty → List Local
 locals_in body n first [] = []
 locals_in body n first (ty ∷ tys) =
     record { ty = ty; first = first; addressed = list_makes_pointer n body } ∷ locals_in body (n + 1) (first + words_of_ty ty) tys
 
--- what is visible at the beginning of a function's body: its own name too
+-- the scope at the beginning of a function's body, which has the function's own name too
 abbrev pub scope_in : List Decl → FunTree → Scope
 scope_in before f = body_scope (before ++ f.decl ∷ []) f.params (parameter_types f.decl.form)
 
--- A function with a body is resolved so behind these declarations; its item's number is how many they are.
+-- The function with a body is resolved to this after these declarations; its item's number is their count.
 pub record IsFunction (before : List Decl) (f : FunTree) (r : TypedFunTree) : Type 0 where
   pub item : r.item ≡ length before
   pub locals : r.locals ≡ locals_in r.body 0 0 (local_types f)
@@ -133,7 +142,7 @@ pub record IsFunction (before : List Decl) (f : FunTree) (r : TypedFunTree) : Ty
   pub cells : cells_of f ≤ most_cells
   pub nodes : nodes_of f ≤ most_nodes
 
--- Items behind these declarations are typed, and their functions with bodies are resolved so.
+-- The items are typed after these declarations, and their functions with bodies are resolved to these.
 pub data AreItems : (before : List Decl) → List ItemTree → List TypedFunTree → Type 0 where
   no_item : (before : List Decl) → AreItems before [] []
   a_global : (before : List Decl) (d : Decl) (vs : List ℕ) (p : Place) (rest : List ItemTree) (rs : List TypedFunTree) →
@@ -156,7 +165,7 @@ filled_item (define f) = define f
 abbrev pub filled_module : ModuleTree → ModuleTree
 filled_module m = record { items = map filled_item m.items }
 
--- The module is typed, and resolved so.
+-- The module is typed, and resolved to this.
 pub record IsTyped (m : ModuleTree) (r : TypedModuleTree) : Type 0 where
   pub module_tree : r.module_tree ≡ filled_module m
   pub functions : AreItems [] m.items r.functions

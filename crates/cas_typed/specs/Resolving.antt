@@ -1,4 +1,4 @@
--- What an expression is resolved to, and its type, as a function; where its types don't fit, nothing.
+-- What an expression is resolved to, and its type, as a function; nothing if its types don't fit.
 use Rattle.std.specs.Prelude.{ℕ, Bool, List, [], ◌∷◌, if◌then◌else◌, Option, Some, None}
 use Rattle.cas_base.specs.Ty.{same_kind}
 use Rattle.cas_base.specs.declared.decl.Form.TheVariants.{Shared}
@@ -108,7 +108,7 @@ order op (fits a (Int j)) (fits b (Int k)) = fits (t.binary op (reading (common 
 order op (fits p (Ptr j)) (fits q (Ptr k)) = if same_kind j k then fits (t.compare op p q) (Int I32) else unfit
 order op _ _ = unfit
 
--- whether the sides are the literal 0 is told first
+-- the first two arguments say whether the sides are the literal 0
 abbrev pub equality : BinaryOperator → (left_null right_null : Bool) → Found → Found → Found
 equality op l r (fits p (Ptr k)) (fits b (Int j)) = if r then fits (t.compare op p t.null) (Int I32) else unfit
 equality op l r (fits a (Int j)) (fits q (Ptr k)) = if l then fits (t.compare op t.null q) (Int I32) else unfit
@@ -164,7 +164,7 @@ resolved s (and_also a b) = both (tested (resolved s a)) (tested (resolved s b))
 resolved s (or_else a b) = either (tested (resolved s a)) (tested (resolved s b))
 resolved s (conditional c a b) = choice (tested (resolved s c)) (is_null a) (is_null b) (resolved s a) (resolved s b)
 
--- where a value of the type is wanted; whether it is the literal 0 is told first
+-- as a value of this type; the second argument says whether it is the literal 0
 abbrev pub given : Ty → (is_zero : Bool) → Found → Option TypedExprTree
 given (Int k) z (fits e (Int j)) = Some (t.narrow k e)
 given (Ptr k) z (fits p (Ptr j)) = if same_kind j k then Some p else None

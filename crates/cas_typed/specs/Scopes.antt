@@ -47,7 +47,7 @@ meaning s x = local_named (s.block ++ s.around) x.name (item_named 0 s.decls x.n
 abbrev pub is_in_block : Scope → Ident → Bool
 is_in_block s x = list_any (λ v. bytes_eq v.name x.name) s.block
 
--- behind the declaration of a local
+-- after the declaration of a local
 abbrev pub declaring : Scope → Ty → Ident → Scope
 declaring s ty x = record s { block = record { name = x.name; number = s.count; ty = ty } ∷ s.block; count = s.count + 1 }
 
@@ -82,11 +82,11 @@ abbrev mutual
   locals_of_list no_more = []
   locals_of_list (one_more a bs) = locals_of a ++ locals_of_list bs
 
--- behind a statement's part: the names are as before, and its locals are counted
+-- after a part of a statement: the names are as before, and its locals are counted
 abbrev pub past : Scope → StmtTree → Scope
 past s a = record s { count = s.count + length (locals_of a) }
 
--- behind a statement of a block, whose declaration is visible from there on
+-- after a statement of a block; its declaration is visible from there on
 abbrev pub after : Scope → StmtTree → Scope
 after s (declare p ty x a) = declaring s ty x
 after s a = past s a

@@ -1,5 +1,5 @@
--- What stands in resolved trees: words where words are wanted, pointers to cells of a kind where those are, and locals
--- and items that are there. (Each value that is written has the type of its cell.)
+-- Well-sorted resolved trees: words where words are wanted, pointers to cells of a kind where those are wanted, and
+-- only locals and items that exist. (Each value that is written has the type of its cell.)
 use Rattle.std.specs.Prelude.{◌≡◌, ◌⊎◌, ⊤, ℕ, Bool, true, false, List, [], ◌∷◌, map, Option, Some, None, slice_get, All}
 use Rattle.cas_base.specs.declared.decl.Decl.{Decl}
 use Rattle.cas_base.specs.declared.decl.Form.{Form}
@@ -9,7 +9,7 @@ use Rattle.cas_base.specs.declared.kind.Kind.TheVariants.{I32}
 use Rattle.cas_base.specs.declared.kind.Ty.{Ty}
 use Rattle.cas_base.specs.declared.kind.Ty.TheVariants.{Int, Ptr, Array}
 use Rattle.cas_typed.specs.declared.tree.Destination.{Destination}
-use Rattle.cas_typed.specs.Modules.{decl_of, return_type}
+use Rattle.cas_typed.specs.Modules.{return_type, decls_of}
 use Rattle.cas_typed.specs.Resolved.{TypedExprTree, literal, null, local, global, element, place_of, behind, pointer_plus, plus_pointer, pointer_minus, pointer_difference, compare, unary, binary, narrow, and_also, or_else, choose, TypedTargetTree, to_local, to_global, to_element, to_behind, TypedStmtTree, skip, assign, call, block, if_, while_, do_, for_, break_, continue_, return_, lock, unlock, print, TypedStmtOption, absent, present, TypedStmtList, no_more, one_more, TypedFunTree, TypedModuleTree}
 use Rattle.cas_typed.specs.Types.{variable_type, no_value, IsEquality, IsOrder}
 
@@ -72,14 +72,14 @@ IsCell vs ds (to_element g at s a) (Int k) = (guard : List ℕ) × (n : ℕ) × 
 IsCell vs ds (to_behind j p) (Int k) = (j ≡ k) × HasSort vs ds p (pointer k)
 IsCell vs ds _ _ = ⊥
 
--- what the function returns may be kept so
+-- the value that the function returns may be kept in this destination
 abbrev pub MayKeep : List Ty → Option Destination → (ret : Ty) → Type 0
 MayKeep vs None ret = ⊤
 MayKeep vs (Some d) (Int j) = (k : Kind) × (d.ty ≡ Int k) × IsLocal vs d.local d.ty
 MayKeep vs (Some d) (Ptr k) = (d.ty ≡ Ptr k) × IsLocal vs d.local d.ty
 MayKeep vs (Some d) _ = ⊥
 
--- a function of this type may return so
+-- a function of this type may return this
 abbrev pub MayReturn : List Ty → List Decl → (ret : Ty) → Option TypedExprTree → Type 0
 MayReturn vs ds ret None = no_value ret ≡ None
 MayReturn vs ds ret (Some a) = IsValue vs ds ret a
@@ -89,8 +89,8 @@ IsTest vs ds None = ⊤
 IsTest vs ds (Some c) = HasSort vs ds c word
 
 abbrev mutual
-  -- in a function with these locals that returns so, and a module with these declarations, the statement, in a loop or not,
-  -- is well sorted, and leaves no loop where none is
+  -- in a function with these locals that returns so, and a module with these declarations, the statement, in a loop
+  -- or not, is well sorted, and leaves no loop where none is
   pub IsSorted : List Ty → List Decl → (ret : Ty) → (in_loop : Bool) → TypedStmtTree → Type 0
   IsSorted vs ds ret l (skip p) = ⊤
   IsSorted vs ds ret l (assign p target a) = (ty : Ty) × IsCell vs ds target ty × IsValue vs ds ty a
@@ -122,4 +122,4 @@ IsSortedFunction ds f = (d : Decl) × (slice_get ds f.item ≡ Some d) × AreSor
 
 -- each function of the module is well sorted
 abbrev pub IsSortedModule : TypedModuleTree → Type 0
-IsSortedModule r = All (IsSortedFunction (map decl_of r.module_tree.items)) r.functions
+IsSortedModule r = All (IsSortedFunction (decls_of r)) r.functions

@@ -21,7 +21,7 @@ abbrev pub promoted : Kind → Kind
 promoted U32 = U32
 promoted _ = I32
 
--- of two integers the common type is U32 where one of them is U32 after promotion, else I32
+-- the common type of two integers is U32 if one of them is U32 after promotion, else I32
 abbrev pub common : Kind → Kind → Kind
 common U32 k = U32
 common j U32 = U32
@@ -40,7 +40,7 @@ abbrev pub is_null : ExprTree → Bool
 is_null (literal n I32) = n == 0
 is_null _ = false
 
--- what a function of this type returns where no value is given: the literal 0, null, or nothing
+-- what a function of this type returns if no value is given: the literal 0, null, or nothing
 abbrev pub no_value : Ty → Option TypedExprTree
 no_value (Int k) = Some (t.narrow k (t.literal 0))
 no_value (Ptr k) = Some t.null

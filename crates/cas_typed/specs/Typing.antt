@@ -21,7 +21,7 @@ use Rattle.cas_typed.specs.Scopes.{Scope, meaning, variable, item, is_in_block, 
 use Rattle.cas_typed.specs.Types.{promoted, common, reading, IsNull, no_value, variable_type, IsSign, IsArithmetic, IsShift, IsEquality, IsOrder}
 
 mutual
-  -- The expression is resolved so, and has this type: an integer's kind, or a pointer's.
+  -- The expression is resolved to this, and has this type: an integer or a pointer.
   pub data HasType (s : Scope) : ExprTree → TypedExprTree → Ty → Type 0 where
     a_literal : (n : ℕ) (k : Kind) → HasType s (literal n k) (t.literal n) (Int k)
     a_local : (x : Ident) (n : ℕ) (k : Kind) → meaning s x ≡ variable n (Int k) → HasType s (name x) (t.local n) (Int k)
@@ -90,13 +90,13 @@ mutual
     -- an array's name alone
     first_element : (x : Ident) (n len : ℕ) (k : Kind) → meaning s x ≡ variable n (Array k len) → HasType s (name x) (t.place_of n) (Ptr k)
 
-  -- The expression is resolved so, as a condition: an integer is true where it isn't 0, a pointer where it isn't null.
+  -- The expression is resolved to this as a condition: an integer is true if it isn't 0, a pointer if it isn't null.
   pub data Tests (s : Scope) : ExprTree → TypedExprTree → Type 0 where
     an_integer_test : (a : ExprTree) (e : TypedExprTree) (k : Kind) → HasType s a e (Int k) → Tests s a e
     a_pointer_test : (a : ExprTree) (p : TypedExprTree) (k : Kind) → HasType s a p (Ptr k) → Tests s a (t.compare bin.Ne p t.null)
 
--- The expression is resolved so where a value of the type is wanted: an integer is narrowed to the kind, and a pointer
--- is of the kind or the literal 0.
+-- The expression is resolved to this as a value of the type: an integer is narrowed to the kind, and a pointer is of
+-- the kind or the literal 0.
 pub data Gives (s : Scope) : ExprTree → Ty → TypedExprTree → Type 0 where
   an_integer : (a : ExprTree) (e : TypedExprTree) (j k : Kind) → HasType s a e (Int j) → Gives s a (Int k) (t.narrow k e)
   a_pointer : (a : ExprTree) (p : TypedExprTree) (k : Kind) → HasType s a p (Ptr k) → Gives s a (Ptr k) p
@@ -137,7 +137,7 @@ pub data Assigns (s : Scope) : Place → TargetTree → Option BinaryOperator �
   assigns : (p : Place) (target : TargetTree) (op : Option BinaryOperator) (a : ExprTree) (target' : TypedTargetTree) (ty : Ty) (e : TypedExprTree) →
       Writes s target target' ty → Gives s (assigned target op a) ty e → Assigns s p target op a (t.assign p target' e)
 
--- what a function returns is kept so: not at all, or in a local integer or pointer whose type takes it
+-- the destination of a returned value: none, or a local integer or pointer whose type takes it
 pub data Keeps (s : Scope) : Option Ident → (ret : Ty) → Option Destination → Type 0 where
   drops : (ret : Ty) → Keeps s None ret None
   keeps_integer : (x : Ident) (n : ℕ) (j k : Kind) → meaning s x ≡ variable n (Int k) →
@@ -157,7 +157,7 @@ pub data TestsOptional (s : Scope) : Option ExprTree → Option TypedExprTree �
   a_condition : (a : ExprTree) (c : TypedExprTree) → Tests s a c → TestsOptional s (Some a) (Some c)
 
 mutual
-  -- A statement of a function with this return type, in a loop or not, is resolved so.
+  -- The statement of a function with this return type, in a loop or not, is resolved to this.
   pub data IsStmt (ret : Ty) : (in_loop : Bool) → Scope → StmtTree → TypedStmtTree → Type 0 where
     skips : (l : Bool) (s : Scope) (p : Place) → IsStmt ret l s (skip p) (t.skip p)
     -- a local is new in its block, and no array without elements; from its name on it is visible

@@ -155,7 +155,7 @@ walk_return s p ret (Some a) = then_ (walk_value s p a ret) (λ e. Ok (t.return_
 abbrev pub doubled : Scope → Ident → Option Fault
 doubled s x = if is_in_block s x then at_name T2 x else None
 
--- a local with what it begins with: behind its name it is visible
+-- a local with what it begins with: after its name it is visible
 abbrev pub walk_declare : Scope → Place → Ty → Ident → InitTree → Result TypedStmtTree Fault
 walk_declare s p ty x nothing = unless (doubled s x) (if has_element (Some ty) then Ok (t.skip p) else Err (misfit p))
 walk_declare s p ty x (value a) = unless (doubled s x) (walk_assign (declaring s ty x) p (to_name x) None a)
@@ -208,7 +208,8 @@ at_found (Some x) told = told x
 abbrev pub at_item : ItemTree → Fault
 at_item a = fault T3 (place_of a) (Some (decl_of a).name)
 
--- the first fault of an item, but for its body: a name in `holds` that isn't declared, a name twice, what doesn't fit, a count
+-- the first fault of an item, but for its body: a name in `holds` that isn't declared, a name twice, what doesn't
+-- fit, a count
 abbrev pub item_fault : List Decl → ItemTree → Option Fault
 item_fault before a =
     sooner (at_found (undeclared_in before (held_names a)) (at_name T1))
@@ -230,7 +231,7 @@ walk_function before f =
     unless (sooner (above most_cells f.place Cells (cells_of f)) (above most_nodes f.place Nodes (nodes_of f)))
     (Ok (record { item = length before; locals = locals_in body 0 0 (local_types f); body = body })))
 
--- items behind these declarations
+-- items after these declarations
 abbrev pub walk_items : List Decl → List ItemTree → Result (List TypedFunTree) Fault
 walk_items before [] = Ok []
 walk_items before (global d vs p ∷ rest) = unless (item_fault before (global d vs p)) (walk_items (before ++ d ∷ []) rest)

@@ -11,7 +11,7 @@ ghost use Rattle.cas_typed.specs.Bodies.{bodies_of, HasBodies, IsDefined};
 ghost use Rattle.cas_typed.specs.Faults.{Fault};
 ghost use Rattle.cas_typed.specs.Formed.{IsFormed, IsFilled};
 ghost use Rattle.cas_typed.specs.Literals.{ModuleHasWords};
-ghost use Rattle.cas_typed.specs.Modules.{decl_of, IsTyped};
+ghost use Rattle.cas_typed.specs.Modules.{decl_of, decls_of, IsTyped};
 ghost use Rattle.cas_typed.specs.Numbered.{IsFunctionOf, IsRow, parts_of};
 ghost use Rattle.cas_typed.specs.Resolved.{TypedFunTree, TypedModuleTree, TypedStmtTree};
 ghost use Rattle.cas_typed.specs.Sorts.{IsSortedModule};
@@ -22,7 +22,7 @@ ghost use Rattle.cas_typed.specs.declared.typed.Typed.{Typed};
 ghost use Rattle.cas_typed.specs.declared.rows.StmtRowForm.{StmtRowForm};
 ghost use Rattle.cas_typed.specs.Walk.{walk_module, HasTypeFault};
 
-/// The rules of types hold of a module exactly where the walk through it meets no fault, and with what it is resolved
+/// The rules of types hold of a module exactly if the walk through it meets no fault, and with what it is resolved
 /// to there. So each module is typed in one way, or has one first fault, and never both.
 pub fn modules_are_typed_or_refused()
     ensures walk { (m : ModuleTree) (r : TypedModuleTree) → IsTyped m r ↔ (walk_module m ≡ Ok r) }
@@ -53,14 +53,14 @@ pub fn typed_functions_are_sorted()
 {}
 
 /// A typed module has one function for each item with a body, in order of text: it has that item's number, and its
-/// locals have the types of the parameters and then of the body's locals. Where each item declares what it is, these are
-/// the functions that the module's declarations define, in the same order.
+/// locals have the types of the parameters and then of the body's locals. Where each item declares what it is, these
+/// are the functions that the module's declarations define, in the same order.
 pub fn typed_modules_have_bodies()
     ensures bodies { (m : ModuleTree) (r : TypedModuleTree) → IsTyped m r → HasBodies r }
     ensures declared { (m : ModuleTree) → IsFormed m
         → functions_of (map decl_of m.items) ≡ map (λ f. f.decl) (bodies_of m.items) }
     ensures defined { (m : ModuleTree) (r : TypedModuleTree) (n : ℕ) (d : Decl) → IsFormed m → IsTyped m r
-        → slice_get (functions_of (map decl_of r.module_tree.items)) n ≡ Some d → IsDefined r n d }
+        → slice_get (functions_of (decls_of r)) n ≡ Some d → IsDefined r n d }
 {}
 
 /// What a text is read as is formed: its literals and the lengths of arrays are words, its initial values are values of

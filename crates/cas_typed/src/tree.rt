@@ -46,9 +46,9 @@ pub enum TypedExpr {
     Binary(BinaryOperator, Signedness, Box<TypedExpr>, Box<TypedExpr>),
     /// The value of the kind that equals the word modulo the kind's size.
     Narrow(Kind, Box<TypedExpr>),
-    /// 1 where both words differ from 0, else 0. The second is taken only where the first differs from 0.
+    /// 1 where both words differ from 0, else 0. The second is taken only if the first differs from 0.
     And(Box<TypedExpr>, Box<TypedExpr>),
-    /// 0 where both words are 0, else 1. The second is taken only where the first is 0.
+    /// 0 where both words are 0, else 1. The second is taken only if the first is 0.
     Or(Box<TypedExpr>, Box<TypedExpr>),
     /// The second where the first differs from 0, else the third.
     Choose(Box<TypedExpr>, Box<TypedExpr>, Box<TypedExpr>),

@@ -17,7 +17,7 @@ use Rattle.cas_typed.specs.declared.rows.TypedFun.{TypedFun}
 use Rattle.cas_typed.specs.declared.typed.Typed.{Typed}
 use Rattle.cas_typed.proofs.Bodied.{IsTyped-bodies}
 use Rattle.cas_step.specs.Env.{FunctionAt}
-use Rattle.cas_step.specs.Fits.{IsAt}
+use Rattle.cas_step.specs.Well_formed.{IsAt}
 use Rattle.cas_program.specs.Program.{body_item, env_of, function_with, function_of, function_in}
 use Rattle.cas_whole.specs.Bodies.{IsBodyIn, IsBodyOf, body_of, told, typed_at, typed_in}
 use Rattle.cas_whole.specs.Program_of.{IsProgramOf}

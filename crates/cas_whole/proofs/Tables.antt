@@ -60,7 +60,7 @@ HasCells entries left all = (q : List ℕ) → option_or (named entries q) (opti
 abbrev pub at_place : (unit place : ℕ) → List Decl → (q : List ℕ) → Option env.Entity
 at_place unit place ds q = option_map (λ n. function_entity (unit, n)) (position_from (is_named q) place (functions_of ds))
 
--- the table has a module's functions so far, and these declarations are left behind this many functions
+-- the table has a module's functions so far, and these declarations are left after this many functions
 abbrev pub HasFunctions : (unit : ℕ) (before now : List (Bor (List ℕ) × Entity)) (place : ℕ) (left all : List Decl) → Type 0
 HasFunctions unit before now place left all = (q : List ℕ) → option_or (named now q) (at_place unit place left q) ≡ option_or (named before q) (at_place unit 0 all q)
 

@@ -9,12 +9,11 @@ use Rattle.cas_base.specs.Decl.{functions_of}
 use Rattle.cas_base.specs.declared.decl.Decl.{Decl}
 use Rattle.cas_syntax.specs.Tree.{ItemTree, item_tree}
 use Rattle.cas_typed.specs.Counts.{function_count, most_functions}
-use Rattle.cas_typed.specs.Modules.{AreItems, decl_of}
+use Rattle.cas_typed.specs.Modules.{AreItems, decl_of, decls_of}
 use Rattle.cas_typed.specs.Resolved.{TypedFunTree, TypedModuleTree}
 use Rattle.cas_typed.specs.Typed_as.{IsTypedAs}
 use Rattle.cas_typed.specs.declared.typed.Typed.{Typed}
 use Rattle.cas_typed.proofs.Typed_once.{typed_once}
-use Rattle.cas_own.specs.Checked.{decls_of}
 use Rattle.cas_program.specs.Program.{units_of}
 use Rattle.cas_whole.specs.Names.{decls_in, units_in, HaveFewFunctions}
 use Rattle.cas_whole.specs.Whole.{AreTyped}
@@ -24,7 +23,7 @@ use Rattle.cas_whole.specs.Whole.{AreTyped}
 pub typed_decls : (t : Typed) (m : TypedModuleTree) → IsTypedAs t m → decls_of m ≡ decls_in t
 typed_decls t m is = ap (λ tree. map decl_of tree.items) is.module_tree ∙ map-map decl_of item_tree t.filled.items
 
--- the functions that items define behind these declarations are few
+-- the functions that items define after these declarations are few
 few_items : {before : List Decl} {items : List ItemTree} {rs : List TypedFunTree} → AreItems before items rs → function_count before ≤ most_functions → function_count (before ++ map decl_of items) ≤ most_functions
 few_items (AreItems.no_item before) few = subst (λ ds. function_count ds ≤ most_functions) (sym (append-nil before)) few
 few_items (AreItems.a_global before d vs p rest rs is more) few = subst (λ ds. function_count ds ≤ most_functions) (append_assoc before (d ∷ []) (map decl_of rest)) (few_items more is.functions)

@@ -1,4 +1,4 @@
--- What a function with a body is, as a step needs it.
+-- Functions with bodies, as a step needs them.
 use Rattle.std.specs.Prelude.{◌≡◌, ℕ, List, map, Option, Some, None, slice_get}
 use Rattle.cas_base.specs.declared.kind.Ty.{Ty}
 use Rattle.cas_base.specs.declared.place.Place.{Place}
@@ -11,18 +11,18 @@ use Rattle.cas_typed.specs.Resolved.{TypedFunTree, TypedModuleTree}
 use Rattle.cas_typed.specs.declared.rows.TypedFun.{TypedFun}
 use Rattle.cas_typed.specs.declared.typed.Typed.{Typed}
 use Rattle.cas_step.specs.Env.{FunctionAt}
-use Rattle.cas_step.specs.Fits.{IsAt}
+use Rattle.cas_step.specs.Well_formed.{IsAt}
 use Rattle.cas_program.specs.Program.{env_of}
 use Rattle.cas_whole.specs.declared.body.Body.{Body}
 
--- The function that stands there in these modules is this one of the code.
+-- The function at this place in these modules is this one of the code.
 pub record IsBodyOf (modules : List TypedModuleTree) (f : FunctionAt) (b : Body) : Type 0 where
   pub unit : TypedModuleTree
   pub it : TypedFunTree
   pub at : IsAt modules f unit it
   -- its rows stand for its statements
   pub rows : numbered.IsFunctionOf it b.typed.now
-  -- it is what the environment of the modules says
+  -- it is as the environment of the modules says
   pub ret : ((env_of modules).function f).ret ≡ b.ret
   pub closing : ((env_of modules).function f).closing ≡ b.closing
   pub locals : ((env_of modules).function f).locals ≡ map (λ v. v.ty) b.typed.now.locals
@@ -46,7 +46,7 @@ typed_in (Some t) place = slice_get t.functions place
 abbrev pub typed_at : List Typed → (unit place : ℕ) → Option TypedFun
 typed_at ts n place = typed_in (slice_get ts n) place
 
--- a function with what it returns and its closing brace, as the code has them and as its item says
+-- a function with its return type and its closing brace, as the code has them and as its item says
 abbrev pub told : Body → TypedFun × Ty × Place
 told b = (b.typed.now, b.ret, b.closing)
 

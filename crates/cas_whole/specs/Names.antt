@@ -1,4 +1,4 @@
--- What names stand for, as the code keeps it: in one table for globals and locks, and in one for functions.
+-- What names stand for in the code: a table of globals and locks, and a table of functions.
 use Rattle.std.specs.Prelude.{ℕ, ◌^◌, ◌<◌, List, Option, length, map}
 use Rattle.std.specs.List.{AllByRecursion}
 use Rattle.std.specs.Borrow.{Bor}
@@ -9,18 +9,13 @@ use Rattle.cas_base.specs.Decl.{functions_of}
 use Rattle.cas_base.specs.declared.decl.Decl.{Decl}
 use Rattle.cas_base.specs.declared.decl.Form.{Form}
 use Rattle.cas_base.specs.declared.decl.Form.TheVariants.{Function}
-use Rattle.cas_syntax.specs.Tree.{item_tree}
-use Rattle.cas_syntax.specs.declared.tree.Item.{Item}
-use Rattle.cas_typed.specs.Modules.{decl_of}
+use Rattle.cas_typed.specs.Modules.{decls_of_items}
 use Rattle.cas_typed.specs.declared.typed.Typed.{Typed}
 use Rattle.cas_step.specs.Env as env
 use Rattle.cas_memory.specs.Entities.{entity_of}
 use Rattle.cas_memory.specs.declared.entity.Entity.{Entity}
 
--- the declarations of items of the code, those of its modules
-abbrev pub decls_of_items : List Item → List Decl
-decls_of_items items = map (λ a. decl_of (item_tree a)) items
-
+-- the declarations of a module of the code
 abbrev pub decls_in : Typed → List Decl
 decls_in typed = decls_of_items typed.filled.items
 

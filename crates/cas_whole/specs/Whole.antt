@@ -1,4 +1,4 @@
--- Which program of typed modules the parts of a program of the code are.
+-- The program that the parts of a program of the code stand for.
 use Rattle.std.specs.Prelude.{◌≡◌, ⊤, ℕ, ◌^◌, ◌<◌, List, [], ◌∷◌, length, map, Option, Some, None, slice_get}
 use Rattle.cas_settle.specs.Settle.{cells_of}
 use Rattle.cas_settle.specs.declared.link.CellRow.{CellRow}
@@ -29,8 +29,8 @@ entity_in g (Some row) = entity_if (slice_get row g)
 abbrev pub entity_at : List (List (Option Entity)) → (unit item : ℕ) → Option env.Entity
 entity_at items n g = entity_in g (slice_get items n)
 
--- These modules of the code, with these cells, entries and what items stand for, are the program of the resolved modules that
--- begins at the functions of the names.
+-- These modules of the code, with these cells, entries and entities of items, are the program of these resolved
+-- modules with these entries.
 pub record AreProgramOf (ts : List Typed) (cells : List CellRow) (entries : List (ℕ × ℕ)) (items : List (List (Option Entity))) (modules : List TypedModuleTree) (names : List (List ℕ)) : Type 0 where
   pub typed : AreTyped ts modules
   pub program : IsProgram modules names

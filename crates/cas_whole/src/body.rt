@@ -17,7 +17,7 @@ pub struct Body<'a> {
     pub typed: &'a TypedFun,
     /// What it returns.
     pub ret: Ty,
-    /// Where its closing brace stands.
+    /// The place of its closing brace.
     pub closing: Place,
 }
 
@@ -35,7 +35,7 @@ fn body_at<'a>(typed: &'a TypedFun, items: &'a [Item]) -> Option<Body<'a>>
     }
 }
 
-/// The function of a module that stands at this place among those with bodies.
+/// The function of a module at this place among those with bodies.
 pub(crate) fn body_in(typed: &Typed, place: u32) -> Option<Body<'_>>
     ensures same { IfSome result (λ found. slice_get typed.now.functions place ≡ Some found.typed.now) }
     ensures found { IfSome result (λ found. (r : TypedModuleTree) → IsTypedAs typed.now r → IsBodyIn r place found) }

@@ -5,7 +5,8 @@ ghost use Rattle.std.specs.Option.{option_map};
 ghost use Rattle.cas_settle.specs.Settle.{cells_of};
 ghost use Rattle.cas_memory.specs.Entities.{entity_of};
 ghost use Rattle.cas_program.specs.Program.{item_entity};
-ghost use Rattle.cas_whole.specs.Names.{HaveFewFunctions, decls_of_items, meant, meant_by, units_in};
+ghost use Rattle.cas_typed.specs.Modules.{decls_of_items};
+ghost use Rattle.cas_whole.specs.Names.{HaveFewFunctions, meant, meant_by, units_in};
 ghost use Rattle.cas_whole.specs.Whole.{entity_at};
 
 use crate::names::{cells_by_name, functions_by_name};

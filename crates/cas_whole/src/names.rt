@@ -8,7 +8,8 @@ ghost use Rattle.cas_base.specs.Decl.{functions_of, is_named};
 ghost use Rattle.cas_settle.specs.Settle.{place_of};
 ghost use Rattle.cas_memory.specs.Entities.{entity_of};
 ghost use Rattle.cas_program.specs.Program.{entity_of_cell, function_entity};
-ghost use Rattle.cas_whole.specs.Names.{HaveFewFunctions, decls_of_items, named, units_in};
+ghost use Rattle.cas_typed.specs.Modules.{decls_of_items};
+ghost use Rattle.cas_whole.specs.Names.{HaveFewFunctions, named, units_in};
 
 use cas_base::{Decl, NoMemory};
 use cas_memory::Entity;
@@ -68,8 +69,8 @@ pub(crate) fn cells_by_name<'a>(
     Ok(table)
 }
 
-// Puts the function that a declaration defines into a table, if it defines one, and answers how many functions its module
-// defines then. Before it there are `place`.
+// Puts the function that a declaration defines into a table, if it defines one, and answers how many functions its
+// module defines then. Before it there are `place`.
 fn put_function<'a>(
     table: &mut IndexMap<&'a str, Entity>,
     decl: &'a Decl,

@@ -12,8 +12,8 @@ use cas_memory::Entity;
 use cas_settle::CellRow;
 use cas_typed::Typed;
 
-/// A program: typed modules that settle, and the functions at which its threads begin. There are always resolved modules
-/// and names of which it is the program.
+/// A program: typed modules that settle, and the functions at which its threads begin. There are always resolved
+/// modules and names of which it is the program.
 #[derive(Debug, Drop)]
 pub struct Program {
     modules: Seq<Typed>,

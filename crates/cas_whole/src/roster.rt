@@ -4,8 +4,8 @@ ghost use Rattle.std.specs.Prelude.{◌≡◌, ◌<◌, List, [], ◌∷◌, ◌
 ghost use Rattle.cas_base.specs.declared.decl.Decl.{Decl};
 ghost use Rattle.cas_settle.specs.Roster.{add_to_last};
 ghost use Rattle.cas_syntax.specs.Tree.{item_tree};
-ghost use Rattle.cas_typed.specs.Modules.{decl_of};
-ghost use Rattle.cas_whole.specs.Names.{decls_of_items, units_in};
+ghost use Rattle.cas_typed.specs.Modules.{decl_of, decls_of_items};
+ghost use Rattle.cas_whole.specs.Names.{units_in};
 
 use cas_base::NoMemory;
 use cas_settle::Roster;

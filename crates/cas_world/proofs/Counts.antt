@@ -5,7 +5,8 @@ use Rattle.cas_own.specs.Laws.{IsAscendingFrom}
 use Rattle.cas_own.specs.Locks.{Locks, has, having, without}
 use Rattle.cas_own.proofs.Sets.{same_or_not, having_cases, without_cases, not_before}
 use Rattle.cas_step.specs.Env.{Entity, function, outside, shared, table, lock}
-use Rattle.cas_world.specs.Owned.{one, is_word, count}
+use Rattle.cas_step.specs.Operators.{truth}
+use Rattle.cas_world.specs.Owned.{is_word, count}
 
 pub word_is : (it : Option Entity) (w : ℕ) → is_word it w ≡ true → it ≡ Some (lock w)
 word_is None w h = cc
@@ -43,19 +44,19 @@ not_first : {C : Type 0} (k : ℕ) (s : Locks) (l : ℕ) → has (k ∷ s) l ≡
 not_first k s l h e = same_or_not k l (λ t d. let no : true ≡ false = sym t ∙ first_out (k == l) (has s l) h in absurd (cc no)) (λ t d. absurd (d e))
 
 module _ (entity : ℕ → Option Entity) where
-  pub count-having : (s : Locks) (l w : ℕ) → has s l ≡ false → count entity (having s l) w ≡ one (is_word (entity l) w) + count entity s w
+  pub count-having : (s : Locks) (l w : ℕ) → has s l ≡ false → count entity (having s l) w ≡ truth (is_word (entity l) w) + count entity s w
   count-having [] l w h = refl
   count-having (m ∷ s) l w h =
-      having_cases (λ t. count entity t w ≡ one (is_word (entity l) w) + count entity (m ∷ s) w) m s l
+      having_cases (λ t. count entity t w ≡ truth (is_word (entity l) w) + count entity (m ∷ s) w) m s l
       (λ e. not_first m s l h e)
       (λ u. refl)
       (λ u. let rest = count-having s l w (second_out (m == l) (has s l) h) in omega (arith, rest))
 
-  pub count-without : (s : Locks) (l w : ℕ) → has s l ≡ true → count entity s w ≡ one (is_word (entity l) w) + count entity (without s l) w
+  pub count-without : (s : Locks) (l w : ℕ) → has s l ≡ true → count entity s w ≡ truth (is_word (entity l) w) + count entity (without s l) w
   count-without [] l w h = absurd (cc h)
   count-without (m ∷ s) l w h =
-      without_cases (λ t. count entity (m ∷ s) w ≡ one (is_word (entity l) w) + count entity t w) m s l
-      (λ e. ap (λ k. one (is_word (entity k) w) + count entity s w) e)
+      without_cases (λ t. count entity (m ∷ s) w ≡ truth (is_word (entity l) w) + count entity t w) m s l
+      (λ e. ap (λ k. truth (is_word (entity k) w) + count entity s w) e)
       (λ d. one_of (m == l) (has s l) h
       (λ t. same_or_not m l (λ t' e. absurd (d e)) (λ t' e. let no : true ≡ false = sym t ∙ t' in absurd (cc no)))
       (λ t. let rest = count-without s l w t in omega (arith, rest)))
@@ -63,7 +64,7 @@ module _ (entity : ℕ → Option Entity) where
   -- a lock of a set is counted
   pub count_has : (s : Locks) (l w : ℕ) → has s l ≡ true → entity l ≡ Some (lock w) → 0 < count entity s w
   count_has s l w h e =
-      let is : one (is_word (entity l) w) ≡ 1 = ap (λ it. one (is_word it w)) e ∙ ap one (word_here w) in
+      let is : truth (is_word (entity l) w) ≡ 1 = ap (λ it. truth (is_word it w)) e ∙ ap truth (word_here w) in
       omega (arith, count-without s l w h, is)
 
   -- what is counted is a lock of the set
@@ -72,7 +73,7 @@ module _ (entity : ℕ → Option Entity) where
   count_some (m ∷ s) w u =
       tell (is_word (entity m) w)
       (λ t. (m, same_or_not m m (λ c e. ap (λ b. (b || has s m)) c) (λ c e. absurd (e refl)), word_is (entity m) w t))
-      (λ t. let none : one (is_word (entity m) w) ≡ 0 = ap one t in
+      (λ t. let none : truth (is_word (entity m) w) ≡ 0 = ap truth t in
       let r = count_some s w (omega (arith, u, none)) in
       (r.0, same_or_not m r.0 (λ c e. ap (λ b. (b || has s r.0)) c) (λ c e. ap (λ b. (b || has s r.0)) c ∙ r.1), r.2))
 
@@ -83,14 +84,14 @@ module _ (entity : ℕ → Option Entity) where
   count_once n (m ∷ s) w h f =
       tell (is_word (entity m) w)
       (λ t. same_or_not (count entity s w) 0
-      (λ c e. let is : one (is_word (entity m) w) ≡ 1 = ap one t in omega (arith, is, e))
+      (λ c e. let is : truth (is_word (entity m) w) ≡ 1 = ap truth t in omega (arith, is, e))
       (λ c e. let r = count_some s w (omega (arith, e)) in
       let here : has (m ∷ s) m ≡ true = same_or_not m m (λ c e. ap (λ b. (b || has s m)) c) (λ c e. absurd (e refl)) in
       let there : has (m ∷ s) r.0 ≡ true = same_or_not m r.0 (λ c e. ap (λ b. (b || has s r.0)) c) (λ c e. ap (λ b. (b || has s r.0)) c ∙ r.1) in
       let again : m ≡ r.0 = f m r.0 here there (word_is (entity m) w t) r.2 in
       let out : has s r.0 ≡ false = not_before (suc m) s r.0 h.1 (omega (arith, again)) in
       let no : true ≡ false = sym r.1 ∙ out in absurd (cc no)))
-      (λ t. let none : one (is_word (entity m) w) ≡ 0 = ap one t in
+      (λ t. let none : truth (is_word (entity m) w) ≡ 0 = ap truth t in
       let rest = count_once (suc m) s w h.1 (λ k j a b. f k j (behind k a) (behind j b)) in
       omega (arith, rest, none))
     where

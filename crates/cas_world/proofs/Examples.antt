@@ -70,7 +70,7 @@ played e is None = None
 played e [] (Some w) = Some w
 played e (i ∷ is) (Some w) = played e is (turned e w i (slice_get w.threads i))
 
--- what two threads have put out, with the words and the holders then; none where a thread may not step
+-- what two threads have output, with the words and the holders then; none if a thread may not step
 abbrev shown : Option World → Option (List (ℕ × ℕ) × List ℕ × List (Option ℕ))
 shown None = None
 shown (Some w) = Some (w.out, w.words, w.holders)
@@ -106,7 +106,7 @@ enabled act.Quiet hs h = tt
 enabled act.Done hs h = tt
 enabled (act.Bad why) hs h = absurd (cc h)
 
--- threads that are played further, behind an interleaving
+-- threads that are played further, after an interleaving
 module _ (e : Env) (first v : World) where
   abbrev GoesOn : List ℕ → Type 0
   GoesOn is = (w : World) (done : List ℕ) → Interleaves e first done w → played e is (Some w) ≡ Some v → Interleaves e first (done ++ is) v
@@ -150,7 +150,7 @@ abbrev bare_step : (thread : ℕ) → Step
 bare_step i = record {
   act = act.Quiet;
   next = record {
-    activations = record { serial = 0; function = record { unit = 0; place = 0 }; target = None; todo = [] } ∷ [];
+    activations = record { serial = 0; function = record { unit = 0; place = 0 }; target = None; cont = [] } ∷ [];
     memory = record { serial = 0; locals = (word i ∷ []) ∷ [] } ∷ [];
     fresh = 1;
   };

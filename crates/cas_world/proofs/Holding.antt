@@ -1,4 +1,5 @@
--- In each world that is reached, each thread holds the locks that its activations' parts have, each in one part, and no others.
+-- In each world that is reached, each thread holds the locks that its activations' parts have, each in one part, and
+-- no others.
 use Rattle.std.proofs.Common.{arith, ◌≡◌, ◌≢◌, ℕ, zero, suc, ◌+◌, ◌<◌, ◌≤◌, List, [], ◌∷◌, ◌++◌, replicate, length, Option, Some, None, refl, sym, ap, subst, ◌∙◌, ◌⊎◌, inl, inr, ⊎_elim}
 use Rattle.std.specs.Prelude.{◌==◌, slice_get, slice_set, Contains}
 use Rattle.cas_base.specs.declared.act.Act.{Act}
@@ -7,29 +8,30 @@ use Rattle.cas_own.specs.Locks.{Locks}
 use Rattle.cas_own.proofs.Sets.{same_or_not}
 use Rattle.cas_step.specs.Asks.{word}
 use Rattle.cas_step.specs.Env.{FunctionAt, shared, Env}
-use Rattle.cas_step.specs.Fits.{IsAt}
+use Rattle.cas_step.specs.Well_formed.{IsAt}
 use Rattle.cas_step.specs.Laws.{FootprintsAreNamed}
-use Rattle.cas_step.specs.Step.{Activation, Config, Step, Here, step_here, step_of, step, start}
+use Rattle.cas_step.specs.Step.{Activation, Config, Step, StepContext, newest_step, step_of, step, start}
 use Rattle.cas_typed.specs.Resolved.{TypedFunTree, TypedModuleTree}
 use Rattle.cas_world.specs.World.{World, IsEnabled, holders_after, world_after, IsNext, MayStep, Interleaves, at_first, and_step, started, first_world, Reaches}
 use Rattle.cas_world.proofs.Counts.{count_has}
 use Rattle.cas_world.proofs.Named.{items_open}
 use Rattle.cas_world.proofs.Standing.{Joins, PartsAfter, Keeps, steps_keep}
-use Rattle.cas_world.proofs.Walked.{Lands}
-use Rattle.cas_world.specs.Owned.{Owns, IsOwned, one, decls_at, own_at, held, Stands, parts, holding}
-use Rattle.cas_world.specs.Walks.{nowhere}
+use Rattle.cas_world.proofs.Lock_flow.{Lands}
+use Rattle.cas_step.specs.Operators.{truth}
+use Rattle.cas_world.specs.Owned.{Owns, IsOwned, decls_at, own_at, held, StackFlows, parts, holding}
+use Rattle.cas_world.specs.Lock_flow.{nowhere}
 
 holding_self : (i : ℕ) → holding (Some (Some i)) i ≡ 1
-holding_self i = same_or_not i i (λ t e. ap one t) (λ t e. absurd (e refl))
+holding_self i = same_or_not i i (λ t e. ap truth t) (λ t e. absurd (e refl))
 
 holding_other : (i j : ℕ) → i ≢ j → holding (Some (Some i)) j ≡ 0
-holding_other i j n = same_or_not i j (λ t e. absurd (n e)) (λ t e. ap one t)
+holding_other i j n = same_or_not i j (λ t e. absurd (n e)) (λ t e. ap truth t)
 
 pub owner_is : (o : Option (Option ℕ)) (i : ℕ) → 0 < holding o i → o ≡ Some (Some i)
 owner_is None i h = absurd (omega (arith, h))
 owner_is (Some None) i h = absurd (omega (arith, h))
 owner_is (Some (Some j)) i h =
-    same_or_not j i (λ t e. ap (λ k. Some (Some k)) e) (λ t e. let none : one (j == i) ≡ 0 = ap one t in absurd (omega (arith, h, none)))
+    same_or_not j i (λ t e. ap (λ k. Some (Some k)) e) (λ t e. let none : truth (j == i) ≡ 0 = ap truth t in absurd (omega (arith, h, none)))
 
 -- lists with an element set
 
@@ -138,17 +140,17 @@ module _ (modules : List TypedModuleTree) (e : Env) (joins : Joins modules e) (n
     pub old : ℕ → ℕ
     pub sets : List Locks
     pub held_before : (l : ℕ) → old l ≡ holding (slice_get hs l) i
-    pub stands : Stands modules e st.next.activations sets
+    pub stands : StackFlows modules e st.next.activations sets
     pub parts_are : PartsAfter st.act old (parts modules e st.next.activations sets)
     pub touches : (n : ℕ) → Contains (st.reads ++ st.writes) n → (l : ℕ) × IsGuarded n l × (0 < old l)
 
   kept_at : (ws : List ℕ) (c : Config) (hs : List (Option ℕ)) (i : ℕ) (st : Step) → step e ws c ≡ Some st → (activations : List Activation) → c.activations ≡ activations →
-      (sets : List Locks) → Stands modules e activations sets → ((l : ℕ) → parts modules e activations sets l ≡ holding (slice_get hs l) i) → Kept hs i st
+      (sets : List Locks) → StackFlows modules e activations sets → ((l : ℕ) → parts modules e activations sets l ≡ holding (slice_get hs l) i) → Kept hs i st
   kept_at ws c hs i st is [] none sets stands p = let no : None ≡ Some st = sym (ap (step_of e ws c) none) ∙ is in absurd (cc no)
   kept_at ws c hs i st is (a ∷ older) there [] stands p = absurd stands
   kept_at ws c hs i st is (a ∷ older) there (s ∷ ss) stands p =
-      let h : Here = record { config = c; newest = a; older = older; words = ws } in
-      let keeps = lands_is (Keeps modules e a older s ss) (step_here e h) st (steps_keep modules e joins h s ss stands there) (sym (ap (step_of e ws c) there) ∙ is) in
+      let h : StepContext = record { config = c; newest = a; older = older; words = ws } in
+      let keeps = lands_is (Keeps modules e a older s ss) (newest_step e h) st (steps_keep modules e joins h s ss stands there) (sym (ap (step_of e ws c) there) ∙ is) in
       record {
         old = parts modules e (a ∷ older) (s ∷ ss);
         sets = keeps.sets;
@@ -158,7 +160,7 @@ module _ (modules : List TypedModuleTree) (e : Env) (joins : Joins modules e) (n
         touches = λ n touched.
             let (g, first, len, guard, named_there, entity, from, below) = named e ws c a older st there is n touched in
             let (l, w, guard_there, lock_there, guard_is) = joins.guards a.function.unit g first len guard entity in
-            let has_lock = items_open (decls_at modules e a.function.unit) (own_at modules e a.function) a.todo stands.0 s stands.1 g l named_there guard_there in
+            let has_lock = items_open (decls_at modules e a.function.unit) (own_at modules e a.function) a.cont stands.0 s stands.1 g l named_there guard_there in
             let some = count_has (e.entity a.function.unit) s l w has_lock lock_there in (
               w,
               record {

@@ -1,5 +1,5 @@
--- What a program of checked modules has: bodies that are walked without a fault, the same locks behind each name of a function,
--- and locks for guards.
+-- What a program of checked modules has: bodies that are walked without a fault, the same locks behind each name of
+-- a function, and locks for guards.
 use Rattle.std.proofs.Common.{arith, ◌≡◌, ℕ, zero, suc, ◌<◌, ◌≤◌, true, List, [], ◌∷◌, ◌++◌, map, Option, Some, None, refl, sym, ap, subst, ◌∙◌, append_assoc}
 use Rattle.std.specs.Prelude.{◌==◌, ◌||◌, slice_get, Contains, All}
 use Rattle.std.specs.List.{list_any}
@@ -10,7 +10,7 @@ use Rattle.cas_base.specs.declared.decl.Form.{Form}
 use Rattle.cas_base.specs.declared.decl.Form.TheVariants.{Lock, Shared, Table, Function as AFunction}
 use Rattle.cas_base.specs.declared.kind.Ty.{Ty}
 use Rattle.cas_base.specs.declared.place.Place.{Place}
-use Rattle.cas_own.specs.Checked.{decls_of, OwnFaultTree, IsChecked, first, fault_of, guard_fault, global_fault, held_set, function_fault, items_fault}
+use Rattle.cas_own.specs.Checked.{OwnFaultTree, IsChecked, first, fault_of, guard_fault, global_fault, held_set, function_fault, items_fault}
 use Rattle.cas_own.specs.Flow.{Flow, on, fault, same, with_set, flow_all, body_flow}
 use Rattle.cas_own.specs.Locks.{Locks, has, set_of, lock_named, lock_and, locks_named, of_declared, guard_of_form, guard_of, holds_of_form, holds_of}
 use Rattle.cas_own.proofs.Names.{contained}
@@ -21,17 +21,17 @@ use Rattle.cas_program.specs.Program.{IsProgram, units_of, env_of}
 use Rattle.cas_program.proofs.Locking.{lock_there, lock_further}
 use Rattle.cas_program.proofs.Meanings.{all_at, unmapped}
 use Rattle.cas_step.specs.Env.{FunctionAt, function, shared, lock, Env}
-use Rattle.cas_step.specs.Fits.{IsAt, Suits}
-use Rattle.cas_step.specs.Items.{begin_all}
+use Rattle.cas_step.specs.Well_formed.{IsAt, IsWellFormed}
+use Rattle.cas_step.specs.Continuation.{begin_all}
 use Rattle.cas_syntax.specs.Tree.{FunTree, ItemTree, global, prototype, define, ModuleTree}
 use Rattle.cas_typed.specs.Bodies.{bodies_of, HasBodies}
 use Rattle.cas_typed.specs.Formed.{IsFunctionForm, ItemsAreFormed}
-use Rattle.cas_typed.specs.Modules.{decl_of, IsTyped}
+use Rattle.cas_typed.specs.Modules.{decl_of, IsTyped, decls_of}
 use Rattle.cas_typed.specs.Resolved.{TypedFunTree, TypedModuleTree, TypedStmtList}
 use Rattle.cas_world.proofs.Counts.{count_once, count_some}
-use Rattle.cas_world.proofs.Walked.{on_is, after_on, same_on, body_walks}
+use Rattle.cas_world.proofs.Lock_flow.{on_is, after_on, same_on, body_walks}
 use Rattle.cas_world.specs.Owned.{count, decls_in, own_in, own_of, decls_at, own_at, held}
-use Rattle.cas_world.specs.Walks.{nowhere, Walks}
+use Rattle.cas_world.specs.Lock_flow.{nowhere, HasLockFlow}
 
 -- what a module without a fault says of its items
 
@@ -43,7 +43,7 @@ fault_none : (ds : List Decl) (x : Flow) → fault_of ds x ≡ None → (o : Opt
 fault_none ds (on o) h = (o, refl)
 fault_none ds (fault code p l) h = absurd (cc h)
 
--- behind a body nothing goes on
+-- behind a body nothing continues
 body_ends : (ds : List Decl) (own : Locks) (closing : Place) (body : TypedStmtList) (o : Option Locks) → body_flow ds own closing body ≡ on o → body_flow ds own closing body ≡ on None
 body_ends ds own closing body o f =
     let r = after_on (flow_all ds own None body (Some own)) (λ o. with_set o (λ s. same O5 closing own s (on None))) o f in
@@ -151,7 +151,7 @@ same_words v w h = cc
 same_locks : (l m : ℕ) → Some l ≡ Some m → l ≡ m
 same_locks l m h = cc
 
-module _ (modules : List TypedModuleTree) (entries : List (List ℕ)) (program : IsProgram modules entries) (checked : All IsChecked modules) (suits : Suits modules (env_of modules)) where
+module _ (modules : List TypedModuleTree) (entries : List (List ℕ)) (program : IsProgram modules entries) (checked : All IsChecked modules) (well_formed : IsWellFormed modules (env_of modules)) where
   abbrev env : Env
   env = env_of modules
 
@@ -171,17 +171,17 @@ module _ (modules : List TypedModuleTree) (entries : List (List ℕ)) (program :
     bodied n unit is = all_bodied unit.module_tree unit (all_at (λ m. IsTyped m.module_tree m) modules n unit is program.typed)
 
     pub bodies_walk : (f : FunctionAt) (unit : TypedModuleTree) (it : TypedFunTree) → IsAt modules f unit it →
-        Walks (decls_at modules env f.unit) (own_at modules env f) (begin_all (env.function f).body []) nowhere (Some (own_at modules env f))
+        HasLockFlow (decls_at modules env f.unit) (own_at modules env f) (begin_all (env.function f).body []) nowhere (Some (own_at modules env f))
     bodies_walk f unit it at_place =
         let (tree, there, of) = (bodied f.unit unit at_place.unit_is).each f.place it at_place.function_is in
         let none = body_none (decls_of unit) [] unit.module_tree.items unit.functions f.place tree it (module_checked f.unit unit at_place.unit_is) there at_place.function_is in
         let (o, flows) = fault_none (decls_of unit) (body_flow (decls_of unit) (held_set (decls_of unit) it.item) tree.closing it.body) none in
         let ends = body_ends (decls_of unit) (held_set (decls_of unit) it.item) tree.closing it.body o flows in
         let walks = body_walks (decls_of unit) (held_set (decls_of unit) it.item) tree.closing it.body ends in
-        let here = subst (λ body. Walks (decls_of unit) (held_set (decls_of unit) it.item) (begin_all body []) nowhere (Some (held_set (decls_of unit) it.item)))
-        (sym (suits.functions f unit it at_place).body) walks in
-        let own = subst (λ s. Walks (decls_of unit) s (begin_all (env.function f).body []) nowhere (Some s)) (sym (own_is f unit it at_place)) here in
-        subst (λ ds. Walks ds (own_at modules env f) (begin_all (env.function f).body []) nowhere (Some (own_at modules env f))) (sym (ap decls_in at_place.unit_is)) own
+        let here = subst (λ body. HasLockFlow (decls_of unit) (held_set (decls_of unit) it.item) (begin_all body []) nowhere (Some (held_set (decls_of unit) it.item)))
+        (sym (well_formed.functions f unit it at_place).body) walks in
+        let own = subst (λ s. HasLockFlow (decls_of unit) s (begin_all (env.function f).body []) nowhere (Some s)) (sym (own_is f unit it at_place)) here in
+        subst (λ ds. HasLockFlow ds (own_at modules env f) (begin_all (env.function f).body []) nowhere (Some (own_at modules env f))) (sym (ap decls_in at_place.unit_is)) own
 
   -- guards
 

@@ -1,7 +1,7 @@
 mod Counts
-mod Deeds
+mod Effects
 mod Examples
-mod Fitting
+mod Sound_worlds
 mod Holding
 mod Joined
 mod Moving
@@ -10,4 +10,4 @@ mod Races
 mod Standing
 mod Staying
 pub mod Turns
-mod Walked
+mod Lock_flow

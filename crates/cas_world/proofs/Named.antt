@@ -6,11 +6,11 @@ use Rattle.cas_own.specs.Flow.{Flow, on, Head, guarded, flow}
 use Rattle.cas_own.specs.Locks.{Locks, has, guard_of}
 use Rattle.cas_own.specs.Uses.{Use, uses, target_uses, option_uses, argument_uses}
 use Rattle.cas_own.proofs.Names.{guards_are_held, contained}
-use Rattle.cas_step.specs.Items.{Todo, begin, begun, loop, next}
+use Rattle.cas_step.specs.Continuation.{ContItem, begin, begun, loop, next}
 use Rattle.cas_step.specs.Laws.{names, target_names, option_names, names_of_all, statement_names, item_names}
 use Rattle.cas_typed.specs.Resolved as t
 use Rattle.cas_typed.specs.Resolved.{TypedExprTree, TypedTargetTree, to_local, to_global, to_element, to_behind, TypedStmtTree, skip, assign, call, block, if_, while_, do_, for_, break_, continue_, return_, lock, unlock, print, absent, present}
-use Rattle.cas_world.specs.Walks.{NamesAreWalked, Around, nowhere, inside, beside, cut, head_of, Walks}
+use Rattle.cas_world.specs.Lock_flow.{NamesAreChecked, LoopContext, nowhere, inside, beside, cut, head_of, HasLockFlow}
 
 -- the items of the names that the check walks
 abbrev pub items : List Use → List ℕ
@@ -59,8 +59,8 @@ pub items-argument_uses : (args : List TypedExprTree) → items (argument_uses a
 items-argument_uses [] = refl
 items-argument_uses (a ∷ args) = both_items (uses a) (argument_uses args) (names a) (names_of_all args) (items-uses a) (items-argument_uses args)
 
-pub names_are_walked : NamesAreWalked
-names_are_walked = (items-uses, items-target_uses, items-option_uses, items-argument_uses)
+pub names_are_checked : NamesAreChecked
+names_are_checked = (items-uses, items-target_uses, items-option_uses, items-argument_uses)
 
 -- a contained item is that of a contained name
 use_there : (us : List Use) (g : ℕ) → Contains (items us) g → (u : Use) × Contains us u × (u.item ≡ g)
@@ -101,20 +101,20 @@ module _ (ds : List Decl) where
     statement_open h (unlock p g) s o f = none_open s
     statement_open h (print p a) s o f = guarded_open s (uses a) (names a) _ o (items-uses a) f
 
-    pub items_open : (todo : List Todo) (x : Around) (s : Locks) → Walks ds own todo x (Some s) → AreOpen s (item_names todo)
+    pub items_open : (cont : List ContItem) (x : LoopContext) (s : Locks) → HasLockFlow ds own cont x (Some s) → AreOpen s (item_names cont)
     items_open [] x s w = none_open s
-    items_open (begin a ∷ todo) x s w = statement_open (head_of x) a s w.0 w.1
-    items_open (begun p c a ∷ todo) nowhere s w = absurd w
-    items_open (begun p c a ∷ todo) (inside h) s w = subst (λ r. AreOpen r (names c)) w.1 (guarded_open h.set (uses c) (names c) _ (Some h.set) (items-uses c) w.2)
-    items_open (begun p c a ∷ todo) (beside h) s w = absurd w
-    items_open (begun p c a ∷ todo) cut s w = absurd w
-    items_open (loop p c u a ∷ todo) nowhere s w = absurd w
-    items_open (loop p c u a ∷ todo) (inside h) s w = absurd w
-    items_open (loop p c u a ∷ todo) (beside h) s w =
+    items_open (begin a ∷ cont) x s w = statement_open (head_of x) a s w.0 w.1
+    items_open (begun p c a ∷ cont) nowhere s w = absurd w
+    items_open (begun p c a ∷ cont) (inside h) s w = subst (λ r. AreOpen r (names c)) w.1 (guarded_open h.set (uses c) (names c) _ (Some h.set) (items-uses c) w.2)
+    items_open (begun p c a ∷ cont) (beside h) s w = absurd w
+    items_open (begun p c a ∷ cont) cut s w = absurd w
+    items_open (loop p c u a ∷ cont) nowhere s w = absurd w
+    items_open (loop p c u a ∷ cont) (inside h) s w = absurd w
+    items_open (loop p c u a ∷ cont) (beside h) s w =
         subst (λ r. AreOpen r (option_names c)) w.1 (guarded_open h.set (option_uses c) (option_names c) _ (Some h.set) (items-option_uses c) w.2)
-    items_open (loop p c u a ∷ todo) cut s w = absurd w
-    items_open (next p absent ∷ todo) x s w = none_open s
-    items_open (next p (present a) ∷ todo) nowhere s w = absurd w
-    items_open (next p (present a) ∷ todo) (inside h) s w = subst (λ r. AreOpen r (statement_names a)) w.0 (statement_open None a h.set w.1 w.2)
-    items_open (next p (present a) ∷ todo) (beside h) s w = absurd w
-    items_open (next p (present a) ∷ todo) cut s w = absurd w
+    items_open (loop p c u a ∷ cont) cut s w = absurd w
+    items_open (next p absent ∷ cont) x s w = none_open s
+    items_open (next p (present a) ∷ cont) nowhere s w = absurd w
+    items_open (next p (present a) ∷ cont) (inside h) s w = subst (λ r. AreOpen r (statement_names a)) w.0 (statement_open None a h.set w.1 w.2)
+    items_open (next p (present a) ∷ cont) (beside h) s w = absurd w
+    items_open (next p (present a) ∷ cont) cut s w = absurd w

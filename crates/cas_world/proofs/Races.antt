@@ -4,7 +4,7 @@ use Rattle.std.specs.Prelude.{slice_get, All}
 use Rattle.cas_base.specs.declared.act.Act.TheVariants as act
 use Rattle.cas_own.specs.Checked.{IsChecked}
 use Rattle.cas_own.specs.Locks.{set_of}
-use Rattle.cas_program.specs.Laws.{SharedAreDeclared, GuardsAreLocks, LocksAreByName, FunctionsAgree, GuardsAgree, EntriesHoldNone, ProgramsSuit}
+use Rattle.cas_program.specs.Laws.{SharedAreDeclared, GuardsAreLocks, LocksAreByName, FunctionsAgree, GuardsAgree, EntriesHoldNone, EnvironmentsAreWellFormed}
 use Rattle.cas_program.specs.Program.{IsProgram, env_of, entries_of, initial_words}
 use Rattle.cas_step.specs.Env.{FunctionAt}
 use Rattle.cas_step.specs.Laws.{FootprintsAreNamed}
@@ -22,7 +22,7 @@ use Rattle.cas_world.specs.Owned.{IsOwned, WorldsAreOwned, StepsKeepOwned, parts
 
 -- what is known of programs and steps
 pub record Laws : Type 0 where
-  pub suits : ProgramsSuit
+  pub well_formed : EnvironmentsAreWellFormed
   pub bodies : (m : ModuleTree) (r : TypedModuleTree) → IsTyped m r → HasBodies r
   pub shared_ones : SharedAreDeclared
   pub guards : GuardsAreLocks
@@ -34,15 +34,15 @@ pub record Laws : Type 0 where
 module _ (laws : Laws) (modules : List TypedModuleTree) (entries : List (List ℕ)) (program : IsProgram modules entries) (checked : All IsChecked modules) where
   pub joins : Joins modules (env_of modules)
   joins = record {
-    bodies = bodies_walk modules entries program checked (laws.suits modules entries program) laws.bodies;
-    calls = calls_there modules entries program checked (laws.suits modules entries program) laws.names laws.functions;
-    guards = guards_there modules entries program checked (laws.suits modules entries program) laws.shared_ones laws.guards;
+    bodies = bodies_walk modules entries program checked (laws.well_formed modules entries program) laws.bodies;
+    calls = calls_there modules entries program checked (laws.well_formed modules entries program) laws.names laws.functions;
+    guards = guards_there modules entries program checked (laws.well_formed modules entries program) laws.shared_ones laws.guards;
   }
 
   entered : (i : ℕ) (f : FunctionAt) → slice_get (entries_of modules entries) i ≡ Some f → HoldsNone modules (env_of modules) joins laws.footprints f
   entered i f there =
       let (unit, it, at_place, none) = laws.entries modules entries program i f there in
-      (unit, it, at_place, λ w. ap (λ s. counted modules (env_of modules) f.unit s w) (own_is modules entries program checked (laws.suits modules entries program) f unit it at_place ∙ ap set_of none))
+      (unit, it, at_place, λ w. ap (λ s. counted modules (env_of modules) f.unit s w) (own_is modules entries program checked (laws.well_formed modules entries program) f unit it at_place ∙ ap set_of none))
 
   reached : (w : World) → Reaches (env_of modules) (program_world modules entries) w → IsOwned modules (env_of modules) w
   reached w r = held_reached modules (env_of modules) joins laws.footprints (entries_of modules entries) (initial_words modules) w entered r

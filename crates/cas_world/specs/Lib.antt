@@ -1,6 +1,6 @@
 pub mod World
 pub mod Races
-pub mod Walks
+pub mod Lock_flow
 pub mod Owned
 pub mod Turns
-pub mod Fitting
+pub mod Sound_worlds

@@ -6,15 +6,15 @@ use Rattle.cas_step.specs.Asks.{word}
 use Rattle.cas_step.specs.Env.{FunctionAt, Env}
 use Rattle.cas_step.specs.Step.{Config, Step, step, start}
 
--- a world: the threads, the shared words, for each word the holder of the lock that it is, or none, and the output: pairs of
--- thread and word
+-- a world: the threads, the shared words, for each word the thread that holds the lock of this word, if any, and the
+-- output, pairs of thread and word
 pub record World : Type 0 where
   pub threads : List Config
   pub words : List ℕ
   pub holders : List (Option ℕ)
   pub out : List (ℕ × ℕ)
 
--- an act that may be taken where these are the holders: none that is Bad, and no Lock of a lock that has a holder
+-- an act is enabled unless it is Bad, or takes a lock that has a holder
 abbrev pub IsEnabled : Act → List (Option ℕ) → Type 0
 IsEnabled (act.Lock l) holders = slice_get holders l ≡ Some None
 IsEnabled (act.Bad why) holders = ⊥
@@ -51,13 +51,14 @@ pub record MayStep (e : Env) (w : World) (thread : ℕ) (s : Step) : Type 0 wher
   pub next : IsNext e w thread s
   pub enabled : IsEnabled s.act w.holders
 
--- an interleaving, a list of thread numbers, each of a thread that may step in the world before, goes from the first world to this
+-- an interleaving leads from the first world to this one: a list of thread numbers, each of a thread that may step
+-- in the world before
 pub data Interleaves (e : Env) (first : World) : List ℕ → World → Type 0 where
   at_first : Interleaves e first [] first
   and_step : {threads : List ℕ} {w : World} → Interleaves e first threads w →
       (i : ℕ) (s : Step) → MayStep e w i s → Interleaves e first (threads ++ i ∷ []) (world_after w i s)
 
--- threads at the start of these functions, each with its own number, from this one on, as its argument
+-- threads at the start of these functions; the argument of each is its number, counted from this one on
 abbrev pub started : Env → (thread : ℕ) → (entries : List FunctionAt) → List Config
 started e i [] = []
 started e i (f ∷ fs) = start e f (word i ∷ []) ∷ started e (i + 1) fs
@@ -71,7 +72,7 @@ first_world e entries initial = record {
   out = [];
 }
 
--- some interleaving from the first world reaches this one
+-- some interleaving leads from the first world to this one
 abbrev pub Reaches : Env → (first : World) → World → Type 0
 Reaches e first w = (threads : List ℕ) × Interleaves e first threads w
 

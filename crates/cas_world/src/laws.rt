@@ -1,13 +1,14 @@
 //! Laws of programs of checked modules, each the contract of a function without effect.
 
-ghost use Rattle.cas_world.specs.Fitting.{EndsAreTold, WorldsFit};
+ghost use Rattle.cas_world.specs.Sound_worlds.{EndsAreReported, WorldsAreSound};
 ghost use Rattle.cas_world.specs.Owned.{StepsKeepOwned, WorldsAreOwned};
 ghost use Rattle.cas_world.specs.Races.{RacesAbsent, TouchesAreGuarded, UnlocksAreOfHolders};
 ghost use Rattle.cas_world.specs.Turns.{RoundsInterleave, RoundsStay, RoundsTakeTurns, TurnsInterleave, TurnsMove, TurnsStay};
-ghost use Rattle.cas_world.specs.Walks.{NamesAreWalked};
+ghost use Rattle.cas_world.specs.Lock_flow.{NamesAreChecked};
 
-/// Each program of checked modules is race-free, safe or not: no two threads that may step touch one shared word, one of
-/// them writing it. (Race freedom by ownership, as in concurrent separation logic.)
+/// Each program of checked modules is race-free, safe or not: in no reachable world do two threads that may step
+/// touch one shared word with at least one of them writing it. (Race freedom by ownership, as in concurrent
+/// separation logic.)
 pub fn races_absent()
     ensures { RacesAbsent }
 {
@@ -15,61 +16,61 @@ pub fn races_absent()
     cas_program::laws::declarations_agree();
 }
 
-/// In each program of checked modules a thread whose next step touches a word is the holder of the lock that guards it,
-/// also where the step is Bad.
+/// In each program of checked modules a thread whose next step touches a word holds the lock that guards the word,
+/// even if the step is Bad.
 pub fn touches_are_guarded()
     ensures { TouchesAreGuarded }
 {
     cas_typed::laws::typed_modules_have_bodies();
     cas_step::laws::footprints_are_named();
-    cas_program::laws::programs_suit();
+    cas_program::laws::environments_are_well_formed();
     cas_program::laws::entries_are_entered();
     cas_program::laws::guards_are_locks();
     cas_program::laws::declarations_agree();
 }
 
-/// In each program of checked modules a thread that gives back a lock is its holder: none gives back what another holds.
+/// In each program of checked modules a thread that releases a lock holds it: no thread releases a lock of another.
 pub fn unlocks_are_of_holders()
     ensures { UnlocksAreOfHolders }
 {
     cas_typed::laws::typed_modules_have_bodies();
     cas_step::laws::footprints_are_named();
-    cas_program::laws::programs_suit();
+    cas_program::laws::environments_are_well_formed();
     cas_program::laws::entries_are_entered();
     cas_program::laws::guards_are_locks();
     cas_program::laws::declarations_agree();
 }
 
-/// In each program of checked modules the worlds that are reached are owned, and each step keeps that: the activations of a
-/// thread have the sets with which the check walks what they have to do, each lock's holder is the thread that has it
-/// in one of its activations' parts, and each holder is a thread of the world.
+/// In each program of checked modules each reachable world is owned, and each step keeps that: the continuations of
+/// a thread's activations have the lock flow that the ownership check has walked, each lock is held by the thread
+/// that has it in one of its activations' parts, and each holder is a thread of the world.
 pub fn worlds_are_owned()
     ensures reached { WorldsAreOwned }
     ensures kept { StepsKeepOwned }
 {
     cas_typed::laws::typed_modules_have_bodies();
     cas_step::laws::footprints_are_named();
-    cas_program::laws::programs_suit();
+    cas_program::laws::environments_are_well_formed();
     cas_program::laws::entries_are_entered();
     cas_program::laws::guards_are_locks();
     cas_program::laws::declarations_agree();
 }
 
-/// The ownership check walks each global that an expression, a target or an argument names, in the order in which they stand:
-/// those that a footprint may have words of.
-pub fn names_are_walked()
-    ensures { NamesAreWalked }
+/// The ownership check checks each global that an expression, a target or an argument names, in order of text. These
+/// are the globals whose words may be in a footprint.
+pub fn names_are_checked()
+    ensures { NamesAreChecked }
 {}
 
-/// What a schedule comes to is reached by the interleaving of those of its threads whose turns are taken, in their order; and
-/// so are rounds.
+/// A schedule leads to the same world as the interleaving of its turns that are taken, in their order; and so do
+/// rounds.
 pub fn turns_interleave()
     ensures schedule { TurnsInterleave }
     ensures rounds { RoundsInterleave }
 {}
 
-/// A turn that is taken changes its thread. So a thread whose turn changes nothing stays so, behind a round that changes
-/// nothing none does, and a round changes nothing exactly where no turn in it is taken.
+/// A turn that is taken changes its thread. So a turn that changes nothing still does so when it is repeated, after
+/// a round that changes nothing none does, and a round changes nothing exactly if no turn in it is taken.
 pub fn turns_stay()
     ensures moved { TurnsMove }
     ensures thread { TurnsStay }
@@ -77,17 +78,18 @@ pub fn turns_stay()
     ensures taken { RoundsTakeTurns }
 {}
 
-/// In each program with at most 2^32 threads, checked or not, each world that is reached fits: its words are values of their
-/// kinds, its threads are sound and never stuck, and each lock that a next step takes or gives back is there. So what a thread stands at
-/// is its end exactly where it has ended. (Type soundness by preservation and progress, of threads that take turns.)
-pub fn worlds_fit()
-    ensures fit { WorldsFit }
-    ensures ends { EndsAreTold }
+/// In each program with at most 2^32 threads, checked or not, each reachable world is sound: its store is
+/// well-typed, its threads are sound and never stuck, and each lock that a next step takes or releases exists. So
+/// the state of a thread is `ended` exactly if it has ended. (Type soundness by progress and preservation, for
+/// threads that take turns.)
+pub fn worlds_are_sound()
+    ensures fit { WorldsAreSound }
+    ensures ends { EndsAreReported }
 {
-    cas_program::laws::programs_suit();
+    cas_program::laws::environments_are_well_formed();
     cas_program::laws::entries_are_entered();
-    cas_program::laws::initial_words_fit();
+    cas_program::laws::initial_store_is_well_typed();
     cas_program::laws::guards_are_locks();
-    cas_step::laws::fitting_is_sound();
-    cas_step::laws::sound_threads_step();
+    cas_step::laws::reachable_threads_are_sound();
+    cas_step::laws::progress_and_preservation();
 }

@@ -1,8 +1,8 @@
-//! Worlds: threads that take turns over shared words and locks. The definitions stand in `specs/`: a world and its steps,
-//! interleavings (`World`), safe and race-free programs (`Races`), what activations have to do as the ownership check walks
-//! it (`Walks`), which locks threads own (`Owned`), which worlds fit (`Fitting`), and what schedules and rounds come to
-//! (`Turns`). That programs of checked modules are race-free is in `laws`, and that no thread of a program is stuck. It
-//! stands on `cas_base`, `cas_typed`, `cas_own`, `cas_step` and `cas_program`.
+//! Worlds: threads that take turns over shared words and locks. This crate has definitions and their laws, and no
+//! code. The definitions are in `specs/`: worlds, their steps and interleavings (`World`), safe and race-free
+//! programs (`Races`), the invariant of the lock flow (`Lock_flow`), ownership of locks (`Owned`), sound worlds
+//! (`Sound_worlds`), and schedules and rounds (`Turns`). The contracts of `laws` prove that programs of checked
+//! modules are race-free, and that no thread of a program is stuck.
 #![tactic(auto)]
 
 pub mod laws;

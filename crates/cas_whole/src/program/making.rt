@@ -17,8 +17,8 @@ use cas_typed::Typed;
 use std::alloc::Global;
 
 impl Program {
-    /// The program of these modules whose threads begin at these functions. It is refused as `settle` refuses the modules'
-    /// declarations with these entries.
+    /// The program of these modules whose threads begin at these functions. It is refused as `settle` refuses the
+    /// modules' declarations with these entries.
     pub fn new(alloc: Global, modules: Vec<Typed>, entries: &[Name]) -> Result<Program, LinkFault>
         requires few_modules { vec_len modules < 2 ^ 32 }
         requires few_entries { length entries.now < 2 ^ 32 }

@@ -2,7 +2,7 @@
 
 ghost use Rattle.std.specs.Prelude.{◌≡◌, ℕ, List, Some, slice_get, IfSome, IsSome};
 ghost use Rattle.cas_typed.specs.Resolved.{TypedFunTree, TypedModuleTree};
-ghost use Rattle.cas_step.specs.Fits.{IsAt};
+ghost use Rattle.cas_step.specs.Well_formed.{IsAt};
 ghost use Rattle.cas_memory.specs.Entities.{entity_if};
 ghost use Rattle.cas_program.specs.Program.{env_of};
 ghost use Rattle.cas_whole.specs.Bodies.{IsBodyOf, typed_at};
@@ -13,7 +13,7 @@ use crate::program::Program;
 use cas_memory::Entity;
 
 impl Program {
-    /// What the items of a module stand for, each by its number. There is none where there is no such module.
+    /// What the items of a module stand for, each by its number. There is none if there is no such module.
     pub fn items(&self, unit: u32) -> &[Option<Entity>]
         ensures { (ms : List TypedModuleTree) (names : List (List ℕ)) (item : ℕ) → IsProgramOf self.now ms names → entity_if (slice_get result.now item) ≡ (env_of ms).entity unit item }
     {

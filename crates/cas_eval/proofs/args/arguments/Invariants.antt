@@ -2,13 +2,13 @@ use Rattle.std.proofs.Common.{◌≡◌, ◌++◌, length, map}
 use Rattle.cas_step.specs.Evaluate.{values_of}
 use Rattle.cas_typed.specs.Resolved.{typed_expr_tree}
 use Rattle.cas_memory.specs.Values.{value_of}
-use Rattle.cas_eval.specs.Answer.{answer, around, sight, told}
+use Rattle.cas_eval.specs.Answer.{answer, eval_state, eval_context, map_answer}
 use Rattle.cas_eval.proofs.args.arguments.Given as goal
 
 abbrev pub invariant-each : goal.invariant-each
 invariant-each l =
-    answer (around l.here) (values_of (sight (around l.here)) (map typed_expr_tree l.args))
-    ≡ told (λ vs. map value_of l.values.items ++ vs) (answer (around l.here) (values_of (sight (around l.here)) (map typed_expr_tree l.rest)))
+    answer (eval_state l.context) (values_of (eval_context (eval_state l.context)) (map typed_expr_tree l.args))
+    ≡ map_answer (λ vs. map value_of l.values.items ++ vs) (answer (eval_state l.context) (values_of (eval_context (eval_state l.context)) (map typed_expr_tree l.rest)))
 
 abbrev pub decreases-each : goal.decreases-each
 decreases-each l = length l.rest

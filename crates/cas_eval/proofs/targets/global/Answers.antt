@@ -1,15 +1,15 @@
 use Rattle.std.proofs.Common.{sym}
 use Rattle.cas_step.specs.Evaluate.{of_global}
-use Rattle.cas_eval.specs.Answer.{around}
+use Rattle.cas_eval.specs.Answer.{eval_state}
 use Rattle.cas_eval.specs.Cells.{cell_view}
 use Rattle.cas_eval.proofs.Answering.{given, ok_then, stops}
 use Rattle.cas_eval.proofs.targets.global.Goals as goal
 
 pub returns-in_err-place : goal.returns-in_err-place
 returns-in_err-place c =
-    stops cell_view _ _ (around c.args.here.now) _ _ c.from_residual.ensures.1 c.in_err-place.ensures
+    stops cell_view _ _ (eval_state c.args.context.now) _ _ c.from_residual.ensures.1 c.in_err-place.ensures
 
 pub returns : goal.returns
 returns c =
-    ok_then (around c.args.here.now) _ _ _ _ c.in_ok-place.ensures
-    (sym (given (around c.args.here.now) (of_global c.args.item c.in_ok-place.place)))
+    ok_then (eval_state c.args.context.now) _ _ _ _ c.in_ok-place.ensures
+    (sym (given (eval_state c.args.context.now) (of_global c.args.item c.in_ok-place.place)))

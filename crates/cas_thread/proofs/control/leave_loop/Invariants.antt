@@ -1,11 +1,11 @@
 use Rattle.std.proofs.Common.{◌≡◌, List, reverse, vec_len, vec_capacity}
-use Rattle.cas_step.specs.Items.{Todo, after_break}
-use Rattle.cas_thread.specs.Todos.{Shows}
+use Rattle.cas_step.specs.Continuation.{ContItem, after_break}
+use Rattle.cas_thread.specs.Continuations.{IsContinuation}
 use Rattle.cas_thread.proofs.control.leave_loop.Given as goal
 
 abbrev pub invariant-loop-item : goal.invariant-loop-item
-invariant-loop-item l = (vec_capacity l.todo ≡ vec_capacity l.initial.todo) ×
-    ((it : List Todo) → Shows l.rows (reverse l.initial.todo.items) it → (rest : List Todo) × Shows l.rows (reverse l.todo.items) rest × (after_break it ≡ after_break rest))
+invariant-loop-item l = (vec_capacity l.cont ≡ vec_capacity l.initial.cont) ×
+    ((it : List ContItem) → IsContinuation l.rows (reverse l.initial.cont.items) it → (rest : List ContItem) × IsContinuation l.rows (reverse l.cont.items) rest × (after_break it ≡ after_break rest))
 
 abbrev pub decreases-loop-item : goal.decreases-loop-item
-decreases-loop-item l = vec_len l.todo
+decreases-loop-item l = vec_len l.cont

@@ -1,5 +1,5 @@
 use Rattle.std.proofs.Common.{ℕ, Option, subst, ◌∙◌}
-use Rattle.cas_thread.specs.Todos.{IsPart}
+use Rattle.cas_thread.specs.Continuations.{IsPart}
 use Rattle.cas_thread.proofs.Placing.{next_is, none_next}
 use Rattle.cas_thread.proofs.place.next_place.Goals as goal
 

@@ -1,6 +1,6 @@
 use Rattle.std.proofs.Common.{List, reverse, sym, ap, ◌∙◌}
 use Rattle.cas_program.specs.Program.{env_of}
-use Rattle.cas_step.specs.Step.{Here}
+use Rattle.cas_step.specs.Step.{StepContext}
 use Rattle.cas_typed.specs.declared.typed.Typed.{Typed}
 use Rattle.cas_thread.specs.Frames.{rows_at}
 use Rattle.cas_thread.proofs.Arounds.{newest_frame, none_newest}
@@ -16,7 +16,7 @@ returns-in-Some-clause-first c = λ ms names k a older program thread going.
     let f = c.in-Some.frame.now in
     let frame = newest_frame c.args.program.now.modules (reverse c.args.config.now.frames.items) some.0 f k.activations older a some.1 thread.frames_are going in
     let rows = c.rows_of-rows.ensures ∙ ap (λ (ts : List Typed). rows_at ts f.unit f.place) c.modules.ensures in
-    prints_shown c.rows_of-rows.result.now c.as_slice.result.now _ f.todo.items a.todo c.first_prints.result rows c.as_slice.ensures.value frame.todo c.first_prints.ensures
+    prints_shown c.rows_of-rows.result.now c.as_slice.result.now _ f.cont.items a.cont c.first_prints.result rows c.as_slice.ensures.value frame.cont c.first_prints.ensures
 
 pub returns-in-Some-clause-none : goal.returns-in-Some-clause-none
 returns-in-Some-clause-none c = λ k thread ended.
@@ -27,12 +27,12 @@ pub returns-in-Some-clause-other : goal.returns-in-Some-clause-other
 returns-in-Some-clause-other c = on_false c.first_prints.result (λ none words ms names k s program thread steps n.
     let e = env_of ms in
     let (a, older, going) = newest_of e words k s steps in
-    let h : Here = record { config = k; newest = a; older = older; words = words } in
+    let h : StepContext = record { config = k; newest = a; older = older; words = words } in
     let some = c.in-Some.ensures.some in
     let f = c.in-Some.frame.now in
     let frame = newest_frame c.args.program.now.modules (reverse c.args.config.now.frames.items) some.0 f k.activations older a some.1 thread.frames_are going in
     let rows = c.rows_of-rows.ensures ∙ ap (λ (ts : List Typed). rows_at ts f.unit f.place) c.modules.ensures in
-    let first = prints_shown c.rows_of-rows.result.now c.as_slice.result.now _ f.todo.items a.todo c.first_prints.result rows c.as_slice.ensures.value frame.todo c.first_prints.ensures in
+    let first = prints_shown c.rows_of-rows.result.now c.as_slice.result.now _ f.cont.items a.cont c.first_prints.result rows c.as_slice.ensures.value frame.cont c.first_prints.ensures in
     step_puts_none e h s n (sym first ∙ none) (step_at e words k a older s going steps))
 
 pub returns-in-None-clause-first : goal.returns-in-None-clause-first

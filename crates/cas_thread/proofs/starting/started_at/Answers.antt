@@ -20,4 +20,4 @@ returns c = λ ts ms typed there.
     ∙ ap (λ ls. block (locals_of (map (λ v. v.ty) ls) vs) c.new-memory.result) c.as_slice.ensures
     ∙ ap (block (locals_of (map (λ v. v.ty) f.locals) vs)) c.new-memory.ensures in
     starts_at ts ms typed (stands_at c.args.at) f there frame c.push.new.self.items c.push-2.new.self vs
-    at_is (sym made.ensures.serial) (sym made.ensures.target) made.ensures.todo made.ensures.room frames_is memory_is
+    at_is (sym made.ensures.serial) (sym made.ensures.target) made.ensures.cont made.ensures.room frames_is memory_is

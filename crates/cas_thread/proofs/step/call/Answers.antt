@@ -1,7 +1,7 @@
 use Rattle.std.proofs.Common.{◌≡◌, ℕ, true, List, Some, Err, map, sym, ap, subst, ◌∙◌}
 use Rattle.std.proofs.Math.Logic.{∥∥₁_map}
 use Rattle.cas_step.specs.Asks.{Value}
-use Rattle.cas_step.specs.Items.{calls}
+use Rattle.cas_step.specs.Continuation.{calls}
 use Rattle.cas_step.specs.Step.{Config, Object, Step, doing, entity_in, step_to, with_call}
 use Rattle.cas_base.specs.declared.act.Act.TheVariants as act
 use Rattle.cas_memory.specs.Values.{value_of}
@@ -14,7 +14,7 @@ use Rattle.cas_whole.specs.Whole.{AreTyped, function_at as stands_at}
 use Rattle.cas_thread.specs.Calls.{IsReady, function_place}
 use Rattle.cas_thread.specs.Control.{after}
 use Rattle.cas_thread.specs.Frames.{AreThread}
-use Rattle.cas_thread.proofs.Doing.{Deeds, does_step, bad_steps, never_stuck}
+use Rattle.cas_thread.proofs.Doing.{Effects, does_step, bad_steps, never_stuck}
 use Rattle.cas_thread.proofs.Passed.{ok_so, on_err}
 use Rattle.cas_thread.proofs.Entering.{called_step, called_nowhere}
 use Rattle.cas_thread.proofs.Lock_acts.{call_act}
@@ -26,13 +26,13 @@ enter-requires c = ∥∥₁_map c.requires
     (w.2, subst (λ (ts : List Typed). AreThread ts c.args.config.now w.2) (sym c.modules-modules.ensures) w.4))
 
 pub returns-in-Some-clause-taken : goal.returns-in-Some-clause-taken
-returns-in-Some-clause-taken c = ok_so c.enter.result _ _ (λ done entered ms names h s program thread is words begins steps.
+returns-in-Some-clause-taken c = ok_so c.enter.result _ _ (λ done entered ms names h program thread is words begins s steps.
     let e = env_of ms in
-    let left = after true h.newest.todo in
+    let left = after true h.newest.cont in
     let ready = c.in-Ok.ready in
     let vs = map value_of ready.values.items in
-    let deed = calls ready.item vs ready.kept left in
-    let w = does_step e h s deed (c.in-Ok.ensures ms names h program thread is words begins) steps in
+    let effect = calls ready.item vs ready.kept left in
+    let w = does_step e h s effect (c.in-Ok.ensures ms names h program thread is words begins) steps in
     let entities = c.items_of-items.ensures ms names h program thread is ready.item in
     let place : Some c.in-Some.at ≡ function_place (entity_in e h ready.item) = c.in-Some.ensures ∙ ap function_place entities in
     let x = called_step e h w.0 s (entity_in e h ready.item) vs ready.kept left c.in-Some.at place w.1 in
@@ -46,9 +46,9 @@ returns-in-Some-clause-taken c = ok_so c.enter.result _ _ (λ done entered ms na
     (taken.0, subst (λ (ts : List Typed). AreThread ts c.enter.new.self s.next) mods taken.1, words ∙ ap (λ (z : Step). z.words) x.1)) c.enter.ensures.taken
 
 pub returns-in-Ok-clause-taken : goal.returns-in-Ok-clause-taken
-returns-in-Ok-clause-taken c = λ ms names h s program thread is words begins steps.
+returns-in-Ok-clause-taken c = λ ms names h program thread is words begins s steps.
     let e = env_of ms in
-    let left = after true h.newest.todo in
+    let left = after true h.newest.cont in
     let ready = c.in-Ok.ready in
     let vs = map value_of ready.values.items in
     let w = does_step e h s (calls ready.item vs ready.kept left) (c.in-Ok.ensures ms names h program thread is words begins) steps in
@@ -56,23 +56,23 @@ returns-in-Ok-clause-taken c = λ ms names h s program thread is words begins st
     absurd (called_nowhere e h w.0 s (entity_in e h ready.item) vs ready.kept left (c.in-None.ensures ∙ ap function_place entities) w.1)
 
 pub returns-clause-taken : goal.returns-clause-taken
-returns-clause-taken c = λ ms names h s program thread is words begins steps.
+returns-clause-taken c = λ ms names h program thread is words begins s steps.
     let e = env_of ms in
-    let left = after true h.newest.todo in
-    let fails = subst (λ (x : NoArguments). IsReady (Deeds e h s) left (Err x)) c.in-OfValue.is (c.in-Err.ensures ms names h program thread is words begins) in
+    let left = after true h.newest.cont in
+    let fails = subst (λ (x : NoArguments). IsReady (Effects e h s) left (Err x)) c.in-OfValue.is (c.in-Err.ensures ms names h program thread is words begins) in
     absurd (never_stuck e h s (fails ∙ ap Err c.in-Stuck.is) steps)
 
 pub returns-in-Bad-clause-taken : goal.returns-in-Bad-clause-taken
-returns-in-Bad-clause-taken c = λ ms names h s program thread is words begins steps.
+returns-in-Bad-clause-taken c = λ ms names h program thread is words begins s steps.
     let e = env_of ms in
-    let left = after true h.newest.todo in
-    let fails = subst (λ (x : NoArguments). IsReady (Deeds e h s) left (Err x)) c.in-OfValue.is (c.in-Err.ensures ms names h program thread is words begins) in
+    let left = after true h.newest.cont in
+    let fails = subst (λ (x : NoArguments). IsReady (Effects e h s) left (Err x)) c.in-OfValue.is (c.in-Err.ensures ms names h program thread is words begins) in
     bad_steps e h s c.args.program.now.modules c.args.config.now c.args.words.now c.in-Bad.why thread words (fails ∙ ap Err c.in-Bad.is) steps
 
 pub returns-in-Some-clause-quiet : goal.returns-in-Some-clause-quiet
-returns-in-Some-clause-quiet c = on_err c.enter.result _ (λ ms names h s program thread is words begins steps.
+returns-in-Some-clause-quiet c = on_err c.enter.result _ (λ ms names h program thread is words begins s steps.
     let e = env_of ms in
-    let left = after true h.newest.todo in
+    let left = after true h.newest.cont in
     let ready = c.in-Ok.ready in
     let vs = map value_of ready.values.items in
     let w = does_step e h s (calls ready.item vs ready.kept left) (c.in-Ok.ensures ms names h program thread is words begins) steps in

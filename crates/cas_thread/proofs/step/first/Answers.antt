@@ -1,10 +1,10 @@
 use Rattle.std.proofs.Common.{ℕ, List, reverse, sym, ap, subst, ◌∙◌}
 use Rattle.cas_step.specs.Env.{FunctionAt}
-use Rattle.cas_eval.specs.Answer.{around}
+use Rattle.cas_eval.specs.Answer.{eval_state}
 use Rattle.cas_program.specs.Program.{env_of}
 use Rattle.cas_typed.specs.declared.typed.Typed.{Typed}
 use Rattle.cas_thread.specs.Frames.{rows_at}
-use Rattle.cas_thread.specs.Todos.{Shows}
+use Rattle.cas_thread.specs.Continuations.{IsContinuation}
 use Rattle.cas_thread.proofs.Arounds.{around_same, first_there, newest_frame}
 use Rattle.cas_thread.proofs.There.{is_there}
 use Rattle.cas_thread.proofs.step.first.Goals as goal
@@ -17,15 +17,15 @@ returns-in-Some-function c = λ ms names h program thread is words.
     let f = c.in-Some.frame.now in
     let frame = newest_frame ts (reverse c.args.config.now.frames.items) some.0 f h.config.activations h.older h.newest some.1 thread.frames_are is in
     let found = c.in-Some-function.ensures.found ms names program in
-    let here = c.here_in-here in
-    let r = around here.result in
-    let entities = λ (g : ℕ). here.ensures.items ms names g program ∙ ap (λ (x : FunctionAt). e.entity x.unit g) (sym frame.function) in
-    let same = around_same e h r entities (here.ensures.words ∙ words) (here.ensures.memory ∙ sym thread.memory_is) (here.ensures.serial ∙ sym frame.serial) in
+    let context = c.context_in-context in
+    let r = eval_state context.result in
+    let entities = λ (g : ℕ). context.ensures.items ms names g program ∙ ap (λ (x : FunctionAt). e.entity x.unit g) (sym frame.function) in
+    let same = around_same e h r entities (context.ensures.words ∙ words) (context.ensures.memory ∙ sym thread.memory_is) (context.ensures.serial ∙ sym frame.serial) in
     let ret = sym found.ret ∙ ap (λ (x : FunctionAt). (e.function x).ret) (sym frame.function) in
     let rows = c.rows_of-rows.ensures ∙ ap (λ (ts' : List Typed). rows_at ts' f.unit f.place) c.modules.ensures in
-    let shows : Shows c.rows_of-rows.result.now (reverse c.as_slice.result.now) h.newest.todo =
-    subst (λ xs. Shows c.rows_of-rows.result.now (reverse xs) h.newest.todo) (sym c.as_slice.ensures.value)
-    (subst (λ rs. Shows rs (reverse f.todo.items) h.newest.todo) (sym rows) frame.todo) in
+    let shows : IsContinuation c.rows_of-rows.result.now (reverse c.as_slice.result.now) h.newest.cont =
+    subst (λ xs. IsContinuation c.rows_of-rows.result.now (reverse xs) h.newest.cont) (sym c.as_slice.ensures.value)
+    (subst (λ rs. IsContinuation rs (reverse f.cont.items) h.newest.cont) (sym rows) frame.cont) in
     first_there e h r c.in-Some-function.body.ret c.rows_of-rows.result.now (reverse c.as_slice.result.now) c.first_step.result same ret shows c.first_step.ensures
 
 pub returns-in-None-function : goal.returns-in-None-function

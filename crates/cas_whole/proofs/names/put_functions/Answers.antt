@@ -1,7 +1,7 @@
+use Rattle.cas_typed.specs.Modules.{decls_of_items}
 use Rattle.std.proofs.Common.{List, subst}
 use Rattle.std.proofs.lemmas.List.{nil_from_length}
 use Rattle.cas_syntax.specs.declared.tree.Item.{Item}
-use Rattle.cas_whole.specs.Names.{decls_of_items}
 use Rattle.cas_whole.proofs.Tables.{HasFunctions, functions_done}
 use Rattle.cas_whole.proofs.names.put_functions.Goals as goal
 

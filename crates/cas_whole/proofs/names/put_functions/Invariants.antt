@@ -1,6 +1,6 @@
+use Rattle.cas_typed.specs.Modules.{decls_of_items}
 use Rattle.std.proofs.Common.{◌≡◌, ◌+◌, length}
 use Rattle.cas_base.specs.Decl.{functions_of}
-use Rattle.cas_whole.specs.Names.{decls_of_items}
 use Rattle.cas_whole.proofs.Tables.{HasFunctions}
 use Rattle.cas_whole.proofs.names.put_functions.Given as goal
 

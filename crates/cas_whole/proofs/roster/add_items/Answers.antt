@@ -1,8 +1,7 @@
 use Rattle.std.proofs.Common.{List, [], ◌∷◌, ◌++◌, sym, ap, ◌∙◌, append_assoc, arith}
 use Rattle.cas_syntax.specs.Tree.{item_tree}
 use Rattle.cas_syntax.specs.declared.tree.Item.{Item}
-use Rattle.cas_typed.specs.Modules.{decl_of}
-use Rattle.cas_whole.specs.Names.{decls_of_items}
+use Rattle.cas_typed.specs.Modules.{decl_of, decls_of_items}
 use Rattle.cas_whole.proofs.Rosters.{made_more}
 use Rattle.cas_whole.proofs.roster.add_items.Goals as goal
 

@@ -1,6 +1,6 @@
+use Rattle.cas_typed.specs.Modules.{decls_of_items}
 use Rattle.std.proofs.Common.{◌≡◌, ◌<◌, ◌∷◌, [], ◌++◌, List, length}
 use Rattle.cas_base.specs.declared.decl.Decl.{Decl}
-use Rattle.cas_whole.specs.Names.{decls_of_items}
 use Rattle.cas_whole.proofs.roster.add_items.Given as goal
 
 abbrev pub invariant-items : goal.invariant-items

@@ -5,7 +5,7 @@ pub returns : goal.returns
 returns c =
     races.touches_are_guarded
     (record {
-      suits = c.programs_suit.ensures;
+      well_formed = c.environments_are_well_formed.ensures;
       bodies = c.typed_modules_have_bodies.ensures.bodies;
       shared_ones = c.guards_are_locks.ensures.shared_ones;
       guards = c.guards_are_locks.ensures.guards;

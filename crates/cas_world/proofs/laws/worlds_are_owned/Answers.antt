@@ -4,7 +4,7 @@ use Rattle.cas_world.proofs.laws.worlds_are_owned.Goals as goal
 pub returns : goal.returns
 returns c =
     let laws : races.Laws = record {
-      suits = c.programs_suit.ensures;
+      well_formed = c.environments_are_well_formed.ensures;
       bodies = c.typed_modules_have_bodies.ensures.bodies;
       shared_ones = c.guards_are_locks.ensures.shared_ones;
       guards = c.guards_are_locks.ensures.guards;

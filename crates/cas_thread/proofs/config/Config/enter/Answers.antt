@@ -38,7 +38,7 @@ returns-in_ok-push-in-Some-clause-taken c = λ ms h rs s m it typed thread is at
       ap (λ (x : Step). Some x.act) steps,
       subst (AreParts ts behind left next) (ap (λ (x : Step). x.next) steps)
           (entered ts ms typed (stands_at c.args.at) f c.in-Some.ensures.some h frame self.frames.items between behind c.args.target vs self.memory left self.fresh next
-          at_is (sym made.ensures.serial) (sym made.ensures.target) made.ensures.todo made.ensures.room thread is goes c.push_reserved.ensures.items left_is next_is),
+          at_is (sym made.ensures.serial) (sym made.ensures.target) made.ensures.cont made.ensures.room thread is goes c.push_reserved.ensures.items left_is next_is),
     )
 
 pub returns-in-None-clause-taken : goal.returns-in-None-clause-taken

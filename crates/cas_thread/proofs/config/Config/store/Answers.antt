@@ -5,7 +5,7 @@ use Rattle.cas_thread.proofs.Frames_kept.{before_with}
 use Rattle.cas_thread.proofs.config.Config.store.Goals as goal
 
 pub returns : goal.returns
-returns c = λ modules h todo are.
+returns c = λ modules h cont are.
     let o = object_of c.args.object in
     let v = value_of c.args.value in
     record {

@@ -7,7 +7,7 @@ use Rattle.cas_world.specs.Turns.{turns}
 use Rattle.cas_world.specs.World.{World}
 use Rattle.cas_turn.proofs.world.World.schedule.Given as goal
 
--- the world behind the turns of the items before the rest
+-- the world after the turns of the items before the rest
 abbrev pub invariant-items : goal.invariant-items
 invariant-items l = (l.self.program ≡ l.fn.self.program)
     × ((ms : List TypedModuleTree) (names : List (List ℕ)) (w : World) → IsWorldOf l.fn.self ms names w →

@@ -18,7 +18,7 @@ state_at-requires-clause-may c =
     let facts : worlds.Facts = record { modules = c.programs_are_one.ensures.modules; entries = c.programs_are_one.ensures.entries; threads = c.threads_are_one.ensures } in
     let within : c.args.thread < length w.threads.items = omega (arith, c.if-thread-threads.false, w.threads.ok.0) in
     let at : slice_get w.threads.items c.args.thread ≡ Some c.index-config.result.now = worlds.element_at w.threads.items c.args.thread c.index-config.result.now within c.index-config.ensures in
-    rw c.deref.ensures.value (worlds.may facts w.program w.threads.items w.shared.words.items w.holders.items w.out.items c.args.thread c.index-config.result.now at c.worlds_fit.ensures.fit w.reached)
+    rw c.deref.ensures.value (worlds.may facts w.program w.threads.items w.shared.words.items w.holders.items w.out.items c.args.thread c.index-config.result.now at c.worlds_are_sound.ensures.fit w.reached)
 
 pub returns : goal.returns
 returns c =

@@ -17,7 +17,7 @@ turn-requires-clause-may c =
     let facts : worlds.Facts = record { modules = c.programs_are_one.ensures.modules; entries = c.programs_are_one.ensures.entries; threads = c.threads_are_one.ensures } in
     let within : c.args.thread < length w.threads.items = omega (arith, c.requires, w.threads.ok.0) in
     let at : slice_get w.threads.items c.args.thread ≡ Some c.index_mut.result.now = worlds.element_at w.threads.items c.args.thread c.index_mut.result.now within c.index_mut.ensures.value in
-    rw c.deref_mut.ensures.value (worlds.may facts w.program w.threads.items w.shared.words.items w.holders.items w.out.items c.args.thread c.index_mut.result.now at c.worlds_fit.ensures.fit w.reached)
+    rw c.deref_mut.ensures.value (worlds.may facts w.program w.threads.items w.shared.words.items w.holders.items w.out.items c.args.thread c.index_mut.result.now at c.worlds_are_sound.ensures.fit w.reached)
 
 pub invariant_of-self : goal.invariant_of-self
 invariant_of-self c =

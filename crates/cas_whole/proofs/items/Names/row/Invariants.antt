@@ -1,7 +1,8 @@
 use Rattle.std.proofs.Common.{◌≡◌, ◌++◌, length, map}
 use Rattle.std.specs.Option.{option_map}
 use Rattle.cas_memory.specs.Entities.{entity_of}
-use Rattle.cas_whole.specs.Names.{decls_of_items, meant_by}
+use Rattle.cas_typed.specs.Modules.{decls_of_items}
+use Rattle.cas_whole.specs.Names.{meant_by}
 use Rattle.cas_whole.proofs.items.Names.row.Given as goal
 
 abbrev pub invariant-items : goal.invariant-items

@@ -1,8 +1,0 @@
-use Rattle.cas_typed.specs.Numbered.{IsRow}
-use Rattle.cas_thread.proofs.Reading.{at_this}
-use Rattle.cas_thread.proofs.deed.first_at.Goals as goal
-
-pub returns-in-Some : goal.returns-in-Some
-returns-in-Some c = λ a todo at.
-    let rows = c.args.rows.now in
-    c.first_of.ensures rows c.args.number a todo (at_this rows c.args.number c.in-Some.row.now (IsRow rows c.args.number a) c.in-Some.ensures.some at)
