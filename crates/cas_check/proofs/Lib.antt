@@ -5,7 +5,6 @@ pub mod Declared
 pub mod Fitting
 pub mod Item_steps
 pub mod Items_walked
-pub mod Known
 pub mod Parts_within
 pub mod Rows_walked
 pub mod Steps

@@ -79,7 +79,7 @@ one_of rows i zero j less h = absurd (omega arith)
 one_of rows i (suc k) zero less h = let here : i ≡ i + 0 = omega arith in subst (λ (c : ℕ). HasParts rows c) here h.0
 one_of rows i (suc k) (suc j) less h = let next : i + 1 + j ≡ i + suc j = omega arith in subst (λ (c : ℕ). HasParts rows c) next (one_of rows (i + 1) k j (omega arith) h.1)
 
--- the rows of a statement behind its first
+-- the rows of a statement after its first
 abbrev inner_of : TypedStmtTree → ℕ
 inner_of (block p bs) = size_of_list bs
 inner_of (if_ p c a o) = size_of a + size_of_option o

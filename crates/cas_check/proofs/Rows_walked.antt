@@ -77,7 +77,7 @@ row_is rows n d a less at =
     let same : at.0 ≡ get_or rows n d = let this = at.1 in let that = row_there rows n d less in cc in
     subst (λ (r : StmtRow). IsRow rows n a r.place r.form) same at.2
 
--- the turns of a `for` behind its first part
+-- the turns of a `for` after its first part
 
 pub for_from : (next : Locks → Flow) (first : Flow) (o reached : Option Locks) → first ≡ on o → reached ≡ o → f.after first (λ r. f.with_set r next) ≡ f.with_set reached next
 for_from next first o reached is same = ap (λ (g : Flow). f.after g (λ r. f.with_set r next)) is ∙ ap (λ (r : Option Locks). f.with_set r next) (sym same)

@@ -31,7 +31,7 @@ abbrev pub OnwardWithin : (end : ℕ) → Option Locks → Type 0
 OnwardWithin end None = ⊤
 OnwardWithin end (Some s) = SetWithin end s
 
--- the set with which a walk goes on, or the lock of its fault
+-- the set with which a walk continues, or the lock of its fault
 abbrev pub FlowWithin : (end : ℕ) → Flow → Type 0
 FlowWithin end (on o) = OnwardWithin end o
 FlowWithin end (fault code p l) = l < end

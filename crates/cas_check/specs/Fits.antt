@@ -28,7 +28,7 @@ abbrev pub HaltWithin : (end : ℕ) → Halt → Type 0
 HaltWithin end h.Memory = ⊤
 HaltWithin end (h.Fault code p l) = l < end
 
--- but for want of memory, this is the fault
+-- unless it is out of memory, this is the fault
 abbrev pub Tells : OwnFault → Option OwnFaultTree → Type 0
 Tells Memory told = ⊤
 Tells (At code place lock) told = told ≡ Some (record { code = code; place = place; lock = lock })
@@ -38,13 +38,13 @@ abbrev pub Answers : Result ⊤ OwnFault → Option OwnFaultTree → Type 0
 Answers (Ok u) told = told ≡ None
 Answers (Err e) told = Tells e told
 
--- behind an item the faults are those of the others with the functions that are left, or else this is its fault
+-- after an item the faults are those of the others with the functions that are left, or else this is its fault
 abbrev pub Steps : (decls before : List Decl) → ItemTree → List ItemTree → List TypedFunTree → Result (Bor (List TypedFun)) OwnFault → Type 0
 Steps ds before a items rs (Ok fs) =
     (left : List TypedFunTree) × AreFunctionsOf left fs.now × (items_fault ds before (a ∷ items) rs ≡ items_fault ds (before ++ decl_of a ∷ []) items left)
 Steps ds before a items rs (Err e) = Tells e (items_fault ds before (a ∷ items) rs)
 
--- but for want of memory, the module has this fault first
+-- unless it is out of memory, the module has this fault first
 abbrev pub HasFault : TypedModuleTree → OwnFault → Type 0
 HasFault r Memory = ⊤
 HasFault r (At code place lock) = HasOwnFault r (record { code = code; place = place; lock = lock })

@@ -1,11 +1,9 @@
 -- How the code holds sets of locks, what a module's declarations say of locks, and what a walk comes to.
 use Rattle.std.specs.Prelude.{◌≡◌, ⊤, ℕ, ◌+◌, ◌≤◌, ◌<◌, List, [], ◌∷◌, length, Option, Some, None, Result, Ok, Err, slice_get, All}
 use Rattle.std.specs.Borrow.{Bor}
-use Rattle.std.specs.Map.{lookup}
-use Rattle.std.specs.Str.{bytes_eq}
 use Rattle.cas_base.specs.declared.decl.Decl.{Decl}
 use Rattle.cas_own.specs.Flow as f
-use Rattle.cas_own.specs.Locks.{Locks, having, lock_meant}
+use Rattle.cas_own.specs.Locks.{Locks, having}
 use Rattle.cas_check.specs.declared.flow.Halt.{Halt}
 use Rattle.cas_check.specs.declared.flow.Halt.TheVariants.{Memory, Fault}
 use Rattle.cas_check.specs.declared.flow.Head.{Head}
@@ -18,7 +16,6 @@ use Rattle.cas_typed.specs.declared.rows.StmtRowForm.{StmtRowForm}
 use Rattle.cas_typed.specs.declared.rows.StmtRowForm.TheVariants as row
 use Rattle.cas_typed.specs.Numbered.{parts_of}
 use Rattle.cas_typed.specs.Resolved.{TypedExprTree, TypedStmtTree, TypedStmtOption}
-use Rattle.cas_typed.specs.Scopes.{Meaning, undeclared, variable, item, item_named}
 
 -- sets
 
@@ -32,18 +29,6 @@ abbrev pub adding : List ℕ → Locks → Locks
 adding [] s = s
 adding (l ∷ ls) s = having (adding ls s) l
 
--- declarations
-
--- what is known of a name: nothing, or the lock that it means, if it means one
-abbrev pub known : Meaning → Option (Option ℕ)
-known undeclared = None
-known (variable n ty) = Some None
-known (item g form) = Some (lock_meant (item g form))
-
--- the table has of each name that is declared the lock that it means, if it means one
-abbrev pub IsIndex : List Decl → List (Bor (List ℕ) × Option ℕ) → Type 0
-IsIndex decls entries = (name : List ℕ) → lookup (λ key. bytes_eq name key.now) entries ≡ known (item_named 0 decls name)
-
 -- walks
 
 -- the set at a reference, if there is one
@@ -51,7 +36,7 @@ abbrev pub set_at : Option (Bor (List ℕ)) → Option Locks
 set_at None = None
 set_at (Some s) = Some s.now
 
--- the set with which a walk goes on that had this one, if it does
+-- the set with which a walk continues that had this one, if it does
 abbrev pub onward : Locks → Onward → Option Locks
 onward s Same = Some s
 onward s (With t) = Some t
@@ -66,7 +51,7 @@ abbrev pub optional_head : Option Head → Option f.Head
 optional_head None = None
 optional_head (Some h) = Some (head_of h)
 
--- but for want of memory, the walk comes to this fault
+-- unless it is out of memory, the walk comes to this fault
 abbrev pub Halts : Halt → f.Flow → Type 0
 Halts Memory flow = ⊤
 Halts (Fault code p l) flow = flow ≡ f.fault code p l
@@ -76,7 +61,7 @@ abbrev pub Passes : Result ⊤ Halt → (next flow : f.Flow) → Type 0
 Passes (Ok u) next flow = flow ≡ next
 Passes (Err e) next flow = Halts e flow
 
--- the walk of what had this set goes on so, or comes to this fault
+-- the walk of what had this set continues so, or comes to this fault
 abbrev pub Walked : Locks → Result Onward Halt → f.Flow → Type 0
 Walked s (Ok o) flow = flow ≡ f.on (onward s o)
 Walked s (Err e) flow = Halts e flow

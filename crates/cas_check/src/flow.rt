@@ -1,4 +1,4 @@
-//! What the walk of a statement comes to: with which locks it goes on, or what is wrong.
+//! The result of walking a statement: with which locks the walk continues, or what is wrong.
 
 ghost use Rattle.std.specs.Prelude.{◌≡◌, Some};
 ghost use Rattle.cas_own.specs.Locks.{Locks};
@@ -8,10 +8,10 @@ use crate::locks::Locks;
 use cas_base::{NoMemory, Place};
 use cas_own::OwnCode;
 
-/// Why a walk ends: the first fault, with the number of the lock that is kept, or want of memory.
+/// Why a walk ends: the first fault, with the number of the lock that is kept, or that it is out of memory.
 #[derive(Debug, Drop)]
 pub enum Halt {
-    /// Want of memory.
+    /// Out of memory.
     Memory,
     /// What is wrong, where, and the lock that is kept.
     Fault(OwnCode, Place, u32),
@@ -35,19 +35,19 @@ pub struct Head<'a> {
     pub set: &'a Locks,
 }
 
-/// With which locks a walk goes on.
+/// With which locks a walk continues.
 #[derive(Debug, Drop)]
 pub enum Onward {
     /// With the set that it had.
     Same,
     /// With this set.
     With(Locks),
-    /// It doesn't go on.
+    /// It doesn't continue.
     Nowhere,
 }
 
 impl Onward {
-    /// The set with which a walk goes on that had this one, if it does.
+    /// The set with which a walk continues that had this one, if it does.
     pub fn locks<'a>(&'a self, before: &'a Locks) -> Option<&'a Locks>
         ensures { set_at result ≡ onward before.now self.now }
     {
@@ -58,7 +58,7 @@ impl Onward {
         }
     }
 
-    /// What a walk and the next one come to together, which has the set with which the first goes on.
+    /// The result of a walk and of the next one, which begins with the set with which the first continues.
     pub fn then(self, next: Onward) -> Onward
         ensures { (before set : Locks) → onward before self ≡ Some set → onward before result ≡ onward set next }
     {

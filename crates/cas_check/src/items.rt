@@ -6,18 +6,18 @@ ghost use Rattle.cas_own.specs.Locks.{guard_of, guard_of_form, holds_of, holds_o
 ghost use Rattle.cas_syntax.specs.Tree.{item_tree};
 ghost use Rattle.cas_typed.specs.Modules.{decl_of};
 
-use crate::named::Named;
 use cas_base::{Decl, Form, Name, NoMemory, Seq};
+use cas_symbols::Symbols;
 use cas_syntax::Item;
 use cas_typed::declared;
 use std::alloc::Global;
 use std::marker::Model;
 
-/// The declarations of a module's items, with the guard of each shared global, and the locks that each function's caller
-/// holds. Contracts see it as the list of declarations.
+/// The declarations of a module's items, with the guard of each shared global, and the locks that each function's
+/// caller holds. Contracts see it as the list of declarations.
 #[derive(Drop)]
 pub struct Table<'a> {
-    named: Named<'a>,
+    symbols: Symbols<'a>,
     /// The lock that guards what each item declares, if it is a shared global.
     guards: Vec<Option<u32>>,
     /// The locks that a caller of what each item declares holds, in the order of its `holds`.
@@ -31,54 +31,71 @@ impl<'a> Model for Table<'a> {
 
     ghost Value = { List Decl };
 
-    ghost view = { λ t. t.named };
+    ghost view = { λ t. t.symbols };
 
-    ghost invariant = { λ t. (t.guards.items ≡ map (λ d. guard_of_form t.named d.form) t.named)
-        × (t.holds.items ≡ map (λ d. holds_of_form t.named d.form) t.named) };
+    ghost invariant = { λ t. (t.guards.items ≡ map (λ d. guard_of_form t.symbols d.form) t.symbols)
+        × (t.holds.items ≡ map (λ d. holds_of_form t.symbols d.form) t.symbols) };
 }
 
-// The declarations of items, and the locks that their names mean.
-fn named<'a>(alloc: Global, items: &'a [Item]) -> Result<Named<'a>, NoMemory>
-    ensures { IfOk result (λ named. named ≡ map decl_of (map item_tree items.now)) }
+// The symbol table of items.
+fn symbols_of<'a>(alloc: Global, items: &'a [Item]) -> Result<Symbols<'a>, NoMemory>
+    ensures { IfOk result (λ symbols. symbols ≡ map decl_of (map item_tree items.now)) }
 {
-    let mut named = Named::none(alloc);
+    let mut symbols = Symbols::new(alloc);
     let mut rest = items;
     'each: while let Some((item, others)) = rest.split_first() {
-        named.declare(declared(item))?;
+        symbols.declare(declared(item))?;
         rest = others;
     }
-    Ok(named)
+    Ok(symbols)
+}
+
+// The lock that a name means, if it means one.
+fn lock_of(symbols: &Symbols<'_>, name: &Name) -> Option<u32>
+    ensures { result ≡ lock_named symbols.now name.now }
+{
+    match symbols.get(name.as_str()) {
+        None => None,
+        Some(symbol) => match symbol.form {
+            Form::Lock => Some(symbol.number),
+            Form::Shared { .. } | Form::Table { .. } | Form::Function { .. } => None,
+        },
+    }
 }
 
 // The lock that guards what is declared, if it is a shared global.
-fn guard_of(named: &Named<'_>, form: &Form) -> Option<u32>
-    ensures { result ≡ guard_of_form named.now form.now }
+fn guard_of(symbols: &Symbols<'_>, form: &Form) -> Option<u32>
+    ensures { result ≡ guard_of_form symbols.now form.now }
 {
     match form {
-        Form::Shared { lock, .. } => named.lock(lock),
+        Form::Shared { lock, .. } => lock_of(symbols, lock),
         Form::Lock | Form::Table { .. } | Form::Function { .. } => None,
     }
 }
 
 // The locks that guard what the items declare.
-fn guards(alloc: Global, named: &Named<'_>, decls: &[&Decl]) -> Result<Vec<Option<u32>>, NoMemory>
-    ensures { IfOk result (λ guards. guards.items ≡ map (λ d. guard_of_form named.now d.now.form) decls.now) }
+fn guards(
+    alloc: Global,
+    symbols: &Symbols<'_>,
+    decls: &[&Decl],
+) -> Result<Vec<Option<u32>>, NoMemory>
+    ensures { IfOk result (λ guards. guards.items ≡ map (λ d. guard_of_form symbols.now d.now.form) decls.now) }
 {
     let mut guards = Vec::new(alloc);
     for decl in decls {
-        guards.push(guard_of(named, &decl.form))?;
+        guards.push(guard_of(symbols, &decl.form))?;
     }
     Ok(guards)
 }
 
 // The locks that names mean, in their order.
-fn locks_named(alloc: Global, named: &Named<'_>, names: &[Name]) -> Result<Seq<u32>, NoMemory>
-    ensures { IfOk result (λ locks. locks ≡ locks_named named.now names.now) }
+fn locks_named(alloc: Global, symbols: &Symbols<'_>, names: &[Name]) -> Result<Seq<u32>, NoMemory>
+    ensures { IfOk result (λ locks. locks ≡ locks_named symbols.now names.now) }
 {
     let mut locks = Vec::new(alloc);
     let mut rest = names;
     'each: while let Some((name, others)) = rest.split_first() {
-        if let Some(lock) = named.lock(name) {
+        if let Some(lock) = lock_of(symbols, name) {
             locks.push(lock)?;
         }
         rest = others;
@@ -87,22 +104,22 @@ fn locks_named(alloc: Global, named: &Named<'_>, names: &[Name]) -> Result<Seq<u
 }
 
 // The locks that a caller of what is declared holds.
-fn holds_of(alloc: Global, named: &Named<'_>, form: &Form) -> Result<Seq<u32>, NoMemory>
-    ensures { IfOk result (λ locks. locks ≡ holds_of_form named.now form.now) }
+fn holds_of(alloc: Global, symbols: &Symbols<'_>, form: &Form) -> Result<Seq<u32>, NoMemory>
+    ensures { IfOk result (λ locks. locks ≡ holds_of_form symbols.now form.now) }
 {
     match form {
-        Form::Function { holds, .. } => locks_named(alloc, named, holds.as_slice()),
+        Form::Function { holds, .. } => locks_named(alloc, symbols, holds.as_slice()),
         Form::Lock | Form::Shared { .. } | Form::Table { .. } => Ok(Seq::of(Vec::new(alloc))),
     }
 }
 
 // The locks that callers of what the items declare hold.
-fn holds(alloc: Global, named: &Named<'_>, decls: &[&Decl]) -> Result<Vec<Seq<u32>>, NoMemory>
-    ensures { IfOk result (λ holds. holds.items ≡ map (λ d. holds_of_form named.now d.now.form) decls.now) }
+fn holds(alloc: Global, symbols: &Symbols<'_>, decls: &[&Decl]) -> Result<Vec<Seq<u32>>, NoMemory>
+    ensures { IfOk result (λ holds. holds.items ≡ map (λ d. holds_of_form symbols.now d.now.form) decls.now) }
 {
     let mut holds = Vec::new(alloc);
     for decl in decls {
-        holds.push(holds_of(alloc, named, &decl.form)?)?;
+        holds.push(holds_of(alloc, symbols, &decl.form)?)?;
     }
     Ok(holds)
 }
@@ -112,12 +129,12 @@ impl<'a> Table<'a> {
     pub fn of(alloc: Global, items: &'a [Item]) -> Result<Table<'a>, NoMemory>
         ensures { IfOk result (λ table. table ≡ map decl_of (map item_tree items.now)) }
     {
-        let named = named(alloc, items)?;
-        let decls = named.decls();
-        let guards = guards(alloc, &named, decls)?;
-        let holds = holds(alloc, &named, decls)?;
+        let symbols = symbols_of(alloc, items)?;
+        let decls = symbols.decls();
+        let guards = guards(alloc, &symbols, decls)?;
+        let holds = holds(alloc, &symbols, decls)?;
         Ok(Table {
-            named,
+            symbols,
             guards,
             holds,
         })
@@ -127,7 +144,7 @@ impl<'a> Table<'a> {
     pub fn lock(&self, name: &Name) -> Option<u32>
         ensures { result ≡ lock_named self.now name.now }
     {
-        self.named.lock(name)
+        lock_of(&self.symbols, name)
     }
 
     /// The lock that guards what the item declares, if it is a shared global.
@@ -155,6 +172,6 @@ impl<'a> Table<'a> {
         requires { item < length self.now }
         ensures { result.now ≡ name_of self.now item }
     {
-        &self.named.decls()[item as usize].name
+        &self.symbols.decls()[item as usize].name
     }
 }

@@ -1,5 +1,5 @@
-//! Where sets of locks have to be equal: both branches of an `if`, each way back to a loop's head or out of it, and each
-//! return.
+//! Where sets of locks have to be equal: both branches of an `if`, each way back to a loop's head or out of it, and
+//! each return.
 
 ghost use Rattle.cas_base.specs.declared.place.Place.{Place};
 ghost use Rattle.cas_own.specs.Flow as f;
@@ -44,7 +44,7 @@ pub fn leave(head: Option<Head<'_>>, place: Place, set: &Locks) -> Result<Onward
     }
 }
 
-/// With which set an `if` goes on whose branches were walked with this set.
+/// With which set an `if` continues whose branches were walked with this set.
 pub fn joined(place: Place, set: &Locks, yes: Onward, no: Onward) -> Result<Onward, Halt>
     ensures { Walked set.now result (f.joined place (onward set.now yes) (onward set.now no)) }
 {

@@ -198,7 +198,7 @@ fn check_typed(alloc: Global, typed: &Typed) -> Result<(), OwnFault>
     check_items(alloc, &table, items, typed.functions())
 }
 
-/// Checks the ownership of a typed module: each shared global is touched only where its lock is held.
+/// Checks the ownership of a typed module: each shared global is touched only if its lock is held.
 ///
 /// Errors: the module's first fault in the order of the walk, with the name of the lock that is kept; `Memory`.
 pub fn check_module(alloc: Global, typed: Typed) -> Result<Checked, OwnFault>

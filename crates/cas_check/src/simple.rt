@@ -22,7 +22,7 @@ use std::alloc::Global;
 
 /// An assignment.
 #[tactic(auto, using(crate::proofs::Steps::guarded_append))]
-pub fn assigned(
+pub fn check_assign(
     table: &Table<'_>,
     set: &Locks,
     target: &TypedTarget,
@@ -36,7 +36,7 @@ pub fn assigned(
 }
 
 /// A call of the function with this number, which is named at this place.
-pub fn called(
+pub fn check_call(
     table: &Table<'_>,
     set: &Locks,
     item: u32,
@@ -51,7 +51,7 @@ pub fn called(
 }
 
 /// A return from a function whose caller holds these locks.
-pub fn returned(
+pub fn check_return(
     table: &Table<'_>,
     own: &Locks,
     set: &Locks,
@@ -66,7 +66,7 @@ pub fn returned(
 }
 
 /// A lock is taken.
-pub fn taken(alloc: Global, set: &Locks, place: Place, lock: u32) -> Result<Onward, Halt>
+pub fn check_lock(alloc: Global, set: &Locks, place: Place, lock: u32) -> Result<Onward, Halt>
     ensures { Walked set.now result (if has set.now lock then fault O6 place lock else on (Some (having set.now lock))) }
 {
     if set.has(lock) {
@@ -75,8 +75,8 @@ pub fn taken(alloc: Global, set: &Locks, place: Place, lock: u32) -> Result<Onwa
     Ok(Onward::With(set.with(alloc, lock)?))
 }
 
-/// A lock is given back.
-pub fn given_back(alloc: Global, set: &Locks, place: Place, lock: u32) -> Result<Onward, Halt>
+/// A lock is released.
+pub fn check_unlock(alloc: Global, set: &Locks, place: Place, lock: u32) -> Result<Onward, Halt>
     ensures { Walked set.now result (if has set.now lock then on (Some (without set.now lock)) else fault O7 place lock) }
 {
     if !set.has(lock) {
@@ -85,8 +85,8 @@ pub fn given_back(alloc: Global, set: &Locks, place: Place, lock: u32) -> Result
     Ok(Onward::With(set.without(alloc, lock)?))
 }
 
-/// A value is put out.
-pub fn printed(table: &Table<'_>, set: &Locks, value: &TypedExpr) -> Result<Onward, Halt>
+/// A value is output.
+pub fn check_print(table: &Table<'_>, set: &Locks, value: &TypedExpr) -> Result<Onward, Halt>
     ensures { Walked set.now result (guarded table.now set.now (uses (typed_expr_tree value.now)) (on (Some set.now))) }
 {
     check_expr(table, set, value)?;

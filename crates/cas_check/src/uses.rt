@@ -115,7 +115,7 @@ pub fn check_arguments(table: &Table<'_>, set: &Locks, args: &[TypedExpr]) -> Re
 }
 
 // A lock that a called function's caller holds is in the set.
-fn check_lock(set: &Locks, lock: u32, place: Place) -> Result<(), Halt>
+fn check_lock_held(set: &Locks, lock: u32, place: Place) -> Result<(), Halt>
     ensures { (ls : List ℕ) (next : Flow) → Passes result (held place set.now ls next) (held place set.now (lock ∷ ls) next) }
 {
     if set.has(lock) {
@@ -131,7 +131,7 @@ pub fn check_held(set: &Locks, locks: &[u32], place: Place) -> Result<(), Halt>
 {
     let mut rest = locks;
     'each: while let Some((lock, others)) = rest.split_first() {
-        check_lock(set, *lock, place)?;
+        check_lock_held(set, *lock, place)?;
         rest = others;
     }
     Ok(())

@@ -1,4 +1,4 @@
-//! The walk of a statement with a set of locks, by its row: first fault, or the set with which it goes on.
+//! The walk of a statement with a set of locks, by its row: first fault, or the set with which it continues.
 
 ghost use Rattle.std.specs.Prelude.{◌≡◌, ◌<◌, ◌≤◌, ◌+◌, ℕ, Option, Some, None, length, map, All};
 ghost use Rattle.cas_base.specs.declared.place.Place.{Place};
@@ -13,7 +13,9 @@ use crate::flow::{Halt, Head, Onward};
 use crate::items::Table;
 use crate::locks::Locks;
 use crate::loops::{check_back, joined, leave};
-use crate::simple::{assigned, called, given_back, printed, returned, taken};
+use crate::simple::{
+    check_assign, check_call, check_lock, check_print, check_return, check_unlock,
+};
 use crate::uses::{check_expr, check_optional};
 use cas_base::Place;
 use cas_typed::{StmtRow, StmtRowForm, TypedExpr};
@@ -74,9 +76,9 @@ fn walk_row(
 {
     match &row.form {
         StmtRowForm::Skip => Ok(Onward::Same),
-        StmtRowForm::Assign(target, value) => assigned(body.table, set, target, value),
+        StmtRowForm::Assign(target, value) => check_assign(body.table, set, target, value),
         StmtRowForm::Call(_, item, place, args) => {
-            called(body.table, set, *item, *place, args.as_slice())
+            check_call(body.table, set, *item, *place, args.as_slice())
         }
         StmtRowForm::Block(parts) => {
             walk_all(alloc, body, head, n as usize + 1, parts.as_slice(), set)
@@ -95,10 +97,10 @@ fn walk_row(
         ),
         StmtRowForm::Break => leave(head, row.place, set),
         StmtRowForm::Continue => leave(head, row.place, set),
-        StmtRowForm::Return(value) => returned(body.table, body.own, set, row.place, value),
-        StmtRowForm::Lock(lock) => taken(alloc, set, row.place, *lock),
-        StmtRowForm::Unlock(lock) => given_back(alloc, set, row.place, *lock),
-        StmtRowForm::Print(value) => printed(body.table, set, value),
+        StmtRowForm::Return(value) => check_return(body.table, body.own, set, row.place, value),
+        StmtRowForm::Lock(lock) => check_lock(alloc, set, row.place, *lock),
+        StmtRowForm::Unlock(lock) => check_unlock(alloc, set, row.place, *lock),
+        StmtRowForm::Print(value) => check_print(body.table, set, value),
     }
 }
 
@@ -281,7 +283,7 @@ fn turns(
     last(alloc, body, n, place, after, set)
 }
 
-// The same, if the first part goes on.
+// The same, if the first part continues.
 #[cycle(walk)]
 fn turns_from(
     alloc: Global,

@@ -6,7 +6,7 @@ use Rattle.cas_type.specs.Parts.{capped}
 use Rattle.cas_typed.specs.Faults.{above, limit}
 use Rattle.cas_typed.specs.declared.fault.TypeCount.{TypeCount}
 
--- a capped count passes a smaller limit exactly where the count does
+-- a capped count passes a smaller limit exactly if the count does
 passes_capped : (most counted n : ℕ) → most < 2 ^ 64 - 1 → counted ≡ min n (2 ^ 64 - 1) → nat_lt most counted ≡ nat_lt most n
 passes_capped most counted n small e = grind (arith, small, e)
 

@@ -17,7 +17,7 @@ use Rattle.cas_typed.specs.declared.rows.StmtRowForm.{StmtRowForm}
 use Rattle.cas_typed.specs.declared.rows.StmtRowForm.TheVariants as row
 use Rattle.cas_typed.specs.declared.tree.TypedExpr.{TypedExpr}
 
--- what is walked in a `for` behind its first part, its condition, and its part after each turn
+-- what is walked in a `for` after its first part, its condition, and its part after each turn
 
 abbrev ends : (ret : Ty) (p : Place) (within : Scope) (u : StmtOption) (b : StmtTree) → TypedStmtOption → Option TypedExprTree → TypedStmtOption → Result TypedStmtTree Fault
 ends ret p s u b i' c' u' = then_ (walk ret true (past_option s u) b) (λ a'. Ok (for_ p i' c' u' a'))

@@ -1,14 +1,13 @@
 pub mod Added_rows
-pub mod Arguments
 pub mod Block_nodes
 pub mod By_parts
 pub mod Count_lemmas
 pub mod For_parts
-pub mod Items_declared
 pub mod Kept_rows
 pub mod Lists
 pub mod Locals_named
 pub mod Marks_lemmas
+pub mod Nothing_declared
 pub mod Part_lemmas
 pub mod Parts
 pub mod Pointer_laws

@@ -83,7 +83,7 @@ marked_past m n (b ∷ bs) h = λ i. or_false_too b (m == n) (differ m n h) i �
 differ_before : (m n : ℕ) → n < m → (m == n) ≡ false
 differ_before m n h = grind (arith, h)
 
--- so do those that are behind the last
+-- so do those that are after the last
 marked_behind : (m n : ℕ) (bs : List Bool) → n + length bs ≤ m → bs ≡ marked m n bs
 marked_behind m n [] h = refl
 marked_behind m n (b ∷ bs) h =

@@ -121,7 +121,7 @@ made_in-add n rows i (suc j) k =
     ∙ ap (λ b. made_at n (slice_get rows i) || b) (made_in-add n rows (i + 1) j k ∙ ap (λ x. made_in n rows (i + 1) j || made_in n rows x k) there)
     ∙ sym (or_assoc (made_at n (slice_get rows i)) (made_in n rows (i + 1) j) (made_in n rows (i + suc j) k))
 
--- the rows of a statement behind its first
+-- the rows of a statement after its first
 abbrev inner_of : TypedStmtTree → ℕ
 inner_of (skip p) = 0
 inner_of (assign p target a) = 0

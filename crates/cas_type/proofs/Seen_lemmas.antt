@@ -24,7 +24,7 @@ newest_first keys = reverse (map (λ key. key.now) keys)
 newest-cons : (key : Bor (List ℕ)) (keys : List (Bor (List ℕ))) → newest_first (key ∷ keys) ≡ newest_first keys ++ key.now ∷ []
 newest-cons key keys = reverse-append (key.now ∷ []) (map (λ key. key.now) keys)
 
--- a name is among the keys exactly where it is among the names
+-- a name is among the keys exactly if it is among the names
 pub any_newest : (name : List ℕ) (keys : List (Bor (List ℕ))) → list_any (λ key. bytes_eq name key.now) keys ≡ list_any (bytes_eq name) (newest_first keys)
 any_newest name [] = refl
 any_newest name (key ∷ keys) =

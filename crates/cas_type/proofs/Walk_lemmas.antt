@@ -5,12 +5,12 @@ use Rattle.cas_syntax.specs.declared.tree.Fun.{Fun}
 use Rattle.cas_syntax.specs.declared.tree.Item.{Item}
 use Rattle.cas_syntax.specs.declared.tree.Item.TheVariants.{Define}
 use Rattle.std.proofs.lemmas.List.{drop_more}
-use Rattle.std.specs.Prelude.{IsErrAnd}
+use Rattle.std.specs.Prelude.{IsErrAnd, ⊤}
 use Rattle.cas_typed.specs.Numbered.{IsFunctionOf}
 use Rattle.cas_syntax.specs.Tree.{ItemTree, global, prototype, define, fun_tree, item_tree}
 use Rattle.cas_type.specs.Answer.{Fails}
 use Rattle.cas_type.specs.Parts.{capped}
-use Rattle.cas_type.specs.Whole_walk.{walk_one, walk_step, GivesFunctions}
+use Rattle.cas_type.specs.Whole_walk.{walk_one, walk_step, GivesInto}
 use Rattle.cas_type.specs.declared.counts.Totals.{Totals}
 use Rattle.cas_type.specs.declared.fault.TypeFault.{TypeFault}
 use Rattle.cas_type.proofs.By_parts.{fails_then}
@@ -58,7 +58,7 @@ functions-append (r ∷ rs) ss (f ∷ fs) gs h k = (h.0, functions-append rs ss 
 functions-append [] ss (f ∷ fs) gs h k = absurd h
 functions-append (r ∷ rs) ss [] gs h k = absurd h
 
--- what is known behind some of a module's items: these functions are done, and those items are left
+-- what is known after some of a module's items: these functions are done, and those items are left
 pub record IsWalked (all left : List ItemTree) (decls : List Decl) (functions : List TypedFun) (totals : Totals) (done : List TypedFunTree) : Type 0 where
   pub are : AreFunctionsOf done functions
   pub walked : walk_items [] all ≡ behind done (walk_items decls left)
@@ -99,7 +99,7 @@ stopped all a left decls functions totals e so h =
 items_drop : (items : List Item) (k : ℕ) (a : Item) → k < length items → a ≡ get_or items k a → map item_tree (drop k items) ≡ item_tree a ∷ map item_tree (drop (k + 1) items)
 items_drop items k a h is = ap (map item_tree) (drop_more items k a h ∙ ap (λ b. b ∷ drop (k + 1) items) (sym is))
 
--- what is known behind some items, before the next
+-- what is known after some items, before the next
 pub next_item : (all : List ItemTree) (items : List Item) (k : ℕ) (a : Item) (decls : List Decl) (functions : List TypedFun) (totals : Totals) → k < length items → a ≡ get_or items k a
     → ((done : List TypedFunTree) × IsWalked all (map item_tree (drop k items)) decls functions totals done)
     → (done : List TypedFunTree) × IsWalked all (item_tree a ∷ map item_tree (drop (k + 1) items)) decls functions totals done
@@ -107,10 +107,10 @@ next_item all items k a decls functions totals h is so =
     subst (λ (left : List ItemTree). (done : List TypedFunTree) × IsWalked all left decls functions totals done) (items_drop items k a h is) so
 
 -- a fault that is passed on
-pub passed_on : (result : Result (List TypedFun) TypeFault) (given : TypeFault) (walked : Result (List TypedFunTree) Fault)
-    → IsErrAnd result (λ passed. passed ≡ given) → Fails given walked → GivesFunctions result walked
-passed_on (Ok fs) given walked passed h = absurd passed
-passed_on (Err e) given walked passed h = subst (λ (f : TypeFault). Fails f walked) (sym passed) h
+pub passed_into : (fs : List TypedFun) (result : Result ⊤ TypeFault) (given : TypeFault) (walked : Result (List TypedFunTree) Fault)
+    → IsErrAnd result (λ passed. passed ≡ given) → Fails given walked → GivesInto fs result walked
+passed_into fs (Ok u) given walked passed h = absurd passed
+passed_into fs (Err e) given walked passed h = subst (λ (f : TypeFault). Fails f walked) (sym passed) h
 
 -- the function that an item is
 pub one_function : (before : List Decl) (a : Item) (f : Fun) (g : TypedFun) → a ≡ Define f

@@ -4,7 +4,7 @@ use Rattle.cas_type.specs.declared.fault.TypeFault.{TypeFault}
 use Rattle.cas_type.specs.declared.fault.TypeFault.TheVariants.{Memory, At, Limit}
 use Rattle.cas_typed.specs.Faults.{Fault, fault, limit}
 
--- but for want of memory, this is the fault
+-- unless it is out of memory, this is the fault
 abbrev pub Refuses : TypeFault → Option Fault → Type 0
 Refuses Memory told = ⊤
 Refuses (At code place name) told = told ≡ Some (fault code place name)
@@ -15,7 +15,7 @@ abbrev pub Passes : {T : Type 0} → Result T TypeFault → Option Fault → Typ
 Passes (Ok x) told = told ≡ None
 Passes (Err f) told = Refuses f told
 
--- but for want of memory, what is found by a walk is this fault
+-- unless it is out of memory, what is found by a walk is this fault
 abbrev pub Fails : {B : Type 0} → TypeFault → Result B Fault → Type 0
 Fails Memory walked = ⊤
 Fails (At code place name) walked = walked ≡ Err (fault code place name)

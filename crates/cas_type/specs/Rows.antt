@@ -1,5 +1,5 @@
 -- Statements that are walked through, in the rows that are made for them.
-use Rattle.std.specs.Prelude.{Box, ◌≡◌, ◌<◌, ℕ, ◌+◌, List, length, Option, Some, None, Result, Ok, Err, slice_get, map}
+use Rattle.std.specs.Prelude.{Box, ◌≡◌, ⊤, ◌<◌, ℕ, ◌+◌, List, length, Option, Some, None, Result, Ok, Err, slice_get, map}
 use Rattle.std.specs.declared.alloc.Global.{Global}
 use Rattle.cas_base.specs.declared.place.Place.{Place}
 use Rattle.cas_syntax.specs.Tree as tree
@@ -16,11 +16,12 @@ use Rattle.cas_typed.specs.declared.rows.StmtRow.{StmtRow}
 use Rattle.cas_typed.specs.declared.rows.StmtRowForm.{StmtRowForm}
 use Rattle.cas_typed.specs.declared.rows.StmtRowForm.TheVariants as row
 
--- so many rows are added behind those before, which stay
+-- so many rows are added after those before, which stay
 abbrev pub Adds : (old new : List StmtRow) → (count : ℕ) → Type 0
 Adds old new count = (length new ≡ length old + count) × ((i : ℕ) → i < length old → slice_get new i ≡ slice_get old i)
 
--- a statement that is walked through has the row with this number, the first behind those before; or its fault is answered
+-- a statement that is walked through has the row with this number, the first after those before; or its fault is
+-- answered
 abbrev pub StmtWalks : (old new : List StmtRow) → Result ℕ TypeFault → Result TypedStmtTree Fault → Type 0
 StmtWalks old new (Ok n) walked = (a : TypedStmtTree) × (walked ≡ Ok a) × IsPartRow new (length old) (present a) (Some n) × Adds old new (size_of a)
 StmtWalks old new (Err f) walked = Fails f walked
@@ -52,6 +53,19 @@ plain_tree p _ = None
 abbrev pub AnswersPlain : Place → Result StmtRowForm TypeFault → Result TypedStmtTree Fault → Type 0
 AnswersPlain p (Ok form) walked = (a : TypedStmtTree) × (walked ≡ Ok a) × (plain_tree p form ≡ Some a)
 AnswersPlain p (Err f) walked = Fails f walked
+
+-- a statement without parts that declares no local
+abbrev pub IsPlain : tree.StmtTree → Type 0
+IsPlain (tree.skip p) = ⊤
+IsPlain (tree.assign p target op a) = ⊤
+IsPlain (tree.call p x f args) = ⊤
+IsPlain (tree.break_ p) = ⊤
+IsPlain (tree.continue_ p) = ⊤
+IsPlain (tree.return_ p a) = ⊤
+IsPlain (tree.lock p x) = ⊤
+IsPlain (tree.unlock p x) = ⊤
+IsPlain (tree.print p a) = ⊤
+IsPlain _ = ⊥
 
 -- behind statements of a block
 abbrev pub after_list : Scope → StmtList → Scope

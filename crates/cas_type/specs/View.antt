@@ -1,18 +1,14 @@
 -- What the typer's values stand for.
-use Rattle.std.specs.Prelude.{Box, ◌≡◌, ⊤, ℕ, ◌+◌, ◌-◌, Bool, false, if◌then◌else◌, List, [], ◌∷◌, length, map, take, drop, Option, Some, None}
-use Rattle.std.specs.List.{list_any}
+use Rattle.std.specs.Prelude.{Box, ◌≡◌, ⊤, ℕ, ◌+◌, ◌-◌, Bool, true, false, if◌then◌else◌, List, [], ◌∷◌, ◌++◌, length, map, take, drop, Option, Some, None}
 use Rattle.std.specs.Borrow.{Bor}
 use Rattle.std.specs.Map.{lookup}
 use Rattle.std.specs.Str.{bytes_eq}
 use Rattle.std.specs.declared.alloc.Global.{Global}
-use Rattle.cas_base.specs.Decl.{definitions, is_named}
-use Rattle.cas_base.specs.declared.decl.Decl.{Decl}
 use Rattle.cas_base.specs.declared.kind.Ty.TheVariants.{Int, Ptr}
 use Rattle.cas_type.specs.declared.found.Found.{Found}
 use Rattle.cas_type.specs.declared.found.Found.TheVariants.{Unfit, Word, Pointer}
 use Rattle.cas_type.specs.declared.found.Operands.{Operands}
 use Rattle.cas_type.specs.declared.found.Operands.TheVariants.{Words, PointerAndWord, WordAndPointer, Pointers}
-use Rattle.cas_type.specs.declared.scope.First.{First}
 use Rattle.cas_type.specs.declared.scope.Meaning.{Meaning}
 use Rattle.cas_type.specs.declared.scope.Meaning.TheVariants.{Undeclared, Variable, Item}
 use Rattle.cas_type.specs.declared.locals.Visible.{Visible}
@@ -79,22 +75,6 @@ abbrev pub variable_or : Option Visible → s.Meaning → s.Meaning
 variable_or None otherwise = otherwise
 variable_or (Some v) otherwise = s.variable v.number v.ty
 
--- what the first item of a name declares, if there is one
-abbrev pub item_or : Option First → s.Meaning
-item_or None = s.undeclared
-item_or (Some first) = s.item first.number first.form.now
-
--- whether a name is defined, as the table has it
-abbrev pub defined_in : Option First → Bool
-defined_in None = false
-defined_in (Some first) = first.defined
-
--- the table has the first item of each name, by the name, and whether the name is defined
-abbrev pub IsIndex : List Decl → List (Bor (List ℕ) × First) → Type 0
-IsIndex decls entries =
-    (name : List ℕ) → (item_or (lookup (λ key. bytes_eq name key.now) entries) ≡ s.item_named 0 decls name)
-    × (defined_in (lookup (λ key. bytes_eq name key.now) entries) ≡ list_any (is_named name) (definitions decls))
-
 -- what was found of a target
 abbrev pub written_of : Option Written → r.Written
 written_of None = r.unwritable
@@ -108,6 +88,16 @@ assignment_tree p a = assign p (typed_target_tree a.target.value) (typed_expr_tr
 abbrev pub values_tree : Option (List TypedExpr) → Option (List TypedExprTree)
 values_tree None = None
 values_tree (Some es) = Some (map typed_expr_tree es)
+
+-- values, if each argument has one
+abbrev pub values_if : Bool → List TypedExpr → Option (List TypedExprTree)
+values_if true es = Some (map typed_expr_tree es)
+values_if false es = None
+
+-- values after those that are done, if there are any
+abbrev pub extended : List TypedExprTree → Option (List TypedExprTree) → Option (List TypedExprTree)
+extended done None = None
+extended done (Some es) = Some (done ++ es)
 
 -- a call at its place, of the function that is named at another
 abbrev pub called_tree : Place → (at : Place) → Called → TypedStmtTree

@@ -23,22 +23,27 @@ abbrev pub GivesFunctions : Result (List TypedFun) TypeFault → Result (List Ty
 GivesFunctions (Ok fs) walked = (rs : List TypedFunTree) × (walked ≡ Ok rs) × AreFunctionsOf rs fs
 GivesFunctions (Err e) walked = Fails e walked
 
+-- the same of functions that are written into a list
+abbrev pub GivesInto : List TypedFun → Result ⊤ TypeFault → Result (List TypedFunTree) Fault → Type 0
+GivesInto fs (Ok u) walked = GivesFunctions (Ok fs) walked
+GivesInto fs (Err e) walked = Fails e walked
+
 -- the same of the function that an item has, if it has one
 abbrev pub GivesOptional : Result (Option TypedFun) TypeFault → Result (List TypedFunTree) Fault → Type 0
 GivesOptional (Ok f) walked = (rs : List TypedFunTree) × (walked ≡ Ok rs) × AreFunctionsOf rs (option_to_list f)
 GivesOptional (Err e) walked = Fails e walked
 
--- the function that an item has, behind these declarations
+-- the function that an item has, after these declarations
 abbrev pub walk_one : List Decl → ItemTree → Result (List TypedFunTree) Fault
 walk_one before (global d vs p) = Ok []
 walk_one before (prototype d hs p) = Ok []
 walk_one before (define f) = then_ (walk_function before f) (λ r. Ok (r ∷ []))
 
--- the first fault of an item behind these declarations, or the function that it has
+-- the first fault of an item after these declarations, or the function that it has
 abbrev pub walk_step : List Decl → ItemTree → Result (List TypedFunTree) Fault
 walk_step before a = unless (item_fault before a) (walk_one before a)
 
--- but for want of memory, this is the first fault of the module
+-- unless it is out of memory, this is the first fault of the module
 abbrev pub HasFault : ModuleTree → TypeFault → Type 0
 HasFault m Memory = ⊤
 HasFault m (At code place name) = HasTypeFault m (fault code place name)

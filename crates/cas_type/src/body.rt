@@ -1,45 +1,24 @@
 //! Statements: each is walked through in order of text, and stands in a row before those of its parts.
 
-ghost use Rattle.std.specs.Prelude.{◌≡◌, ◌++◌, [], ◌∷◌, OnOk, IfOk, true, false};
+ghost use Rattle.std.specs.Prelude.{◌≡◌, ◌++◌, [], ◌∷◌, OnOk, IfOk, false};
 ghost use Rattle.cas_syntax.specs.Tree as tree;
 ghost use Rattle.cas_syntax.specs.Tree.{expr_tree, init_tree, optional_tree, stmt_tree, stmt_trees};
 ghost use Rattle.cas_type.specs.Rows.{StmtWalks, PartWalks, ListWalks, BodyWalks, after_list, part_tree};
 ghost use Rattle.cas_typed.specs.Scopes as s;
 ghost use Rattle.cas_typed.specs.Walk as w;
 
-use crate::alone::{assign, break_off, call, give_back, go_on, lock, print, unlock};
 use crate::declare::declaration;
 use crate::fault::TypeFault;
-use crate::plain::unboxed;
+use crate::plain::{plain, unboxed};
 use crate::rows::Made;
 use crate::scope::Scopes;
 use crate::values;
 use crate::values::condition;
+use crate::within::Within;
 use cas_base::{Place, Seq, Ty};
 use cas_syntax::{Expr, Ident, Init, Stmt, StmtForm};
 use cas_typed::{StmtRow, StmtRowForm};
 use std::alloc::Global;
-
-/// What a statement stands in.
-#[derive(Clone, Copy)]
-pub struct Within {
-    /// The type of its function.
-    pub ret: Ty,
-    /// Whether a loop is around it.
-    pub in_loop: bool,
-}
-
-impl Within {
-    // Within a loop.
-    fn looped(self) -> Within
-        ensures { result ≡ record { ret = self.ret; in_loop = true } }
-    {
-        Within {
-            ret: self.ret,
-            in_loop: true,
-        }
-    }
-}
 
 /// A statement of a block.
 #[cycle(statement)]
@@ -55,14 +34,7 @@ pub fn statement<'a>(
 {
     let place = stmt.place;
     match &stmt.form {
-        StmtForm::Skip => made.plain(place, Ok(StmtRowForm::Skip)),
         StmtForm::Declare(ty, ident, init) => local(scopes, made, place, *ty, ident, init),
-        StmtForm::Assign(target, operator, expr) => {
-            assign(scopes, made, place, target, *operator, expr)
-        }
-        StmtForm::Call(keeper, ident, args) => {
-            call(scopes, made, place, keeper.as_ref(), ident, args.as_slice())
-        }
         StmtForm::Block(stmts) => block(scopes, made, within, place, stmts),
         StmtForm::If(test, first, second) => {
             branches(scopes, made, within, place, test, first, second)
@@ -72,12 +44,15 @@ pub fn statement<'a>(
         StmtForm::For(first, test, next, body) => for_loop(
             scopes, made, within, place, first, test, next, body,
         ),
-        StmtForm::Break => break_off(made, within.in_loop, place),
-        StmtForm::Continue => go_on(made, within.in_loop, place),
-        StmtForm::Return(expr) => give_back(scopes, made, place, within.ret, expr),
-        StmtForm::Lock(ident) => lock(scopes, made, place, ident),
-        StmtForm::Unlock(ident) => unlock(scopes, made, place, ident),
-        StmtForm::Print(expr) => print(scopes, made, place, expr),
+        StmtForm::Skip
+        | StmtForm::Assign(..)
+        | StmtForm::Call(..)
+        | StmtForm::Break
+        | StmtForm::Continue
+        | StmtForm::Return(_)
+        | StmtForm::Lock(_)
+        | StmtForm::Unlock(_)
+        | StmtForm::Print(_) => plain(scopes, made, within, stmt),
     }
 }
 
@@ -188,7 +163,7 @@ fn block<'a>(
     ensures locals { OnOk result (made.new.locals.items ≡ made.old.locals.items ++ s.locals_of (tree.block place (stmt_trees stmts.now))) }
     ensures scope { OnOk result (scopes.new ≡ s.past scopes.old (tree.block place (stmt_trees stmts.now))) }
 {
-    let number = made.push(place, StmtRowForm::Skip)?;
+    let number = made.begin(place)?;
     let mark = scopes.enter();
     let numbers = list(scopes, made, within, stmts)?;
     scopes.leave(mark);
@@ -214,8 +189,8 @@ fn branches<'a>(
     ensures scope { OnOk result (scopes.new
         ≡ s.past scopes.old (tree.if_ place (expr_tree test.now) (stmt_tree first.now) (part_tree second.now))) }
 {
+    let number = made.begin(place)?;
     let test = values::test(made.alloc, scopes, place, test)?;
-    let number = made.push(place, StmtRowForm::Skip)?;
     let first = part(scopes, made, within, first)?;
     let second = optional_part(scopes, made, within, second)?;
     let test = Box::into_inner(test);
@@ -239,8 +214,8 @@ fn while_loop<'a>(
         ≡ made.old.locals.items ++ s.locals_of (tree.while_ place (expr_tree test.now) (stmt_tree body.now))) }
     ensures scope { OnOk result (scopes.new ≡ s.past scopes.old (tree.while_ place (expr_tree test.now) (stmt_tree body.now))) }
 {
+    let number = made.begin(place)?;
     let test = values::test(made.alloc, scopes, place, test)?;
-    let number = made.push(place, StmtRowForm::Skip)?;
     let body = part(scopes, made, within.looped(), body)?;
     let test = Box::into_inner(test);
     made.set(number, place, StmtRowForm::While(test, body));
@@ -264,8 +239,8 @@ fn do_loop<'a>(
     ensures scope { OnOk result (scopes.new ≡ s.past scopes.old (tree.do_ place (stmt_tree body.now) (expr_tree test.now))) }
 {
     // The condition stands outside of the body's scope, and its fault comes after the body's.
+    let number = made.begin(place)?;
     let test = values::test(made.alloc, scopes, place, test);
-    let number = made.push(place, StmtRowForm::Skip)?;
     let body = part(scopes, made, within.looped(), body)?;
     let test = Box::into_inner(test?);
     made.set(number, place, StmtRowForm::Do(body, test));
@@ -291,7 +266,7 @@ fn for_loop<'a>(
     ensures scope { OnOk result (scopes.new ≡ s.past scopes.old
         (tree.for_ place (part_tree first.now) (optional_tree test.now) (part_tree next.now) (stmt_tree body.now))) }
 {
-    let number = made.push(place, StmtRowForm::Skip)?;
+    let number = made.begin(place)?;
     let mark = scopes.enter();
     let first = first_part(scopes, made, within, first)?;
     let test = condition(made.alloc, scopes, place, test)?;

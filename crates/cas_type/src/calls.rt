@@ -4,7 +4,8 @@ ghost use Rattle.std.specs.Prelude.{◌≡◌, IfOk, map};
 ghost use Rattle.std.specs.Option.{option_copied};
 ghost use Rattle.cas_syntax.specs.Tree.{expr_tree};
 ghost use Rattle.cas_type.specs.Answer.{Answers, Passes};
-ghost use Rattle.cas_type.specs.View.{called_tree, meaning_of, values_tree};
+ghost use Rattle.cas_type.specs.View.{called_tree, extended, meaning_of, values_if, values_tree};
+ghost use Rattle.cas_typed.specs.Resolved.{typed_expr_tree};
 ghost use Rattle.cas_typed.specs.Resolving as r;
 ghost use Rattle.cas_typed.specs.Walk as w;
 
@@ -103,6 +104,34 @@ pub fn check_arguments(alloc: Global, scopes: &Scopes<'_>, args: &[Expr]) -> Res
     Ok(())
 }
 
+// Adds the values of arguments after others, for parameters of these types; whether each argument has one.
+fn add_arguments(
+    alloc: Global,
+    scopes: &Scopes<'_>,
+    values: &mut Vec<TypedExpr>,
+    args: &[Expr],
+    tys: &[Ty],
+) -> Result<bool, NoMemory>
+    ensures { IfOk result (λ all. values_if all values.new.items ≡ extended (map typed_expr_tree values.old.items) (r.values_of scopes.now (map expr_tree args.now) tys.now)) }
+{
+    let mut rest = args;
+    let mut types = tys;
+    'each: while let Some((arg, others)) = rest.split_first() {
+        match types.split_first() {
+            Some((ty, others_types)) => match value_of(alloc, scopes, arg, *ty)? {
+                Some(value) => {
+                    values.push(Box::into_inner(value))?;
+                    types = others_types;
+                }
+                None => return Ok(false),
+            },
+            None => return Ok(false),
+        }
+        rest = others;
+    }
+    Ok(types.is_empty())
+}
+
 /// The values of arguments, for parameters of these types.
 pub fn arguments(
     alloc: Global,
@@ -113,22 +142,7 @@ pub fn arguments(
     ensures { IfOk result (λ values. values_tree values ≡ r.values_of scopes.now (map expr_tree args.now) tys.now) }
 {
     let mut values = Vec::new(alloc);
-    let mut rest = args;
-    let mut types = tys;
-    'each: while let Some((arg, others)) = rest.split_first() {
-        match types.split_first() {
-            Some((ty, others_types)) => match value_of(alloc, scopes, arg, *ty)? {
-                Some(value) => {
-                    values.push(Box::into_inner(value))?;
-                    types = others_types;
-                }
-                None => return Ok(None),
-            },
-            None => return Ok(None),
-        }
-        rest = others;
-    }
-    if types.is_empty() {
+    if add_arguments(alloc, scopes, &mut values, args, tys)? {
         Ok(Some(Seq::of(values)))
     } else {
         Ok(None)

@@ -44,7 +44,7 @@ pub fn check_count(most: u64, place: Place, what: TypeCount, counted: u64) -> Re
     }
 }
 
-/// The nodes of an expression, behind those counted so far.
+/// The nodes of an expression, after those counted so far.
 pub fn count_expr(before: u64, expr: &Expr) -> u64
     ensures { result ≡ capped (before + c.nodes_of_expr (expr_tree expr.now)) }
 {
@@ -147,7 +147,7 @@ fn count_stmt(before: u64, stmt: &Stmt) -> u64
     }
 }
 
-/// The nodes of statements, behind those counted so far.
+/// The nodes of statements, after those counted so far.
 #[cycle(count)]
 pub fn count_stmts(before: u64, stmts: &[Stmt]) -> u64
     ensures { result ≡ capped (before + c.nodes_of_stmts (stmt_trees stmts.now)) }
@@ -159,7 +159,7 @@ pub fn count_stmts(before: u64, stmts: &[Stmt]) -> u64
     count
 }
 
-/// The cells of locals of these types, behind those counted so far.
+/// The cells of locals of these types, after those counted so far.
 pub fn count_cells(before: u64, tys: &[Ty]) -> u64
     ensures { result ≡ capped (before + sum (map words_of_ty tys.now)) }
 {

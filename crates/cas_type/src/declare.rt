@@ -8,10 +8,10 @@ ghost use Rattle.cas_typed.specs.Scopes as s;
 ghost use Rattle.cas_typed.specs.Walk as w;
 
 use crate::fault::{TypeFault, misfit, refusal};
-use crate::plain::{assignment, call_of};
+use crate::plain::{type_call, type_first};
 use crate::scope::Scopes;
 use cas_base::{Place, Ty};
-use cas_syntax::{Ident, Init, LValue};
+use cas_syntax::{Ident, Init};
 use cas_typed::{StmtRowForm, TypeCode};
 use std::alloc::Global;
 
@@ -26,7 +26,7 @@ pub fn has_element(ty: Ty) -> bool
     }
 }
 
-/// The declaration of a local, which is visible behind its name.
+/// The declaration of a local, which is visible after its name.
 pub fn declaration<'a>(
     alloc: Global,
     scopes: &mut Scopes<'a>,
@@ -50,13 +50,8 @@ pub fn declaration<'a>(
                 Err(misfit(TypeCode::T3, place))
             }
         }
-        Init::Value(expr) => {
-            let target = LValue::Name(ident.copy(alloc)?);
-            let form = assignment(alloc, scopes, place, &target, None, expr);
-            drop(target);
-            form
-        }
-        Init::Call(called, args) => call_of(
+        Init::Value(expr) => type_first(alloc, scopes, place, ident, expr),
+        Init::Call(called, args) => type_call(
             alloc,
             scopes,
             place,

@@ -9,10 +9,10 @@ use cas_syntax::Ident;
 use cas_typed::{TypeCode, TypeCount};
 use std::alloc::{AllocFailed, Global};
 
-/// Why a module isn't typed: the first fault of it, or want of memory.
+/// Why a module isn't typed: the first fault of it, or that it is out of memory.
 #[derive(Debug, Drop)]
 pub enum TypeFault {
-    /// Want of memory.
+    /// Out of memory.
     Memory,
     /// What is wrong, where, and the name that is kept.
     At {

@@ -5,7 +5,7 @@ ghost use Rattle.cas_type.specs.View.{boxed_tree, found_of, left_of, right_of};
 ghost use Rattle.cas_typed.specs.Resolved.{typed_expr_tree};
 ghost use Rattle.cas_typed.specs.Resolving as r;
 
-use crate::found::{Found, Operands, null, pair, pointer, word};
+use crate::found::{Found, Operands, both_ok, null, pair, pointer, word};
 use crate::kinds::{common_kind, promoted_kind, signedness};
 use cas_base::{Kind, NoMemory, Ty};
 use cas_syntax::{BinaryOperator, UnaryOperator};
@@ -141,6 +141,22 @@ pub fn either(
     }
 }
 
+/// Of `a && b`, by what is found of both.
+pub fn both_tested(alloc: Global, left: Found, right: Found) -> Result<Found, NoMemory>
+    ensures { IfOk result (λ whole. found_of whole ≡ r.both (r.tested (found_of left)) (r.tested (found_of right))) }
+{
+    let (left, right) = both_ok(tested(alloc, left), tested(alloc, right))?;
+    both(alloc, left, right)
+}
+
+/// Of `a || b`, by what is found of both.
+pub fn either_tested(alloc: Global, left: Found, right: Found) -> Result<Found, NoMemory>
+    ensures { IfOk result (λ whole. found_of whole ≡ r.either (r.tested (found_of left)) (r.tested (found_of right))) }
+{
+    let (left, right) = both_ok(tested(alloc, left), tested(alloc, right))?;
+    either(alloc, left, right)
+}
+
 /// Where a value of a type is wanted; whether it is the literal 0 is told.
 pub fn given(
     alloc: Global,
@@ -181,12 +197,18 @@ pub fn choice(
 ) -> Result<Found, NoMemory>
     ensures { IfOk result (λ whole. found_of whole ≡ r.choice (boxed_tree test) left_null right_null (found_of left) (found_of right)) }
 {
-    match test {
-        Some(test) => match pair(left, right) {
-            Some(operands) => chosen(alloc, test, left_null, right_null, operands),
-            None => Ok(Found::Unfit),
+    match pair(left, right) {
+        Some(operands) => match test {
+            Some(test) => chosen(alloc, test, left_null, right_null, operands),
+            None => {
+                drop(operands);
+                Ok(Found::Unfit)
+            }
         },
-        None => Ok(Found::Unfit),
+        None => {
+            drop(test);
+            Ok(Found::Unfit)
+        }
     }
 }
 

@@ -1,7 +1,7 @@
-//! What is found of an expression, and of two operands. Expressions stand behind pointers: few values then stand where a
-//! function may stop early, and what the prover has to follow stays small.
+//! What is found of an expression, and of two operands. Expressions stand behind pointers: few values then stand
+//! where a function may stop early, and what the prover has to follow stays small.
 
-ghost use Rattle.std.specs.Prelude.{◌≡◌, ◌⊎◌, IfOk, MatchOption};
+ghost use Rattle.std.specs.Prelude.{◌≡◌, ◌⊎◌, IfOk, MatchOption, Ok};
 ghost use Rattle.cas_base.specs.declared.kind.Ty.TheVariants.{Int, Ptr};
 ghost use Rattle.cas_type.specs.View.{found_of, left_of, right_of};
 ghost use Rattle.cas_typed.specs.Resolved as t;
@@ -54,6 +54,28 @@ pub fn null(alloc: Global) -> Result<Box<TypedExpr>, NoMemory>
 {
     let expr = Box::new(alloc, TypedExpr::Null)?;
     Ok(expr)
+}
+
+/// Both values, unless one of them ran out of memory. Neither is held while the other is computed.
+pub fn both_ok<T: Drop>(
+    left: Result<T, NoMemory>,
+    right: Result<T, NoMemory>,
+) -> Result<(T, T), NoMemory>
+    ensures { IfOk result (λ both. (left ≡ Ok both.0) × (right ≡ Ok both.1)) }
+{
+    match left {
+        Ok(left) => match right {
+            Ok(right) => Ok((left, right)),
+            Err(error) => {
+                drop(left);
+                Err(error)
+            }
+        },
+        Err(error) => {
+            drop(right);
+            Err(error)
+        }
+    }
 }
 
 /// Both operands, where both fit.

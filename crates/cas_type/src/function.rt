@@ -83,7 +83,7 @@ pub fn function<'a>(
     ensures walked { GivesFunction result (w.walk_function scopes.old.decls (fun_tree fun.now)) }
     ensures decls { OnOk result (scopes.new.decls ≡ scopes.old.decls ++ fun.now.decl ∷ []) }
 {
-    let item = scopes.items().len();
+    let item = scopes.symbols().len();
     let form = &fun.decl.form;
     scopes.item(&fun.decl)?;
     scopes.begin(fun.params.as_slice(), parameter_types(form))?;

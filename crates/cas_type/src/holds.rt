@@ -16,8 +16,9 @@ ghost use Rattle.cas_typed.specs.Walk.{at_found};
 
 use crate::fault::{TypeFault, refusal_of};
 use crate::named::Named;
-use crate::scope::{Items, Meaning};
+use crate::scope::{Meaning, item_meaning};
 use cas_base::{Form, Name, NoMemory, Place};
+use cas_symbols::Symbols;
 use cas_typed::TypeCode;
 use indexmap::IndexSet;
 use std::alloc::Global;
@@ -65,10 +66,10 @@ impl<'a> Seen<'a> {
 }
 
 // A name that isn't declared.
-fn check_declared(alloc: Global, items: &Items<'_>, named: &Named<'_>) -> Result<(), TypeFault>
-    ensures { Passes result (if list_any (is_named named.now.name.now) items.now then None else Some (fault T1 named.now.place (Some named.now.name.now))) }
+fn check_declared(alloc: Global, symbols: &Symbols<'_>, named: &Named<'_>) -> Result<(), TypeFault>
+    ensures { Passes result (if list_any (is_named named.now.name.now) symbols.now then None else Some (fault T1 named.now.place (Some named.now.name.now))) }
 {
-    if items.is_declared(named.name) {
+    if symbols.is_declared(named.name) {
         Ok(())
     } else {
         Err(refusal_of(alloc, TypeCode::T1, named.name, named.place))
@@ -76,11 +77,15 @@ fn check_declared(alloc: Global, items: &Items<'_>, named: &Named<'_>) -> Result
 }
 
 /// The first of these names that isn't declared.
-pub fn check_held(alloc: Global, items: &Items<'_>, names: &[Named<'_>]) -> Result<(), TypeFault>
-    ensures { Passes result (at_found (m.undeclared_in items.now (map ident_of names.now)) (at_name T1)) }
+pub fn check_held(
+    alloc: Global,
+    symbols: &Symbols<'_>,
+    names: &[Named<'_>],
+) -> Result<(), TypeFault>
+    ensures { Passes result (at_found (m.undeclared_in symbols.now (map ident_of names.now)) (at_name T1)) }
 {
     for named in names {
-        check_declared(alloc, items, named)?;
+        check_declared(alloc, symbols, named)?;
     }
     Ok(())
 }
@@ -130,18 +135,18 @@ fn is_lock(meaning: Meaning<'_>) -> bool
 }
 
 // Whether a name means a lock.
-fn means_lock(items: &Items<'_>, named: &Named<'_>) -> bool
-    ensures { result ≡ m.means_lock (item_named 0 items.now named.now.name.now) }
+fn means_lock(symbols: &Symbols<'_>, named: &Named<'_>) -> bool
+    ensures { result ≡ m.means_lock (item_named 0 symbols.now named.now.name.now) }
 {
-    is_lock(items.meaning(named.name))
+    is_lock(item_meaning(symbols, named.name))
 }
 
 /// Whether these names are locks.
-pub fn are_locks(items: &Items<'_>, names: &[Named<'_>]) -> bool
-    ensures { result ≡ m.are_locks items.now (map ident_of names.now) }
+pub fn are_locks(symbols: &Symbols<'_>, names: &[Named<'_>]) -> bool
+    ensures { result ≡ m.are_locks symbols.now (map ident_of names.now) }
 {
     for named in names {
-        if !means_lock(items, named) {
+        if !means_lock(symbols, named) {
             return false;
         }
     }

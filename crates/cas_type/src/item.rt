@@ -20,8 +20,9 @@ use crate::counts::{MOST_FUNCTIONS, MOST_PARAMETERS, MOST_WORDS, Totals, check_c
 use crate::fault::{TypeFault, refusal_of};
 use crate::holds::{are_locks, check_held, check_once};
 use crate::named::{Named, held_names, parameter_names};
-use crate::scope::{Items, Meaning, variable_ty};
+use crate::scope::{Meaning, item_meaning, variable_ty};
 use cas_base::{Decl, Form, Name, Place, Ty};
+use cas_symbols::Symbols;
 use cas_syntax::{Ident, Item};
 use cas_typed::{TypeCode, TypeCount};
 use std::alloc::Global;
@@ -58,10 +59,10 @@ pub fn parameter_types(form: &Form) -> &[Ty]
 }
 
 // Whether a definition's name is defined before.
-fn is_defined_again(items: &Items<'_>, decl: &Decl) -> bool
-    ensures { result ≡ m.is_defined_again items.now decl.now }
+fn is_defined_again(symbols: &Symbols<'_>, decl: &Decl) -> bool
+    ensures { result ≡ m.is_defined_again symbols.now decl.now }
 {
-    decl.defined && items.is_defined(&decl.name)
+    decl.defined && symbols.is_defined(&decl.name)
 }
 
 // Whether what is declared is what the name means, if anything.
@@ -115,13 +116,13 @@ fn check_right(
 // A fault at the name of what is defined again.
 fn check_defined_once(
     alloc: Global,
-    items: &Items<'_>,
+    symbols: &Symbols<'_>,
     decl: &Decl,
     place: Place,
 ) -> Result<(), TypeFault>
-    ensures { Passes result (if m.is_defined_again items.now decl.now then Some (fault T2 place (Some decl.now.name)) else None) }
+    ensures { Passes result (if m.is_defined_again symbols.now decl.now then Some (fault T2 place (Some decl.now.name)) else None) }
 {
-    if is_defined_again(items, decl) {
+    if is_defined_again(symbols, decl) {
         Err(refusal_of(alloc, TypeCode::T2, &decl.name, place))
     } else {
         Ok(())
@@ -149,24 +150,24 @@ fn check_counts(decl: &Decl, place: Place, totals: Totals) -> Result<(), TypeFau
 #[tactic(auto, using(crate::proofs::By_parts::refuses_sooner))]
 fn check_fit(
     alloc: Global,
-    items: &Items<'_>,
+    symbols: &Symbols<'_>,
     totals: Totals,
     parts: Parts<'_>,
     held: &[Named<'_>],
 ) -> Result<(), TypeFault>
-    requires functions { totals.functions ≡ capped (c.function_count items.now) }
-    requires words { totals.words ≡ capped (c.word_count items.now) }
-    ensures { Passes result (p.fit_fault items.now parts.entry.decl.now parts.entry.values.now (map ident_of held.now) parts.entry.place) }
+    requires functions { totals.functions ≡ capped (c.function_count symbols.now) }
+    requires words { totals.words ≡ capped (c.word_count symbols.now) }
+    ensures { Passes result (p.fit_fault symbols.now parts.entry.decl.now parts.entry.values.now (map ident_of held.now) parts.entry.place) }
 {
     let decl = parts.decl;
     let place = parts.place;
     let ty = variable_ty(&decl.form);
-    let agrees = agrees_with(items.meaning(&decl.name), &decl.form);
+    let agrees = agrees_with(item_meaning(symbols, &decl.name), &decl.form);
     check_right(alloc, agrees, TypeCode::T3, decl, place)?;
     check_right(alloc, has_element(ty), TypeCode::T3, decl, place)?;
     let are_few = parts.values.len() <= elements_of(ty) as usize;
     check_right(alloc, are_few, TypeCode::T3, decl, place)?;
-    check_right(alloc, are_locks(items, held), TypeCode::T3, decl, place)?;
+    check_right(alloc, are_locks(symbols, held), TypeCode::T3, decl, place)?;
     check_counts(decl, place, totals)
 }
 
@@ -182,49 +183,49 @@ fn check_parameters(alloc: Global, params: &[Ident]) -> Result<(), TypeFault>
 #[tactic(auto, using(crate::proofs::By_parts::refuses_sooner))]
 fn check_holding(
     alloc: Global,
-    items: &Items<'_>,
+    symbols: &Symbols<'_>,
     totals: Totals,
     parts: Parts<'_>,
     held: &[Named<'_>],
 ) -> Result<(), TypeFault>
-    requires functions { totals.functions ≡ capped (c.function_count items.now) }
-    requires words { totals.words ≡ capped (c.word_count items.now) }
-    ensures { Passes result (p.parts_fault items.now parts.entry.decl.now parts.entry.values.now parts.entry.params.now (map ident_of held.now) parts.entry.place) }
+    requires functions { totals.functions ≡ capped (c.function_count symbols.now) }
+    requires words { totals.words ≡ capped (c.word_count symbols.now) }
+    ensures { Passes result (p.parts_fault symbols.now parts.entry.decl.now parts.entry.values.now parts.entry.params.now (map ident_of held.now) parts.entry.place) }
 {
-    check_held(alloc, items, held)?;
-    check_defined_once(alloc, items, parts.decl, parts.place)?;
+    check_held(alloc, symbols, held)?;
+    check_defined_once(alloc, symbols, parts.decl, parts.place)?;
     check_parameters(alloc, parts.params)?;
     check_once(alloc, held)?;
-    check_fit(alloc, items, totals, parts, held)
+    check_fit(alloc, symbols, totals, parts, held)
 }
 
 // The first fault of an item by its parts.
 fn check_parts(
     alloc: Global,
-    items: &Items<'_>,
+    symbols: &Symbols<'_>,
     totals: Totals,
     parts: Parts<'_>,
 ) -> Result<(), TypeFault>
-    requires functions { totals.functions ≡ capped (c.function_count items.now) }
-    requires words { totals.words ≡ capped (c.word_count items.now) }
-    ensures { Passes result (p.parts_fault items.now parts.entry.decl.now parts.entry.values.now parts.entry.params.now
+    requires functions { totals.functions ≡ capped (c.function_count symbols.now) }
+    requires words { totals.words ≡ capped (c.word_count symbols.now) }
+    ensures { Passes result (p.parts_fault symbols.now parts.entry.decl.now parts.entry.values.now parts.entry.params.now
         (m.placed parts.entry.place (m.held_by parts.entry.decl.now.form) parts.entry.held.now) parts.entry.place) }
 {
     let names = held_by(&parts.decl.form);
     let held = held_names(alloc, names, parts.held, parts.place)?;
-    check_holding(alloc, items, totals, parts, &held)
+    check_holding(alloc, symbols, totals, parts, &held)
 }
 
-/// The first fault of an item behind these declarations, which have these totals; but for a function's body.
+/// The first fault of an item after these declarations, which have these totals; but for a function's body.
 pub fn check_item(
     alloc: Global,
-    items: &Items<'_>,
+    symbols: &Symbols<'_>,
     totals: Totals,
     item: &Item,
 ) -> Result<(), TypeFault>
-    requires functions { totals.functions ≡ capped (c.function_count items.now) }
-    requires words { totals.words ≡ capped (c.word_count items.now) }
-    ensures { Passes result (w.item_fault items.now (item_tree item.now)) }
+    requires functions { totals.functions ≡ capped (c.function_count symbols.now) }
+    requires words { totals.words ≡ capped (c.word_count symbols.now) }
+    ensures { Passes result (w.item_fault symbols.now (item_tree item.now)) }
 {
     let parts = match item {
         Item::Global {
@@ -253,5 +254,5 @@ pub fn check_item(
             place: fun.place,
         },
     };
-    check_parts(alloc, items, totals, parts)
+    check_parts(alloc, symbols, totals, parts)
 }

@@ -8,7 +8,7 @@ use cas_base::{NoMemory, Seq, Ty};
 use cas_typed::Local;
 use std::alloc::Global;
 
-// So many numbers, none of which is marked.
+// This many numbers, none of which is marked.
 fn unmarked(alloc: Global, count: usize) -> Result<Vec<bool>, NoMemory>
     ensures { IfOk result (λ marks. marks.items ≡ replicate count false) }
 {
@@ -19,7 +19,7 @@ fn unmarked(alloc: Global, count: usize) -> Result<Vec<bool>, NoMemory>
     Ok(marks)
 }
 
-// Marks a number, if it is there.
+// Marks a number, if it exists.
 fn mark(marks: &mut [bool], number: u32)
     ensures { marks.new ≡ p.marked number 0 marks.old }
 {

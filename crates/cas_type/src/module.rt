@@ -4,7 +4,7 @@ ghost use Rattle.std.specs.Prelude.{◌≡◌, ◌++◌, ◌∷◌, [], ◌-◌,
 ghost use Rattle.cas_base.specs.declared.decl.Decl.{Decl};
 ghost use Rattle.cas_syntax.specs.Tree.{item_tree, module_tree};
 ghost use Rattle.cas_type.specs.Answer.{Fails};
-ghost use Rattle.cas_type.specs.Whole_walk.{GivesFunctions, GivesOptional, HasFault, walk_one, walk_step};
+ghost use Rattle.cas_type.specs.Whole_walk.{GivesFunctions, GivesInto, GivesOptional, HasFault, walk_one, walk_step};
 ghost use Rattle.cas_type.specs.Parts.{capped};
 ghost use Rattle.cas_typed.specs.Counts as c;
 ghost use Rattle.cas_typed.specs.Formed.{IsFormed};
@@ -63,7 +63,7 @@ fn walk_step<'a>(
     ensures walked { GivesOptional result (walk_step scopes.old.decls (item_tree item.now)) }
     ensures decls { OnOk result (scopes.new.decls ≡ scopes.old.decls ++ m.decl_of (item_tree item.now) ∷ []) }
 {
-    check_item(alloc, scopes.items(), totals, item)?;
+    check_item(alloc, scopes.symbols(), totals, item)?;
     walk_one(alloc, scopes, item)
 }
 
@@ -77,19 +77,36 @@ fn add(functions: &mut Vec<TypedFun>, function: Option<TypedFun>) -> Result<(), 
     Ok(())
 }
 
-// The functions of these items, from the first of a module on.
+// The items of a module, one after another: each is declared, and its function, if it has one, is added.
+fn walk_each<'a>(
+    alloc: Global,
+    scopes: &mut Scopes<'a>,
+    functions: &mut Vec<TypedFun>,
+    items: &'a [Item],
+) -> Result<(), TypeFault>
+    requires scopes { scopes.old.decls ≡ [] }
+    requires functions { functions.old.items ≡ [] }
+    ensures { GivesInto functions.new.items result (w.walk_items [] (map item_tree items.now)) }
+{
+    let mut totals = Totals::none();
+    for item in items {
+        let function = walk_step(alloc, scopes, totals, item)?;
+        add(functions, function)?;
+        totals = totals.with(declared(item));
+    }
+    Ok(())
+}
+
+// The functions of the items of a module.
 fn walk(alloc: Global, items: &[Item]) -> Result<Seq<TypedFun>, TypeFault>
     ensures { GivesFunctions result (w.walk_items [] (map item_tree items.now)) }
 {
     let mut scopes = Scopes::new(alloc);
-    let mut totals = Totals::none();
     let mut functions = Vec::new(alloc);
-    for item in items {
-        let function = walk_step(alloc, &mut scopes, totals, item)?;
-        add(&mut functions, function)?;
-        totals = totals.with(declared(item));
+    match walk_each(alloc, &mut scopes, &mut functions, items) {
+        Ok(()) => Ok(Seq::of(functions)),
+        Err(fault) => Err(fault),
     }
-    Ok(Seq::of(functions))
 }
 
 // These values, and zeros up to so many.

@@ -8,7 +8,7 @@ use cas_base::NoMemory;
 use cas_typed::{StmtRow, StmtRowForm, TypedExpr, TypedTarget};
 use std::alloc::Global;
 
-/// Those of an expression, behind those found so far.
+/// Those of an expression, after those found so far.
 pub fn of_expr(found: &mut Vec<u32>, expr: &TypedExpr) -> Result<(), NoMemory>
     ensures { OnOk result (found.new.items ≡ found.old.items ++ p.pointers_of (typed_expr_tree expr.now)) }
 {

@@ -7,10 +7,10 @@ ghost use Rattle.cas_typed.specs.Types.{is_null};
 ghost use Rattle.cas_typed.specs.Resolving as r;
 
 use crate::forms::{
-    both, cell_behind, choice, converted, either, element_behind, given, pointer_to_element,
-    tested, unary,
+    both_tested, cell_behind, choice, converted, either_tested, element_behind, given,
+    pointer_to_element, tested, unary,
 };
-use crate::found::{Found, pointer, word};
+use crate::found::{Found, both_ok, pointer, word};
 use crate::kinds::signedness;
 use crate::operators::binary;
 use crate::scope::{Meaning, Scopes, variable_ty};
@@ -121,24 +121,20 @@ pub fn resolve(alloc: Global, scopes: &Scopes<'_>, expr: &Expr) -> Result<Found,
         Expr::Unary(operator, a) => unary(alloc, *operator, resolve(alloc, scopes, a)?),
         Expr::Cast(kind, a) => converted(alloc, *kind, resolve(alloc, scopes, a)?),
         Expr::Binary(operator, a, b) => {
-            let left = resolve(alloc, scopes, a)?;
-            let right = resolve(alloc, scopes, b)?;
+            let (left, right) = both_ok(resolve(alloc, scopes, a), resolve(alloc, scopes, b))?;
             binary(alloc, *operator, is_zero(a), is_zero(b), left, right)
         }
         Expr::And(a, b) => {
-            let left = tested(alloc, resolve(alloc, scopes, a)?)?;
-            let right = tested(alloc, resolve(alloc, scopes, b)?)?;
-            both(alloc, left, right)
+            let (left, right) = both_ok(resolve(alloc, scopes, a), resolve(alloc, scopes, b))?;
+            both_tested(alloc, left, right)
         }
         Expr::Or(a, b) => {
-            let left = tested(alloc, resolve(alloc, scopes, a)?)?;
-            let right = tested(alloc, resolve(alloc, scopes, b)?)?;
-            either(alloc, left, right)
+            let (left, right) = both_ok(resolve(alloc, scopes, a), resolve(alloc, scopes, b))?;
+            either_tested(alloc, left, right)
         }
         Expr::Cond(c, a, b) => {
             let test = tested(alloc, resolve(alloc, scopes, c)?)?;
-            let left = resolve(alloc, scopes, a)?;
-            let right = resolve(alloc, scopes, b)?;
+            let (left, right) = both_ok(resolve(alloc, scopes, a), resolve(alloc, scopes, b))?;
             choice(alloc, test, is_zero(a), is_zero(b), left, right)
         }
     }

@@ -146,7 +146,7 @@ pub fn write_indexed(
     }
 }
 
-/// Of a target: none where it is no cell that may be written.
+/// Of a target: none if it is no cell that may be written.
 pub fn target_of(
     alloc: Global,
     scopes: &Scopes<'_>,

@@ -1,8 +1,8 @@
 //! Conditions, values and assignments: the faults of names first, then what doesn't fit.
 
-ghost use Rattle.cas_syntax.specs.Tree.{expr_tree, optional_tree, target_tree};
+ghost use Rattle.cas_syntax.specs.Tree.{expr_tree, optional_tree, target_tree, to_name};
 ghost use Rattle.cas_type.specs.Answer.{Answers};
-ghost use Rattle.std.specs.Prelude.{◌≡◌, IfOk};
+ghost use Rattle.std.specs.Prelude.{◌≡◌, IfOk, None};
 ghost use Rattle.cas_type.specs.View.{assignment_tree, boxed_tree};
 ghost use Rattle.cas_typed.specs.Resolved as t;
 ghost use Rattle.cas_typed.specs.Resolved.{typed_expr_tree};
@@ -13,10 +13,10 @@ ghost use Rattle.cas_typed.specs.Walk as w;
 use crate::fault::{TypeFault, misfit, refusal};
 use crate::forms::tested;
 use crate::found::null;
-use crate::names::check_names;
+use crate::names::{check_alone, check_names};
 use crate::resolve::{resolve, value_of};
 use crate::scope::{Meaning, Scopes};
-use crate::targets::{assigned_value, check_target, target_of};
+use crate::targets::{assigned_value, check_target, target_of, write_named};
 use cas_base::{Form, NoMemory, Place, Ty};
 use cas_syntax::{BinaryOperator, Expr, Ident, LValue};
 use cas_typed::{TypeCode, TypedExpr, TypedTarget};
@@ -79,6 +79,31 @@ pub fn condition(
             Err(fault) => Err(fault),
         },
         None => Ok(None),
+    }
+}
+
+/// The assignment of its first value to a local, for the statement at a place.
+#[tactic(auto, using(crate::proofs::By_parts::refuses_sooner, crate::proofs::By_parts::fails_unless, crate::proofs::By_parts::fails_here))]
+pub fn begun(
+    alloc: Global,
+    scopes: &Scopes<'_>,
+    place: Place,
+    ident: &Ident,
+    expr: &Expr,
+) -> Result<Assignment, TypeFault>
+    ensures { Answers (assignment_tree place) result (w.walk_assign scopes.now place (to_name ident.now) None (expr_tree expr.now)) }
+{
+    check_alone(alloc, ident, scopes.meaning(ident))?;
+    check_names(alloc, scopes, expr)?;
+    match write_named(alloc, ident, scopes.meaning(ident))? {
+        Some(written) => match value_of(alloc, scopes, expr, written.ty)? {
+            Some(value) => Ok(Assignment {
+                target: written.target,
+                value,
+            }),
+            None => Err(misfit(TypeCode::T3, place)),
+        },
+        None => Err(misfit(TypeCode::T5, place)),
     }
 }
 

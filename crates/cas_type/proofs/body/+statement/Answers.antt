@@ -63,10 +63,10 @@ pub block-returns-clause-rows : goal.block-returns-clause-rows
 block-returns-clause-rows t c =
     let l = c.args.within.in_loop in
     let all = stmt_trees c.args.stmts.now in
-    let parts : ListWalks c.push.new.self.rows.items c.list.new.made.rows.items (Ok c.in_ok-numbers.numbers) (walk_list c.args.within.ret l (inside c.args.scopes.now) all) =
-    subst (λ start. ListWalks c.push.new.self.rows.items c.list.new.made.rows.items (Ok c.in_ok-numbers.numbers) (walk_list c.args.within.ret l start all))
+    let parts : ListWalks c.begin.new.self.rows.items c.list.new.made.rows.items (Ok c.in_ok-numbers.numbers) (walk_list c.args.within.ret l (inside c.args.scopes.now) all) =
+    subst (λ start. ListWalks c.begin.new.self.rows.items c.list.new.made.rows.items (Ok c.in_ok-numbers.numbers) (walk_list c.args.within.ret l start all))
     c.enter-mark.ensures.inner c.in_ok-numbers.ensures.rows in
-    block_walks c.args.within.ret l c.args.scopes.now c.args.place all c.args.made.now.rows.items c.push.new.self.rows.items c.list.new.made.rows.items
+    block_walks c.args.within.ret l c.args.scopes.now c.args.place all c.args.made.now.rows.items c.begin.new.self.rows.items c.list.new.made.rows.items
     c.set.new.self.rows.items c.in_ok-number.number c.in_ok-numbers.numbers row.Skip c.in_ok-number.ensures.number c.in_ok-number.ensures.rows parts c.set.ensures.rows
 
 pub block-returns-clause-scope : goal.block-returns-clause-scope
@@ -87,7 +87,7 @@ branches-returns-clause-rows t c =
     let second : PartWalks c.part.new.made.rows.items c.optional_part.new.made.rows.items (Ok c.in_ok-second.second) (walk_part ret l (past c.args.scopes.now b) d) =
     subst (λ s. PartWalks c.part.new.made.rows.items c.optional_part.new.made.rows.items (Ok c.in_ok-second.second) (walk_part ret l s d))
     c.in_ok-first.ensures.scope c.in_ok-second.ensures.rows in
-    if_walks ret l c.args.scopes.now c.args.place (expr_tree c.args.test.now) b d c.args.made.now.rows.items c.push.new.self.rows.items c.part.new.made.rows.items
+    if_walks ret l c.args.scopes.now c.args.place (expr_tree c.args.test.now) b d c.args.made.now.rows.items c.begin.new.self.rows.items c.part.new.made.rows.items
     c.optional_part.new.made.rows.items c.set.new.self.rows.items c.in_ok-number.number c.in_ok-first.first c.in_ok-second.second row.Skip c.into_inner-test.result
     (c.in_ok-test.ensures ∙ ap (λ (e : TypedExpr). Ok (typed_expr_tree e)) (sym c.into_inner-test.ensures)) c.in_ok-number.ensures.number c.in_ok-number.ensures.rows
     c.in_ok-first.ensures.rows second c.set.ensures.rows
@@ -95,10 +95,10 @@ branches-returns-clause-rows t c =
 pub while_loop-returns-clause-rows : goal.while_loop-returns-clause-rows
 while_loop-returns-clause-rows t c =
     let b = stmt_tree c.args.body.now in
-    let body : StmtWalks c.push.new.self.rows.items c.part.new.made.rows.items (Ok c.in_ok-body.body) (walk c.args.within.ret true c.args.scopes.now b) =
-    subst (λ w. StmtWalks c.push.new.self.rows.items c.part.new.made.rows.items (Ok c.in_ok-body.body) (walk w.ret w.in_loop c.args.scopes.now b))
+    let body : StmtWalks c.begin.new.self.rows.items c.part.new.made.rows.items (Ok c.in_ok-body.body) (walk c.args.within.ret true c.args.scopes.now b) =
+    subst (λ w. StmtWalks c.begin.new.self.rows.items c.part.new.made.rows.items (Ok c.in_ok-body.body) (walk w.ret w.in_loop c.args.scopes.now b))
     c.looped.ensures c.in_ok-body.ensures.rows in
-    while_walks c.args.within.ret c.args.within.in_loop c.args.scopes.now c.args.place (expr_tree c.args.test.now) b c.args.made.now.rows.items c.push.new.self.rows.items
+    while_walks c.args.within.ret c.args.within.in_loop c.args.scopes.now c.args.place (expr_tree c.args.test.now) b c.args.made.now.rows.items c.begin.new.self.rows.items
     c.part.new.made.rows.items c.set.new.self.rows.items c.in_ok-number.number c.in_ok-body.body row.Skip c.into_inner-test.result
     (c.in_ok-test.ensures ∙ ap (λ (e : TypedExpr). Ok (typed_expr_tree e)) (sym c.into_inner-test.ensures)) c.in_ok-number.ensures.number c.in_ok-number.ensures.rows body
     c.set.ensures.rows
@@ -106,10 +106,10 @@ while_loop-returns-clause-rows t c =
 pub do_loop-returns-clause-rows : goal.do_loop-returns-clause-rows
 do_loop-returns-clause-rows t c =
     let b = stmt_tree c.args.body.now in
-    let body : StmtWalks c.push.new.self.rows.items c.part.new.made.rows.items (Ok c.in_ok-body.body) (walk c.args.within.ret true c.args.scopes.now b) =
-    subst (λ w. StmtWalks c.push.new.self.rows.items c.part.new.made.rows.items (Ok c.in_ok-body.body) (walk w.ret w.in_loop c.args.scopes.now b))
+    let body : StmtWalks c.begin.new.self.rows.items c.part.new.made.rows.items (Ok c.in_ok-body.body) (walk c.args.within.ret true c.args.scopes.now b) =
+    subst (λ w. StmtWalks c.begin.new.self.rows.items c.part.new.made.rows.items (Ok c.in_ok-body.body) (walk w.ret w.in_loop c.args.scopes.now b))
     c.looped.ensures c.in_ok-body.ensures.rows in
-    do_walks c.args.within.ret c.args.within.in_loop c.args.scopes.now c.args.place b (expr_tree c.args.test.now) c.args.made.now.rows.items c.push.new.self.rows.items
+    do_walks c.args.within.ret c.args.within.in_loop c.args.scopes.now c.args.place b (expr_tree c.args.test.now) c.args.made.now.rows.items c.begin.new.self.rows.items
     c.part.new.made.rows.items c.set.new.self.rows.items c.in_ok-number.number c.in_ok-body.body row.Skip c.into_inner-test.result
     c.in_ok-number.ensures.number c.in_ok-number.ensures.rows body
     (c.in_ok-test.ensures ∙ ap (λ (e : TypedExpr). Ok (typed_expr_tree e)) (sym c.into_inner-test.ensures)) c.set.ensures.rows
@@ -123,7 +123,7 @@ for_loop-returns-clause-rows t c =
     let u = part_tree c.args.next.now in
     let b = stmt_tree c.args.body.now in
     let x = optional_tree c.args.test.now in
-    let begun = c.push.new.self.rows.items in
+    let begun = c.begin.new.self.rows.items in
     let first_made = c.first_part.new.made.rows.items in
     let next_made = c.optional_part.new.made.rows.items in
     let body_made = c.part.new.made.rows.items in

@@ -21,7 +21,7 @@ returns c =
     (λ i. record {
       block = block_kept all new held.around visible less enough c.truncate.ensures i;
       around = around_kept all new held.around visible less enough c.truncate.ensures i;
-      decls = held.items;
+      decls = held.symbols;
       count = held.count;
     })
     ∙ ap (forgotten visible) c.self.view_is

@@ -1,0 +1,7 @@
+use Rattle.std.proofs.Common.{Ok, refl, ap}
+use Rattle.cas_typed.specs.Faults.{then_}
+use Rattle.cas_typed.specs.Resolved as t
+use Rattle.cas_type.proofs.plain.type_unlock.Goals as goal
+
+pub returns : goal.returns
+returns c = (_, ap (λ w. then_ w (λ found. Ok (t.unlock c.args.place found))) c.in_ok-item.ensures, refl)

@@ -1,7 +1,0 @@
-use Rattle.std.proofs.Common.{Ok, refl, ap}
-use Rattle.cas_typed.specs.Faults.{then_}
-use Rattle.cas_typed.specs.Resolved as t
-use Rattle.cas_type.proofs.plain.unlock_of.Goals as goal
-
-pub returns : goal.returns
-returns c = (_, ap (λ w. then_ w (λ found. Ok (t.unlock c.args.place found))) c.in_ok-item.ensures, refl)
