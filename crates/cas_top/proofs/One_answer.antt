@@ -22,7 +22,7 @@ use Rattle.cas_top.specs.declared.machine.End.{End}
 use Rattle.cas_top.specs.declared.machine.Instr.{Instr}
 use Rattle.cas_top.specs.declared.machine.Instr.TheVariants.{MovEax, AddEax, OutEax, Ret}
 use Rattle.cas_top.proofs.Excluding.{one_list, one_long, read_and_long, one_resolved, typed_and_faulty, one_checked, checked_and_refused, modules_checked, one_modules, checked_and_first, one_plan}
-use Rattle.cas_top.proofs.RunLaws.{report_of, one_end}
+use Rattle.cas_top.proofs.Run_laws.{report_of, one_end}
 
 -- what is printed
 

@@ -110,7 +110,7 @@ checks_refused whole left after source (refusal.Unread n) h cons refused = absur
 checks_refused whole left after source (refusal.TooLong n) h cons refused = absurd refused
 checks_refused whole left after source refusal.Unwritten h cons refused = absurd refused
 
--- reading the texts of the names that are left, behind these sources, ends as reading all
+-- reading the texts of the names that are left, after these sources, ends as reading all
 pub record ReadsOn (told : Told) (names : List (List ℕ)) (sources : List Source) (left : List (List ℕ)) : Type 0 where
   pub named : names_of sources ++ left ≡ names
   pub read : (texts : List (List ℕ)) → AreRead told (map source_text left) texts → AreRead told (map source_text names) (texts_of sources ++ texts)

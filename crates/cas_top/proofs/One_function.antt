@@ -1,4 +1,5 @@
--- The program of a module of one function that a thread may enter: it settles, the thread begins at the function, and no word is shared.
+-- The program of a module of one function that a thread may enter: it settles, the thread begins at the function,
+-- and no word is shared.
 use Rattle.std.proofs.Common.{◌≡◌, ℕ, Bool, true, List, [], ◌∷◌, Option, Some, None, if◌then◌else◌, slice_get, refl, sym, ap, subst, ◌∙◌}
 use Rattle.std.specs.List.{flat_map, cons_option}
 use Rattle.std.specs.Option.{option_map, option_or}

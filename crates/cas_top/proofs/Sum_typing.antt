@@ -20,7 +20,7 @@ use Rattle.cas_typed.specs.Walk.{names_fault, misfit, walk_list}
 use Rattle.cas_typed.proofs.Typed_statements.{AreStmts-walk}
 use Rattle.cas_top.specs.Machine.{IsExprCode, loads, adds}
 use Rattle.cas_top.specs.declared.machine.Instr.{Instr}
-use Rattle.cas_top.proofs.SumLaws.{typed_sum}
+use Rattle.cas_top.proofs.Sum_laws.{typed_sum}
 
 -- a sum is resolved to one tree, in each scope
 resolved_sum : {a : ExprTree} {code : List Instr} → IsExprCode a code → (s : Scope) → resolved s a ≡ fits (typed_sum a) (Int I32)

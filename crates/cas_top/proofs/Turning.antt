@@ -39,7 +39,7 @@ typed_behind [] (n ∷ ns) c m h one = absurd h
 typed_behind (d ∷ ds) [] c m h one = absurd h
 typed_behind (d ∷ ds) (n ∷ ns) c m h one = (h.0, typed_behind ds ns c m h.1 one)
 
--- behind these modules, reading the texts that are left ends as reading all
+-- after these modules, reading the texts that are left ends as reading all
 pub record ModulesOn (whole left : List Source) (checked : List Checked) : Type 0 where
   pub modules : List TypedModuleTree
   pub typed : AreTyped (typed_of checked) modules
@@ -123,7 +123,7 @@ pub length_behind : {X : Type 0} (xs : List X) (x : X) → length (xs ++ x ∷ [
 length_behind [] x = refl
 length_behind (y ∷ ys) x = let more = length_behind ys x in omega (arith, more)
 
--- want of memory has no line
+-- running out of memory has no line
 line_not_memory : (f : LinkFault) (line : List ℕ) → link_fault_line f ≡ Some line → f ≢ link.Memory
 line_not_memory f line h same =
     let P : LinkFault → Type 0 = λ g. link_fault_line g ≡ Some line in

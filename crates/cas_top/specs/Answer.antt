@@ -6,6 +6,7 @@ use Rattle.cas_outside.specs.Sink.{TakesAll, TakesPrefix}
 use Rattle.cas_top.specs.Plan.{prints, refuses, Plans}
 use Rattle.cas_top.specs.Printed.{line_of}
 use Rattle.cas_command.specs.Words.{Command, Wanted, wanted_texts}
+use Rattle.cas_top.specs.Status.{faulty_status, memory_status, printed_status, too_long_status, unlinked_status, unread_status, unwritten_status, usage_status}
 
 -- the texts that a shelf has, where it tells them
 abbrev pub Told : Type 0
@@ -94,12 +95,13 @@ IsUnread told None before after old new = ⊥
 IsUnread told (Some c) before after old new =
     (name : List ℕ) × IsFailed told c before after name × TakesAll old (line_of (codes "cascc: cannot read " ++ name)) new
 
--- the list of failed names is as before; or it grew by one name of the command, and the status is 3, 4 or 9
+-- the list of failed names is as before; or it grew by one name of the command, and the status says that a read
+-- failed, that a put failed, or that it ran out of memory
 abbrev pub GrowsBy : Told → Option Command → (before after : List (List ℕ)) → (status : ℕ) → Type 0
 GrowsBy told None before after status = after ≡ before
 GrowsBy told (Some c) before after status =
     (after ≡ before)
-    ⊎ ((name : List ℕ) × IsFailed told c before after name × ((status ≡ 3) ⊎ (status ≡ 4) ⊎ (status ≡ 9)))
+    ⊎ ((name : List ℕ) × IsFailed told c before after name × ((status ≡ unread_status) ⊎ (status ≡ unwritten_status) ⊎ (status ≡ memory_status)))
 
 -- the line of a refusal of which `err` is told
 pub data IsLine (told : Told) (before after : List (List ℕ)) : Option Command → List ℕ → Type 0 where
@@ -125,16 +127,16 @@ IsUntold told c before after count now old new =
 
 -- the statuses of a command that printed its text
 abbrev pub IsPrinting : ℕ → Type 0
-IsPrinting status = status ≡ 0
+IsPrinting status = status ≡ printed_status
 
 -- the statuses of a command that its texts refused: each by itself, or together as a program
 abbrev pub IsRefusing : ℕ → Type 0
-IsRefusing status = (status ≡ 1) ⊎ (status ≡ 5)
+IsRefusing status = (status ≡ faulty_status) ⊎ (status ≡ unlinked_status)
 
 -- the statuses of a refusal of which `err` was told
 abbrev pub IsRefusalStatus : ℕ → Type 0
-IsRefusalStatus status = IsRefusing status ⊎ (status ≡ 2) ⊎ (status ≡ 3) ⊎ (status ≡ 12)
+IsRefusalStatus status = IsRefusing status ⊎ (status ≡ usage_status) ⊎ (status ≡ unread_status) ⊎ (status ≡ too_long_status)
 
 -- all statuses
 abbrev pub IsStatus : ℕ → Type 0
-IsStatus status = IsPrinting status ⊎ IsRefusalStatus status ⊎ (status ≡ 4) ⊎ (status ≡ 9)
+IsStatus status = IsPrinting status ⊎ IsRefusalStatus status ⊎ (status ≡ unwritten_status) ⊎ (status ≡ memory_status)

@@ -4,8 +4,8 @@ use Rattle.cas_outside.specs.Shelf.{Texts}
 use Rattle.cas_top.specs.Answer.{IsText, IsRefusal, IsFirstLong}
 use Rattle.cas_command.specs.Words.{Command, wanted_texts}
 
--- where a shelf tells its texts, a command comes to at most one text, with one status, or to at most one line, with one status, and
--- never to both; and where a text is too long, which has one name, it comes to neither
+-- where a shelf tells its texts, a command comes to at most one text, with one status, or to at most one line, with
+-- one status, and never to both; and where a text is too long, which has one name, it comes to neither
 pub record Exclude (held : Texts) (c : Command) : Type 0 where
   pub refused : (s t : ℕ) (text line : List ℕ) → IsText (Some held) c s text → IsRefusal (Some held) c t line → ⊥
   pub printed_once : (s t : ℕ) (text other : List ℕ) → IsText (Some held) c s text → IsText (Some held) c t other → (s ≡ t) × (text ≡ other)

@@ -5,5 +5,6 @@ pub mod First_form
 pub mod Machine
 pub mod Plan
 pub mod Printed
+pub mod Status
 pub mod View
 pub mod Worlds

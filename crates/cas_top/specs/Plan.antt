@@ -21,6 +21,7 @@ use Rattle.cas_top.specs.Worlds.{PrintsWorld, RefusesProgram}
 use Rattle.cas_top.specs.declared.machine.End.{End}
 use Rattle.cas_top.specs.declared.machine.End.TheVariants.{Done}
 use Rattle.cas_top.specs.declared.machine.Instr.{Instr}
+use Rattle.cas_top.specs.Status.{faulty_status, printed_status, unlinked_status}
 
 -- a refusal, with its status and its line on `err`; or the lines for `out`, with the status behind them
 pub data Plan : Type 0 where
@@ -43,8 +44,8 @@ pub record IsFinished (resolved : TypedModuleTree) (thread : List ℕ) (report :
   pub generated : IsItemsCode resolved.module_tree.items code
   pub machine : RunsTo code report
   pub done : AreDone report.ends
-  -- of the program, which is race-free: an interleaving of it puts out the report's output, and there exactly the threads have ended
-  -- that are done
+  -- of the program, which is race-free: an interleaving of it outputs the report's output, and there exactly the
+  -- threads have ended that are done
   pub program : IsProgram (resolved ∷ []) (thread ∷ [])
   pub race_free : IsRaceFree (env_of (resolved ∷ [])) (program_world (resolved ∷ []) (thread ∷ []))
   pub threads : List ℕ
@@ -59,15 +60,16 @@ PrintsLines text thread lines =
     (resolved : TypedModuleTree) × IsFirstForm text thread resolved
     × (report : Report) × IsFinished resolved thread report × (lines ≡ report_lines report)
 
--- The line that refuses the module text of this name: of its first fault; of the first fault of typing of the module that it is
--- read as; or of the first fault of ownership of that module, typed.
+-- The line that refuses the module text of this name: of its first fault; of the first fault of typing of the module
+-- that it is read as; or of the first fault of ownership of that module, typed.
 pub data RefusesText (name text : List ℕ) : (line : List ℕ) → Type 0 where
   misread : (code : ReadCode) (p : Place) → HasReadFault text code p → RefusesText name text (fault_line name code p)
   untyped : (m : ModuleTree) (f : Fault) → IsReadAs text m → HasTypeFault m f → RefusesText name text (type_fault_line name f)
   unowned : (m : ModuleTree) (resolved : TypedModuleTree) (f : OwnFaultTree) → IsReadAs text m → IsTyped m resolved → HasOwnFault resolved f →
       RefusesText name text (own_fault_line name f)
 
--- The line that refuses to run a module text: that of its first fault, or `R0` of a checked module that isn't of the first form.
+-- The line that refuses to run a module text: that of its first fault, or `R0` of a checked module that isn't of the
+-- first form.
 pub data RefusesRun (r : Run) (text : List ℕ) : (line : List ℕ) → Type 0 where
   faulty : (line : List ℕ) → RefusesText r.source text line → RefusesRun r text line
   formless : (resolved : TypedModuleTree) → IsCheckedModule text resolved → is_first_form r.thread resolved.module_tree ≡ false →
@@ -86,11 +88,11 @@ RefusesFirst names texts line = ⊥
 
 -- what a command comes to, where these are the texts of its names in their order
 abbrev pub Plans : Command → (texts : List (List ℕ)) → Plan → Type 0
-Plans (run r) (source ∷ lock ∷ []) (prints status lines) = (status ≡ 0) × PrintsLines source r.thread lines
-Plans (run r) (source ∷ lock ∷ []) (refuses status line) = (status ≡ 1) × RefusesRun r source line
-Plans (check names) texts (prints status lines) = (status ≡ 0) × AreChecked texts × (lines ≡ map ok_line names)
-Plans (check names) texts (refuses status line) = (status ≡ 1) × RefusesFirst names texts line
-Plans (world w) texts (prints status lines) = (status ≡ 0) × PrintsWorld w texts lines
+Plans (run r) (source ∷ lock ∷ []) (prints status lines) = (status ≡ printed_status) × PrintsLines source r.thread lines
+Plans (run r) (source ∷ lock ∷ []) (refuses status line) = (status ≡ faulty_status) × RefusesRun r source line
+Plans (check names) texts (prints status lines) = (status ≡ printed_status) × AreChecked texts × (lines ≡ map ok_line names)
+Plans (check names) texts (refuses status line) = (status ≡ faulty_status) × RefusesFirst names texts line
+Plans (world w) texts (prints status lines) = (status ≡ printed_status) × PrintsWorld w texts lines
 Plans (world w) texts (refuses status line) =
-    ((status ≡ 1) × RefusesFirst w.names texts line) ⊎ ((status ≡ 5) × RefusesProgram w texts line)
+    ((status ≡ faulty_status) × RefusesFirst w.names texts line) ⊎ ((status ≡ unlinked_status) × RefusesProgram w texts line)
 Plans c texts plan = ⊥

@@ -40,6 +40,7 @@ use Rattle.cas_typed.specs.Resolved.{TypedModuleTree}
 use Rattle.cas_typed.specs.Typed_as.{IsTypedAs}
 use Rattle.cas_typed.specs.declared.typed.Typed.{Typed}
 use Rattle.cas_top.specs.Printed.{line_of, fault_line, type_fault_line, own_fault_line, form_line, ok_line, report_lines}
+use Rattle.cas_top.specs.Status.{faulty_status, memory_status, too_long_status, unlinked_status, unread_status, unwritten_status, usage_status}
 
 -- the names of texts that were read, and the texts
 abbrev pub names_of : List Source → List (List ℕ)
@@ -119,7 +120,7 @@ abbrev pub IsSumCode : ExprTree → Option (Vec Instr Global) → Type 0
 IsSumCode a None = is_sum a ≡ false
 IsSumCode a (Some code) = (is_sum a ≡ true) × IsExprCode a code.items
 
--- the code that puts out the value of an expression and ends, where it is a sum
+-- the code that outputs the value of an expression and ends, where it is a sum
 abbrev pub IsPrintCode : ExprTree → Option (Vec Instr Global) → Type 0
 IsPrintCode a None = is_sum a ≡ false
 IsPrintCode a (Some code) = (is_sum a ≡ true) × (sum : List Instr) × IsExprCode a sum × (code.items ≡ sum ++ OutEax ∷ Ret ∷ [])
@@ -176,7 +177,8 @@ IsUnlinked f (refusal.Unlinked line) = link_fault_line f ≡ Some line
 IsUnlinked f refusal.Memory = ⊤
 IsUnlinked f other = ⊥
 
--- the program of these modules, which is race-free, whose threads begin at the functions of these names, or why there is none
+-- the program of these modules, which is race-free, whose threads begin at the functions of these names, or why
+-- there is none
 abbrev pub IsJoined : List TypedModuleTree → (names : List (List ℕ)) → Result Program Refusal → Type 0
 IsJoined ms names (Ok made) = IsProgramOf made ms names × IsRaceFree (env_of ms) (program_world ms names)
 IsJoined ms names (Err (refusal.Unlinked line)) =
@@ -217,27 +219,27 @@ Counts before now (Err r) = now ≡ before
 
 -- the number of a status
 abbrev pub status_number : Status → ℕ
-status_number status.Faulty = 1
-status_number status.Usage = 2
-status_number status.Unread = 3
-status_number status.Unwritten = 4
-status_number status.Unlinked = 5
-status_number status.Memory = 9
-status_number status.TooLong = 12
+status_number status.Faulty = faulty_status
+status_number status.Usage = usage_status
+status_number status.Unread = unread_status
+status_number status.Unwritten = unwritten_status
+status_number status.Unlinked = unlinked_status
+status_number status.Memory = memory_status
+status_number status.TooLong = too_long_status
 
 -- `err` was told a refusal by its line: the status is its own and the line was taken; or the put failed and the
 -- status is 4; or there was no memory for the line, the status is 9, and the line for that was tried
 abbrev pub IsTold : (status : ℕ) → (line : List ℕ) → (before now : ℕ) → (old new : Taken) → (answer : ℕ) → Type 0
 IsTold status line before now old new answer =
     ((answer ≡ status) × (now ≡ before) × TakesAll old line new)
-    ⊎ ((answer ≡ 4) × (before < now) × TakesPrefix old line new)
-    ⊎ ((answer ≡ 9) × IsTried (line_of (codes "cascc: memory")) before now old new)
+    ⊎ ((answer ≡ unwritten_status) × (before < now) × TakesPrefix old line new)
+    ⊎ ((answer ≡ memory_status) × IsTried (line_of (codes "cascc: memory")) before now old new)
 
--- `err` was told this refusal. The lines for a put of `out` that failed and for want of memory are tried once,
+-- `err` was told this refusal. The lines for a put of `out` that failed and for running out of memory are tried once,
 -- whatever becomes of them
 abbrev pub IsSaid : Refusal → (before now : ℕ) → (old new : Taken) → (answer : ℕ) → Type 0
-IsSaid refusal.Unwritten before now old new answer = (answer ≡ 4) × IsTried (line_of (codes "cascc: cannot write")) before now old new
-IsSaid refusal.Memory before now old new answer = (answer ≡ 9) × IsTried (line_of (codes "cascc: memory")) before now old new
+IsSaid refusal.Unwritten before now old new answer = (answer ≡ unwritten_status) × IsTried (line_of (codes "cascc: cannot write")) before now old new
+IsSaid refusal.Memory before now old new answer = (answer ≡ memory_status) × IsTried (line_of (codes "cascc: memory")) before now old new
 IsSaid refusal.Usage before now old new answer = IsTold 2 (line_of (codes "cascc: usage")) before now old new answer
 IsSaid (refusal.Unread name) before now old new answer = IsTold 3 (line_of (codes "cascc: cannot read " ++ name.now)) before now old new answer
 IsSaid (refusal.TooLong name) before now old new answer = IsTold 12 (line_of (codes "cascc: too long " ++ name.now)) before now old new answer

@@ -1,4 +1,5 @@
--- What `world` comes to: a refusal of the modules and threads, which are no program; or the lines of the world that turns come to.
+-- What `world` comes to: a refusal of the modules and threads, which are no program; or the lines of the world that
+-- turns come to.
 use Rattle.std.specs.Prelude.{◌≡◌, ℕ, ◌==◌, ◌&&◌, List, [], ◌++◌, length, map, replicate, Option, Some, None, slice_get, codes}
 use Rattle.std.specs.Fmt.{decimal}
 use Rattle.std.specs.List.{find, flat_map}
@@ -25,8 +26,8 @@ use Rattle.cas_world.specs.World.{World, Reaches}
 use Rattle.cas_top.specs.Checked_module.{AreCheckedModules}
 use Rattle.cas_top.specs.Printed.{line_of, out_line}
 
--- a refusal of a program in words: `L1 NAME`, `L2 NAME`, `L3 NAME: DEFINED | DECLARED`, `L4 NAME: FOUND` or `L5 WORD N`. Want of
--- memory is no refusal of a program, and has none
+-- a refusal of a program in words: `L1 NAME`, `L2 NAME`, `L3 NAME: DEFINED | DECLARED`, `L4 NAME: FOUND` or `L5 WORD
+-- N`. Running out of memory is no refusal of a program, and has none
 abbrev pub link_words : LinkFault → Option (List ℕ)
 link_words (fault.NotDefined name) = Some (codes "L1 " ++ name)
 link_words (fault.Twice name) = Some (codes "L2 " ++ name)
@@ -48,15 +49,19 @@ why_words why.Null = codes "null pointer"
 why_words why.Dead = codes "dead local"
 why_words why.Across = codes "pointers across objects"
 
--- the name of the lock with this word; in a program each lock that a thread waits for has one
+-- what is printed for a name that doesn't exist; in a program each name exists
+abbrev pub unknown_name : List ℕ
+unknown_name = codes "?"
+
+-- the name of the lock with this word
 abbrev pub lock_name : List CellRow → (word : ℕ) → List ℕ
-lock_name cells n = option_map_or (λ row. row.name) (find (λ row. row.lock && (row.first == n)) cells) []
+lock_name cells n = option_map_or (λ row. row.name) (find (λ row. row.lock && (row.first == n)) cells) unknown_name
 
 -- the name of the module with this number, as the words have it
 abbrev pub module_name : (names : List (List ℕ)) → (unit : ℕ) → List ℕ
-module_name names n = option_map_or (λ name. name) (slice_get names n) []
+module_name names n = option_map_or (λ name. name) (slice_get names n) unknown_name
 
--- what a thread stands at, in words
+-- the state of a thread, in words
 abbrev pub state_words : (names : List (List ℕ)) → List CellRow → ThreadState → List ℕ
 state_words names cells stands.Running = codes "running"
 state_words names cells stands.Ended = codes "ended"
@@ -85,8 +90,8 @@ abbrev pub turned : Env → Turns → World → World
 turned e (words.schedule items) w = turns e w (turns_of items)
 turned e (words.rounds count) w = rounds e w count
 
--- The texts are checked and a program, which is race-free, and these are the lines of the world that the turns come to from its
--- first, which some interleaving reaches.
+-- The texts are checked and a program, which is race-free, and these are the lines of the world that the turns come
+-- to from its first, which some interleaving reaches.
 pub record PrintsWorld (w : words.World) (texts : List (List ℕ)) (lines : List (List ℕ)) : Type 0 where
   pub modules : List TypedModuleTree
   pub read : AreCheckedModules texts modules

@@ -1,4 +1,4 @@
-//! The work of a command: its texts are read, its modules checked, and the lines that it comes to are put.
+//! The work of a command: its texts are read, its modules checked, and its lines put.
 
 ghost use Rattle.std.specs.Prelude.{◌≡◌, ◌≤◌, Some, length};
 ghost use Rattle.std.specs.List.{concat};
@@ -53,7 +53,7 @@ fn perform_check<'a, S: Shelf, O: Sink>(
     put_lines(out, lines.as_slice())
 }
 
-// Reads the modules, lets threads of their program take turns, and puts the lines of the world that these come to.
+// Reads the modules, lets threads of their program take turns, and puts the lines of the world after them.
 fn perform_world<'a, S: Shelf, O: Sink>(
     alloc: Global,
     given: World<'a>,

@@ -14,7 +14,7 @@ use cas_syntax::{BinaryOperator, Expr, Fun, Item, Module, Stmt, StmtForm};
 use std::alloc::Global;
 
 /// The code of a module of the first form whose function has this name, and of no other module.
-#[tactic(auto, using(crate::proofs::FormLaws::other_entry, crate::proofs::FormLaws::of_function))]
+#[tactic(auto, using(crate::proofs::Form_laws::other_entry, crate::proofs::Form_laws::of_function))]
 pub(crate) fn generate(
     alloc: Global,
     tree: &Module,
@@ -37,7 +37,7 @@ pub(crate) fn generate(
 }
 
 // The function that is a module's only item.
-#[tactic(auto, using(crate::proofs::FormLaws::two_items, crate::proofs::FormLaws::no_function))]
+#[tactic(auto, using(crate::proofs::Form_laws::two_items, crate::proofs::Form_laws::no_function))]
 fn only_function(items: &[Item]) -> Option<&Fun>
     ensures found { IfSome result (λ f. map syntax.item_tree items.now ≡ syntax.define (syntax.fun_tree f.now) ∷ []) }
     ensures others { IfNone result ((name : List ℕ) → form.is_first_form_of name (map syntax.item_tree items.now) ≡ false) }
@@ -60,7 +60,7 @@ fn is_entry_named(fun: &Fun, name: &str) -> bool
 }
 
 // The expression that a body prints, where it does nothing else.
-#[tactic(auto, using(crate::proofs::FormLaws::two_statements, crate::proofs::FormLaws::not_printing))]
+#[tactic(auto, using(crate::proofs::Form_laws::two_statements, crate::proofs::Form_laws::not_printing))]
 fn only_printed(body: &[Stmt]) -> Option<&Expr>
     ensures found { IfSome result (λ a. (p : Place) × (syntax.stmt_trees body.now ≡ syntax.one_more (syntax.print p (syntax.expr_tree a.now)) syntax.no_more)) }
     ensures others { IfNone result (form.prints_sum (syntax.stmt_trees body.now) ≡ false) }
@@ -75,7 +75,7 @@ fn only_printed(body: &[Stmt]) -> Option<&Expr>
     }
 }
 
-// The code that puts out a sum and ends, where the expression is one.
+// The code that outputs a sum and ends, where the expression is one.
 fn print_code(alloc: Global, printed: &Expr) -> Result<Option<Vec<Instr>>, NoMemory>
     ensures { IfOk result (λ o. IsPrintCode (syntax.expr_tree printed.now) o) }
 {

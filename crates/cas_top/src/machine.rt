@@ -13,7 +13,7 @@ pub enum Instr {
     MovEax(u32),
     /// `add eax, i`: the number is added to the register, modulo 2^32.
     AddEax(u32),
-    /// `out eax`: the register is put out.
+    /// `out eax`: the register is output.
     OutEax,
     /// `ret`: to the outermost return place, which ends the thread.
     Ret,
@@ -44,7 +44,7 @@ impl Model for Report {
     ghost view = { λ r. record { out = r.out.items; ends = r.ends.items } };
 }
 
-// The thread: its number, the number of its next instruction, its register, its end, where it has one, and the
+// The thread: its number, the number of its next instruction, its register, its end, if it has one, and the
 // output. Contracts see it as a `State`.
 #[derive(Drop)]
 struct Machine {

@@ -1,4 +1,4 @@
-//! What a run of a module comes to: its code is generated and run, and its output printed.
+//! The work of `run`: a module's code is generated and run, and its output printed.
 ghost use Rattle.std.specs.Prelude.{◌≡◌, false, IfOk, IfSome, IfNone};
 ghost use Rattle.cas_own.specs.Checked.{IsChecked};
 ghost use Rattle.cas_syntax.specs.Tree.{module_tree};
@@ -14,8 +14,8 @@ use cas_base::{NoMemory, Text};
 use cas_typed::Typed;
 use std::alloc::Global;
 
-/// The lines that a finished run of a checked module prints on one thread of this function. A module of the first form has
-/// them, and no other.
+/// The lines that a finished run of a checked module prints on one thread of this function. A module of the first
+/// form has them, and no other.
 pub(crate) fn lines_of(
     alloc: Global,
     typed: &Typed,

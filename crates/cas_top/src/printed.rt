@@ -33,7 +33,7 @@ pub(crate) fn output_lines(alloc: Global, out: &[(u32, u32)]) -> Result<Vec<Text
     Ok(lines)
 }
 
-// A line for each thread and its end, behind these lines.
+// A line for each thread and its end, after these lines.
 fn put_ends(alloc: Global, ends: &[End], lines: &mut Vec<Text>) -> Result<(), NoMemory>
     requires { length ends.now < 2 ^ 32 }
     ensures { OnOk result (lines.new.items ≡ lines.old.items ++ end_lines 0 ends.now) }

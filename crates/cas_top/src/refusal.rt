@@ -13,7 +13,7 @@ use cas_read::ReadCode;
 use cas_typed::{TypeCode, TypeCount};
 use std::alloc::{AllocFailed, Global};
 
-/// What the status of a refusal tells.
+/// The cause of a refusal's status.
 #[derive(Clone, Copy)]
 enum Status {
     /// A module is refused.
@@ -26,7 +26,7 @@ enum Status {
     Unwritten,
     /// The modules and threads are no program.
     Unlinked,
-    /// Want of memory.
+    /// Out of memory.
     Memory,
     /// A text is too long.
     TooLong,
@@ -79,7 +79,7 @@ pub(crate) enum Refusal<'a> {
     Unlinked(Text),
     /// A put on `out` failed.
     Unwritten,
-    /// Want of memory.
+    /// Out of memory.
     Memory,
 }
 
@@ -131,7 +131,7 @@ fn say<E: Sink>(err: &mut E, line: &[u8], status: Status) -> u8
     }
 }
 
-// Puts the line of a refusal with this status, with a name behind these words.
+// Puts the line of a refusal with this status, with a name after these words.
 fn say_name<E: Sink>(alloc: Global, err: &mut E, words: &str, name: &str, status: Status) -> u8
     ensures { IsTold (status_number status) (line_of (words.now ++ name.now)) (E.faults err.old) (E.faults err.new) (E.taken err.old) (E.taken err.new) result }
 {
@@ -151,7 +151,7 @@ fn say_fault<E: Sink>(alloc: Global, err: &mut E, name: &str, fault: ModuleFault
     }
 }
 
-// Puts the line for want of memory, whatever becomes of it.
+// Puts the line for running out of memory, whatever becomes of it.
 fn say_memory<E: Sink>(err: &mut E) -> u8
     ensures status { result ≡ 9 }
     ensures tried { IsTried (line_of (codes "cascc: memory")) (E.faults err.old) (E.faults err.new) (E.taken err.old) (E.taken err.new) }

@@ -5,7 +5,7 @@ ghost use Rattle.std.specs.Fmt.{decimal};
 ghost use Rattle.cas_base.specs.Print.{decl_text};
 ghost use Rattle.cas_command.specs.Parts.{texts};
 ghost use Rattle.cas_top.specs.Printed.{line_of};
-ghost use Rattle.cas_top.specs.Worlds.{link_fault_line, link_words, lock_name, module_name, state_line, state_words, thread_line, why_words, world_lines};
+ghost use Rattle.cas_top.specs.Worlds.{link_fault_line, link_words, lock_name, module_name, state_line, state_words, thread_line, unknown_name, why_words, world_lines};
 ghost use Rattle.cas_turn.specs.declared.answer.ThreadState.TheVariants.{Bad, Waits};
 ghost use Rattle.cas_turn.specs.World_of.{IsWorldOf};
 ghost use Rattle.cas_typed.specs.Resolved.{TypedModuleTree};
@@ -18,7 +18,7 @@ use cas_settle::{CellRow, LinkFault};
 use cas_turn::{ThreadState, World};
 use std::alloc::Global;
 
-/// The line of a refusal of a program: `cascc: ` with its code, and what is kept. Want of memory has none.
+/// The line of a refusal of a program: `cascc: ` with its code, and what is kept. Running out of memory has none.
 pub(crate) fn link_line(alloc: Global, fault: &LinkFault) -> Result<Text, NoMemory>
     ensures { IfOk result (λ line. link_fault_line fault.now ≡ Some line) }
 {
@@ -28,7 +28,7 @@ pub(crate) fn link_line(alloc: Global, fault: &LinkFault) -> Result<Text, NoMemo
     Ok(Text::of(text))
 }
 
-// A refusal of a program in words. Want of memory has none.
+// A refusal of a program in words. Running out of memory has none.
 fn link_words(alloc: Global, fault: &LinkFault) -> Result<Text, NoMemory>
     ensures { IfOk result (λ words. link_words fault.now ≡ Some words) }
 {
@@ -95,6 +95,13 @@ fn why_words(why: Why) -> &'static str
     }
 }
 
+// What is printed for a name that doesn't exist.
+fn unknown_name() -> &'static str
+    ensures { result.now ≡ unknown_name }
+{
+    "?"
+}
+
 // The name of the lock with this word.
 fn lock_name(cells: &[CellRow], word: u32) -> &str
     ensures { result.now ≡ lock_name cells.now word }
@@ -106,7 +113,7 @@ fn lock_name(cells: &[CellRow], word: u32) -> &str
         }
         rest = others;
     }
-    ""
+    unknown_name()
 }
 
 // The name of the module with this number.
@@ -115,7 +122,7 @@ fn module_name<'a>(names: &[&'a str], module: u32) -> &'a str
 {
     match names.get(module as usize) {
         Some(name) => name,
-        None => "",
+        None => unknown_name(),
     }
 }
 
@@ -177,7 +184,7 @@ fn state_line(
     }
 }
 
-// A line for each thread, behind these lines.
+// A line for each thread, after these lines.
 fn put_states(
     alloc: Global,
     names: &[&str],

@@ -126,7 +126,7 @@ fn take_turns(alloc: Global, world: &mut World, turns: &Turns) -> Result<(), NoM
     }
 }
 
-// The world that the turns of a program come to from its first one.
+// The world after the turns of a program, from its first world on.
 fn turned(alloc: Global, program: Program, turns: &Turns) -> Result<World, NoMemory>
     ensures { IfOk result (λ world. (ms : List TypedModuleTree) (names : List (List ℕ)) → IsProgramOf program ms names → IsWorldOf world ms names (turned (env_of ms) (turns_view turns.now) (program_world ms names))) }
 {
@@ -135,7 +135,7 @@ fn turned(alloc: Global, program: Program, turns: &Turns) -> Result<World, NoMem
     Ok(world)
 }
 
-/// The lines of the world that the turns of these modules' program come to.
+/// The lines of the world after the turns of these modules' program.
 pub(crate) fn turned_lines<'a>(
     alloc: Global,
     sources: &[Source<'a>],

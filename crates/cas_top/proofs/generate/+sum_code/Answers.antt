@@ -4,7 +4,7 @@ use Rattle.cas_base.specs.declared.kind.Kind.TheVariants.{I32}
 use Rattle.cas_syntax.specs.Tree.{ExprTree, literal, binary, expr_tree}
 use Rattle.cas_syntax.specs.declared.tree.BinaryOperator.TheVariants.{Add}
 use Rattle.cas_top.specs.View.{IsSumCode}
-use Rattle.cas_top.proofs.FormLaws.{literal_code}
+use Rattle.cas_top.proofs.Form_laws.{literal_code}
 use Rattle.cas_top.proofs.generate.+sum_code.Goals as goal
 
 pub returns-in_ok-vec-in-Lit-default-I32 : goal.returns-in_ok-vec-in-Lit-default-I32

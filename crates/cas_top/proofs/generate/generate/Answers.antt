@@ -1,6 +1,6 @@
 use Rattle.std.proofs.Common.{sym, ap, map, ◌∙◌}
 use Rattle.cas_syntax.specs.Tree.{fun_tree, item_tree, expr_tree, stmt_trees}
-use Rattle.cas_top.proofs.FormLaws.{all_generated, form_generated, code_generated, none_generated}
+use Rattle.cas_top.proofs.Form_laws.{all_generated, form_generated, code_generated, none_generated}
 use Rattle.cas_top.proofs.generate.generate.Goals as goal
 
 pub returns : goal.returns

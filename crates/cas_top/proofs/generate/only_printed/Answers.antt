@@ -1,4 +1,4 @@
-use Rattle.cas_top.proofs.FormLaws.{one_print}
+use Rattle.cas_top.proofs.Form_laws.{one_print}
 use Rattle.cas_top.proofs.generate.only_printed.Goals as goal
 
 pub returns-in-Print-clause-found : goal.returns-in-Print-clause-found

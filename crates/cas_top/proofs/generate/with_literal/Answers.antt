@@ -1,4 +1,4 @@
-use Rattle.cas_top.proofs.FormLaws.{with_more}
+use Rattle.cas_top.proofs.Form_laws.{with_more}
 use Rattle.cas_top.proofs.generate.with_literal.Goals as goal
 
 pub returns : goal.returns

@@ -1,6 +1,6 @@
 use Rattle.std.proofs.Common.{sym, ap, ◌∙◌}
 use Rattle.cas_top.specs.Machine.{State}
-use Rattle.cas_top.proofs.RunLaws.{report_of_one, stays_at, run_on, fewer_left}
+use Rattle.cas_top.proofs.Run_laws.{report_of_one, stays_at, run_on, fewer_left}
 use Rattle.cas_top.proofs.machine.run.Goals as goal
 
 pub loop-machine-init : goal.loop-machine-init

@@ -1,4 +1,4 @@
-use Rattle.cas_top.proofs.ReportLaws.{run_of}
+use Rattle.cas_top.proofs.Report_laws.{run_of}
 use Rattle.cas_top.proofs.outcome.lines_of.Goals as goal
 
 pub returns-clause-printed : goal.returns-clause-printed

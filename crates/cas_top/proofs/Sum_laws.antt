@@ -8,7 +8,7 @@ use Rattle.cas_typed.specs.Resolved as t
 use Rattle.cas_typed.specs.Resolved.{TypedExprTree}
 use Rattle.cas_typed.specs.declared.tree.Signedness.TheVariants.{Signed}
 use Rattle.cas_step.specs.Asks.{Value, word, Asks, gives, and_then, word_in}
-use Rattle.cas_step.specs.Evaluate.{Sight, a_word, value_of}
+use Rattle.cas_step.specs.Evaluate.{EvalContext, a_word, value_of}
 use Rattle.cas_step.specs.Operators.{binary_result}
 use Rattle.cas_step.specs.Step.{Object}
 use Rattle.cas_top.specs.Machine.{State, executed, Runs, steps, start, IsExprCode, loads, adds}
@@ -20,7 +20,7 @@ pub slice_get-append_seam : {A : Type 0} (xs : List A) (x : A) (ys : List A) →
 slice_get-append_seam [] x ys = refl
 slice_get-append_seam (y ∷ xs) x ys = slice_get-append_seam xs x ys
 
--- behind the first instructions of the code, with this word in the register and no output
+-- after the first instructions of the code, with this word in the register and no output
 abbrev pub behind : List Instr → ℕ → State
 behind code n = record { thread = 0; place = length code; eax = n; end = None; out = [] }
 
@@ -52,7 +52,7 @@ with_number n x = and_then x (λ u. and_then (gives (word n)) (λ v. and_then (w
 
 -- a sum of literals evaluates to the word that its code leaves
 pub evaluated : {e : ExprTree} {code : List Instr} → IsExprCode e code →
-    (n : ℕ) × ((s : Sight Object) → value_of s (typed_sum e) ≡ gives (word n)) × Leaves code n
+    (n : ℕ) × ((s : EvalContext Object) → value_of s (typed_sum e) ≡ gives (word n)) × Leaves code n
 evaluated (loads n) = (n, λ s. refl, λ rest t run. steps (start 0) t refl run)
 evaluated (adds sum code n is_code) =
     let (m, value, leaves) = evaluated is_code in (word_add m n, λ s. ap (with_number n) (value s), leaves_sum code m n leaves)

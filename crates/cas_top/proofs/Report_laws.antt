@@ -10,9 +10,9 @@ use Rattle.cas_program.specs.Program.{env_of}
 use Rattle.cas_step.specs.Answered.{answered}
 use Rattle.cas_step.specs.Asks.{Value, word, Asks, gives, and_then, word_in}
 use Rattle.cas_step.specs.Env.{Env}
-use Rattle.cas_step.specs.Evaluate.{Sight, value_of}
-use Rattle.cas_step.specs.Items.{Todo, begin, begin_all, prints}
-use Rattle.cas_step.specs.Step.{Object, Activation, Config, Step, Here, entity_in, sight_of, cells_at, memory_without, thread_with, step_to, goes_step, step_doing, locals_of}
+use Rattle.cas_step.specs.Evaluate.{EvalContext, value_of}
+use Rattle.cas_step.specs.Continuation.{ContItem, begin, begin_all, prints}
+use Rattle.cas_step.specs.Step.{Object, Activation, Config, Step, StepContext, entity_in, eval_context_of, cells_at, memory_without, thread_with, step_to, goes_step, step_with_effect, locals_of}
 use Rattle.cas_syntax.specs.Tree.{ExprTree, StmtList, no_more, one_more, print, FunTree, ItemTree, define, ModuleTree, module_tree}
 use Rattle.cas_syntax.specs.declared.tree.Module.{Module}
 use Rattle.cas_typed.specs.Formed.{IsFormed}
@@ -34,8 +34,8 @@ use Rattle.cas_top.specs.declared.machine.Instr.{Instr}
 use Rattle.cas_top.specs.declared.machine.Instr.TheVariants.{OutEax, Ret}
 use Rattle.cas_top.proofs.Both.{left_part}
 use Rattle.cas_top.proofs.One_function.{entry, one_program, one_world, one_body}
-use Rattle.cas_top.proofs.RunLaws.{report_of, one_end}
-use Rattle.cas_top.proofs.SumLaws.{slice_get-append_seam, behind, typed_sum, evaluated}
+use Rattle.cas_top.proofs.Run_laws.{report_of, one_end}
+use Rattle.cas_top.proofs.Sum_laws.{slice_get-append_seam, behind, typed_sum, evaluated}
 use Rattle.cas_top.proofs.Sum_typing.{typed_body, body_resolved, one_function}
 
 -- the machine
@@ -47,7 +47,7 @@ slice_get-append_second (z ∷ xs) x y ys =
     let next : length (z ∷ xs) + 1 ≡ suc (length xs + 1) = omega arith in
     rw next (slice_get-append_second xs x y ys)
 
--- the code of a sum, with the word put out and the return behind it
+-- the code of a sum, with the word output and the return behind it
 abbrev body_of : List Instr → List Instr
 body_of sum = sum ++ OutEax ∷ Ret ∷ []
 
@@ -77,44 +77,44 @@ one_has_ended c world one over (suc i) =
     (λ ended. absurd (cc (sym (ap (λ threads. slice_get threads (suc i)) one) ∙ ended.1)), λ done. absurd (cc done))
 
 -- a call of the entry that has this left to do
-abbrev call_with : List Todo → Activation
-call_with todo = record { serial = 0; function = entry; target = None; todo = todo }
+abbrev call_with : List ContItem → Activation
+call_with cont = record { serial = 0; function = entry; target = None; cont = cont }
 
 -- a thread in it with these locals, and a world of this thread alone
 module _ (locals : List (List (Value Object))) where
-  abbrev thread_at : List Todo → Config
-  thread_at todo = record { activations = call_with todo ∷ []; memory = record { serial = 0; locals = locals } ∷ []; fresh = 1 }
+  abbrev thread_at : List ContItem → Config
+  thread_at cont = record { activations = call_with cont ∷ []; memory = record { serial = 0; locals = locals } ∷ []; fresh = 1 }
 
-  abbrev here_at : List Todo → Here
-  here_at todo = record { config = thread_at todo; newest = call_with todo; older = []; words = [] }
+  abbrev here_at : List ContItem → StepContext
+  here_at cont = record { config = thread_at cont; newest = call_with cont; older = []; words = [] }
 
-  abbrev world_at : List Todo → World
-  world_at todo = record { threads = thread_at todo ∷ []; words = []; holders = []; out = [] }
+  abbrev world_at : List ContItem → World
+  world_at cont = record { threads = thread_at cont ∷ []; words = []; holders = []; out = [] }
 
 -- what a world comes to where one thread prints this word and ends
 abbrev Prints : Env → World → ℕ → Type 0
 Prints e first n = (threads : List ℕ) × (world : World) × Interleaves e first threads world × OneHasEnded world × (world.out ≡ (0, n) ∷ [])
 
 -- the step that prints what was asked
-abbrev print_step : Env → Here → Asks Object (Value Object) → Option Step
+abbrev print_step : Env → StepContext → Asks Object (Value Object) → Option Step
 print_step e h x =
-    step_doing e h (answered (entity_in e h) (slice_get h.words) (cells_at h.config.memory)
+    step_with_effect e h (answered (entity_in e h) (slice_get h.words) (cells_at h.config.memory)
     (and_then (and_then x (λ u. and_then (word_in u) (λ m. gives (word (narrowed m I32))))) (λ v. and_then (word_in v) (λ m. gives (prints m [])))))
 
 -- the thread prints the value of the expression, and ends
 print_and_end : (e : Env) (locals : List (List (Value Object))) (p : Place) (x : TypedExprTree) (n : ℕ) →
-    ((s : Sight Object) → value_of s x ≡ gives (word n)) → Prints e (world_at locals (begin (t.print p (t.narrow I32 x)) ∷ [])) n
+    ((s : EvalContext Object) → value_of s x ≡ gives (word n)) → Prints e (world_at locals (begin (t.print p (t.narrow I32 x)) ∷ [])) n
 print_and_end e locals p x n value =
-    let todo : List Todo = begin (t.print p (t.narrow I32 x)) ∷ [] in
-    let first : World = world_at locals todo in
-    let here : Here = here_at locals todo in
+    let cont : List ContItem = begin (t.print p (t.narrow I32 x)) ∷ [] in
+    let first : World = world_at locals cont in
+    let here : StepContext = here_at locals cont in
     let printing : Step = goes_step e here [] (act.Out n) [] in
     let may_print : MayStep e first 0 printing = record {
-      next = record { config = thread_at locals todo; stands = refl; steps = ap (print_step e here) (value (sight_of e here)) };
+      next = record { config = thread_at locals cont; stands = refl; steps = ap (print_step e here) (value (eval_context_of e here)) };
       enabled = tt;
     } in
     let second : World = world_after first 0 printing in
-    let left : Here = here_at locals [] in
+    let left : StepContext = here_at locals [] in
     let over : Config = thread_with left [] (memory_without left.config.memory 0) in
     let returning : Step = step_to e left [] act.Done over in
     let may_return : MayStep e second 0 returning = record { next = record { config = thread_at locals []; stands = refl; steps = refl }; enabled = tt } in
@@ -122,7 +122,7 @@ print_and_end e locals p x n value =
     (_, last, and_step (and_step at_first 0 _ may_print) 0 _ may_return, one_has_ended over last refl refl, refl)
 
 -- .. from the first world, where this is the body of the entry
-from_first : (e : Env) (p : Place) (a : ExprTree) (n : ℕ) → (e.function entry).body ≡ typed_body p a → ((s : Sight Object) → value_of s (typed_sum a) ≡ gives (word n)) →
+from_first : (e : Env) (p : Place) (a : ExprTree) (n : ℕ) → (e.function entry).body ≡ typed_body p a → ((s : EvalContext Object) → value_of s (typed_sum a) ≡ gives (word n)) →
     Prints e (first_world e (entry ∷ []) []) n
 from_first e p a n body value =
     let locals : List (List (Value Object)) = locals_of (e.function entry).locals (word 0 ∷ []) in
@@ -141,7 +141,7 @@ pub record IsOne (name : List ℕ) (r : TypedModuleTree) (f : FunTree) (p : Plac
 
 -- its program prints the value of the sum
 program_prints : (name : List ℕ) (r : TypedModuleTree) (f : FunTree) (p : Place) (a : ExprTree) (code : List Instr) (n : ℕ) → IsOne name r f p a → IsExprCode a code →
-    ((s : Sight Object) → value_of s (typed_sum a) ≡ gives (word n)) → Prints (env_of (r ∷ [])) (program_world (r ∷ []) (name ∷ [])) n
+    ((s : EvalContext Object) → value_of s (typed_sum a) ≡ gives (word n)) → Prints (env_of (r ∷ [])) (program_world (r ∷ []) (name ∷ [])) n
 program_prints name r f p a code n one is_code value =
     let P : List ItemTree → Type 0 = λ items. AreItems [] items r.functions in
     let (it, good, functions) = one_function (subst P one.items one.typed.functions) in

@@ -17,12 +17,12 @@ report_of_one out ends put_out e h k =
     let report : List (ℕ × ℕ) → List End → Report = λ o es. record { out = o; ends = es } in
     ap (λ o. report o ends) h ∙ ap (report put_out) k
 
--- a run goes on by a step
+-- a run continues by a step
 run_and_step : {code : List Instr} {s t : State} → Runs code s t → t.end ≡ None → Runs code s (executed (slice_get code t.place) t)
 run_and_step (stays s) none = steps s _ none (stays _)
 run_and_step (steps s t going rest) none = steps s _ going (run_and_step rest none)
 
--- a run goes on to the state after a step
+-- a run continues to the state after a step
 pub run_on : {code : List Instr} {s t u : State} → Runs code s t → t.end ≡ None → u ≡ executed (slice_get code t.place) t → Runs code s u
 run_on {code} {s} run going executes = let P : State → Type 0 = λ v. Runs code s v in subst P (sym executes) (run_and_step run going)
 
@@ -43,18 +43,18 @@ one_end (steps s t going rest) other left right =
     elim (step_or_none other) [ inl same ↦ absurd (cc) | inr more ↦ one_end rest more.1 left right ]
 
 -- an instruction that doesn't end the thread goes one place on
-goes_on : (o : Option Instr) (s : State) → (executed o s).end ≡ None → (i : Instr) × (o ≡ Some i) × ((executed o s).place ≡ s.place + 1)
-goes_on (Some (MovEax n)) s going = (MovEax n, refl, refl)
-goes_on (Some (AddEax n)) s going = (AddEax n, refl, refl)
-goes_on (Some OutEax) s going = (OutEax, refl, refl)
-goes_on (Some Ret) s going = absurd (cc)
-goes_on None s going = absurd (cc)
+continues : (o : Option Instr) (s : State) → (executed o s).end ≡ None → (i : Instr) × (o ≡ Some i) × ((executed o s).place ≡ s.place + 1)
+continues (Some (MovEax n)) s going = (MovEax n, refl, refl)
+continues (Some (AddEax n)) s going = (AddEax n, refl, refl)
+continues (Some OutEax) s going = (OutEax, refl, refl)
+continues (Some Ret) s going = absurd (cc)
+continues None s going = absurd (cc)
 
 -- after such an instruction fewer places are left
 pub fewer_left : (code : List Instr) (s t : State) → t ≡ executed (slice_get code s.place) s → t.end ≡ None →
     length code - t.place < length code - s.place
 fewer_left code s t executes going =
     let none : (executed (slice_get code s.place) s).end ≡ None = ap (λ (u : State). u.end) (sym executes) ∙ going in
-    let (i, there, next) = goes_on (slice_get code s.place) s none in
+    let (i, there, next) = continues (slice_get code s.place) s none in
     let place : t.place ≡ s.place + 1 = ap (λ (u : State). u.place) executes ∙ next in
     omega (arith, slice_get_within code s.place i there, place)
