@@ -28,7 +28,8 @@ pub(crate) const REFUSED: &str = "m.c:1:1: R0\n";
 /// The line of a put that failed.
 pub(crate) const CANNOT_WRITE: &str = "cascc: cannot write\n";
 
-/// What a call is given: its words, the names and texts on the shelf, and the numbers of the reads and the puts that fail.
+/// What a call is given: its words, the names and texts on the shelf, and the numbers of the reads and the puts that
+/// fail.
 #[derive(Clone, Copy)]
 pub(crate) struct Given<'a> {
     pub(crate) words: &'a [&'a str],
@@ -50,8 +51,8 @@ pub(crate) fn wanted<'a>(status: u8, out: &'a str, err: &'a str) -> Answer<'a> {
     Answer { status, out, err }
 }
 
-/// A run of `m.c` with these texts. No call reads a third time, or puts a third time on `out` or a second time on `err`:
-/// that would fail.
+/// A run of `m.c` with these texts. No call reads a third time, or puts a third time on `out` or a second time on
+/// `err`: that would fail.
 pub(crate) fn run_of<'a>(texts: &'a [(&'a str, &'a str)]) -> Given<'a> {
     Given {
         words: &RUN,

@@ -1,5 +1,5 @@
-//! What `check` and `run` answer of modules whose ownership has a fault, and of modules that are checked. The wanted places and
-//! locks are those that the rules of ownership give (`docs/LANGUAGE.md`).
+//! What `check` and `run` answer of modules whose ownership has a fault, and of modules that are checked. The wanted
+//! places and locks are those of the rules of ownership (`docs/LANGUAGE.md`).
 
 use crate::calls::{
     Answer, CANNOT_WRITE, Given, REFUSED, SUM, assert_answer, assert_module, assert_words,
@@ -10,435 +10,302 @@ use std::process::Abort;
 use std::test::Fail;
 use std::thread::Threads;
 
-// Two locks, and a global that each guards. They are the first line of most modules here.
+// Two locks, and a global that each guards: the first line of most modules here.
 const TWO: &str = "lock L; lock M; shared(L) int g; shared(M) int h;\n";
 
-// Shared globals that are named where their lock isn't held: in values, targets, conditions, arguments, indices and returned
-// values, in each part of a loop, and behind a lock that was given back. Each text stands behind `TWO`.
+// Shared globals that are named where their lock isn't held: in values, targets, conditions, arguments, indices and
+// returned values, in each part of a loop, and after a lock is released. Each is the body of `w`, after `TWO`.
 const NAMES: &[(&str, &str)] = &[
-    ("void w(int me) { print(g); }", "m.c:2:24: O1 L"),
-    ("void w(int me) { me = 1 + h; }", "m.c:2:27: O1 M"),
-    ("void w(int me) { int x = g; }", "m.c:2:26: O1 L"),
-    ("void w(int me) { me += g; }", "m.c:2:24: O1 L"),
-    ("void w(int me) { print(me && g); }", "m.c:2:30: O1 L"),
-    ("void w(int me) { print(me ? 1 : g); }", "m.c:2:33: O1 L"),
-    ("void w(int me) { g = 1; }", "m.c:2:18: O1 L"),
-    ("void w(int me) { g += me; }", "m.c:2:18: O1 L"),
-    ("void w(int me) { g++; }", "m.c:2:18: O1 L"),
-    ("void w(int me) { g = h; }", "m.c:2:18: O1 L"),
-    ("void w(int me) { print(h + g); }", "m.c:2:24: O1 M"),
+    ("print(g);", "2:24: O1 L"),
+    ("me = 1 + h;", "2:27: O1 M"),
+    ("int x = g;", "2:26: O1 L"),
+    ("me += g;", "2:24: O1 L"),
+    ("print(me && g);", "2:30: O1 L"),
+    ("print(me ? 1 : g);", "2:33: O1 L"),
+    ("g = 1;", "2:18: O1 L"),
+    ("g += me;", "2:18: O1 L"),
+    ("g++;", "2:18: O1 L"),
+    ("g = h;", "2:18: O1 L"),
+    ("print(h + g);", "2:24: O1 M"),
+    ("lock(L); g = h; unlock(L);", "2:31: O1 M"),
+    ("lock(M); print(g); unlock(M);", "2:33: O1 L"),
+    ("lock(L); unlock(L); print(g);", "2:44: O1 L"),
     (
-        "void w(int me) { lock(L); g = h; unlock(L); }",
-        "m.c:2:31: O1 M",
+        "lock(L); if (me) { unlock(L); return; } unlock(L); g = 1;",
+        "2:69: O1 L",
     ),
-    (
-        "void w(int me) { lock(M); print(g); unlock(M); }",
-        "m.c:2:33: O1 L",
-    ),
-    (
-        "void w(int me) { lock(L); unlock(L); print(g); }",
-        "m.c:2:44: O1 L",
-    ),
-    (
-        "void w(int me) { lock(L); if (me) { unlock(L); return; } unlock(L); g = 1; }",
-        "m.c:2:69: O1 L",
-    ),
-    (
-        "void w(int me) { int *p; p = &me; *p = g; }",
-        "m.c:2:40: O1 L",
-    ),
-    ("void w(int me) { int a[2]; a[h] = g; }", "m.c:2:30: O1 M"),
-    (
-        "void w(int me) { int a[2]; print(a[g]); }",
-        "m.c:2:36: O1 L",
-    ),
-    ("void w(int me) { if (g) { print(1); } }", "m.c:2:22: O1 L"),
-    (
-        "void w(int me) { while (h) { lock(L); } }",
-        "m.c:2:25: O1 M",
-    ),
-    (
-        "void w(int me) { for (me = g; h; me++) { } }",
-        "m.c:2:28: O1 L",
-    ),
-    (
-        "void w(int me) { for (me = 0; h; me = g) { } }",
-        "m.c:2:31: O1 M",
-    ),
-    (
-        "void w(int me) { for (me = 0; me; me = g) { } }",
-        "m.c:2:40: O1 L",
-    ),
-    (
-        "void w(int me) { for (; me; me = g) { return; } }",
-        "m.c:2:34: O1 L",
-    ),
-    (
-        "void w(int me) { for (; me; me = g) { h = 1; } }",
-        "m.c:2:39: O1 M",
-    ),
-    (
-        "void w(int me) { for (; me; g += 1) { break; } }",
-        "m.c:2:29: O1 L",
-    ),
-    (
-        "void w(int me) { do { print(1); } while (g); }",
-        "m.c:2:42: O1 L",
-    ),
-    (
-        "void w(int me) { do { return; } while (g); }",
-        "m.c:2:40: O1 L",
-    ),
-    (
-        "void w(int me) { do { break; } while (h); }",
-        "m.c:2:39: O1 M",
-    ),
-    (
-        "void w(int me) { do { lock(L); g = 1; unlock(L); } while (g); }",
-        "m.c:2:59: O1 L",
-    ),
-    ("void f(int a);\nvoid w(int me) { f(g); }", "m.c:3:20: O1 L"),
+    ("int *p; p = &me; *p = g;", "2:40: O1 L"),
+    ("int a[2]; a[h] = g;", "2:30: O1 M"),
+    ("int a[2]; print(a[g]);", "2:36: O1 L"),
+    ("if (g) { print(1); }", "2:22: O1 L"),
+    ("while (h) { lock(L); }", "2:25: O1 M"),
+    ("for (me = g; h; me++) { }", "2:28: O1 L"),
+    ("for (me = 0; h; me = g) { }", "2:31: O1 M"),
+    ("for (me = 0; me; me = g) { }", "2:40: O1 L"),
+    ("for (; me; me = g) { return; }", "2:34: O1 L"),
+    ("for (; me; me = g) { h = 1; }", "2:39: O1 M"),
+    ("for (; me; g += 1) { break; }", "2:29: O1 L"),
+    ("do { print(1); } while (g);", "2:42: O1 L"),
+    ("do { return; } while (g);", "2:40: O1 L"),
+    ("do { break; } while (h);", "2:39: O1 M"),
+    ("do { lock(L); g = 1; unlock(L); } while (g);", "2:59: O1 L"),
+    ("{ { int g; g = 1; } g = 1; }", "2:38: O1 L"),
+];
+
+// The same in other functions. Each text comes after `TWO`.
+const NAMES_ELSEWHERE: &[(&str, &str)] = &[
+    ("void f(int a);\nvoid w(int me) { f(g); }", "3:20: O1 L"),
     (
         "int f(int a, int b);\nvoid w(int me) { me = f(1, h); }",
-        "m.c:3:28: O1 M",
+        "3:28: O1 M",
     ),
     (
         "shared(L) int a[2]; const int t[2];\nvoid w(int me) { print(t[0] + a[t[1]]); }",
-        "m.c:3:31: O1 L",
+        "3:31: O1 L",
     ),
     (
         "shared(L) int a[2];\nvoid w(int me) { lock(L); a[h] = 1; unlock(L); }",
-        "m.c:3:29: O1 M",
+        "3:29: O1 M",
     ),
     (
         "shared(L) int a[2];\nvoid w(int me) { a[h] = 1; }",
-        "m.c:3:18: O1 L",
+        "3:18: O1 L",
     ),
-    ("int f(void) { return g; }", "m.c:2:22: O1 L"),
+    ("int f(void) { return g; }", "2:22: O1 L"),
     (
         "int f(void) holds(L) { g = 1; return g + h; }",
-        "m.c:2:42: O1 M",
+        "2:42: O1 M",
     ),
-    ("void f(int a) holds(M) { h = a; g = 1; }", "m.c:2:33: O1 L"),
-    (
-        "void w(int me) { { { int g; g = 1; } g = 1; } }",
-        "m.c:2:38: O1 L",
-    ),
+    ("void f(int a) holds(M) { h = a; g = 1; }", "2:33: O1 L"),
 ];
 
-// Calls where a lock of the called function's `holds` isn't held: the first of them is told, and names in arguments come first. Each text stands behind `TWO`.
+// Calls where a lock of the called function's `holds` isn't held: the first of them is reported, and names in arguments
+// come first. Each text comes after `TWO`.
 const CALLS: &[(&str, &str)] = &[
     (
         "void f(void) holds(L);\nvoid w(int me) { f(); }",
-        "m.c:3:18: O2 L",
+        "3:18: O2 L",
     ),
     (
         "int f(void) holds(L);\nvoid w(int me) { me = f(); }",
-        "m.c:3:23: O2 L",
+        "3:23: O2 L",
     ),
     (
         "int f(void) holds(M);\nvoid w(int me) { int x = f(); }",
-        "m.c:3:26: O2 M",
+        "3:26: O2 M",
     ),
     (
         "void f(void) holds(M, L);\nvoid w(int me) { f(); }",
-        "m.c:3:18: O2 M",
+        "3:18: O2 M",
     ),
     (
         "void f(void) holds(M, L);\nvoid w(int me) { lock(M); f(); unlock(M); }",
-        "m.c:3:27: O2 L",
+        "3:27: O2 L",
     ),
     (
         "void f(void) holds(M, L);\nvoid w(int me) { lock(L); f(); unlock(L); }",
-        "m.c:3:27: O2 M",
+        "3:27: O2 M",
     ),
     (
         "void f(void) holds(M, L); void f(void) holds(L, M) { }\nvoid w(int me) { f(); }",
-        "m.c:3:18: O2 M",
+        "3:18: O2 M",
     ),
     (
         "void f(void) holds(L) { }\nvoid w(int me) { lock(L); f(); unlock(L); f(); }",
-        "m.c:3:43: O2 L",
+        "3:43: O2 L",
     ),
     (
         "void f(void) holds(L, M); void f(void) holds(L, M) { f(); }\nvoid w(int me) { f(); }",
-        "m.c:3:18: O2 L",
+        "3:18: O2 L",
     ),
     (
         "void f(void) holds(L) { } void k(void) holds(M) { f(); }",
-        "m.c:2:51: O2 L",
+        "2:51: O2 L",
     ),
     (
         "void f(int a) holds(M);\nvoid w(int me) { f(g); }",
-        "m.c:3:20: O1 L",
+        "3:20: O1 L",
     ),
     (
         "int f(int a) holds(M);\nvoid w(int me) { me = f(g); }",
-        "m.c:3:25: O1 L",
+        "3:25: O1 L",
     ),
 ];
 
-// Branches that both go on, with different locks. Each text stands behind `TWO`.
+// Branches that both continue, with different locks. Each is the body of `w`, after `TWO`.
 const BRANCHES: &[(&str, &str)] = &[
     (
-        "void w(int me) { lock(L); if (me) { unlock(L); } print(1); unlock(L); }",
-        "m.c:2:27: O3 L",
+        "lock(L); if (me) { unlock(L); } print(1); unlock(L);",
+        "2:27: O3 L",
     ),
-    ("void w(int me) { if (me) { lock(M); } }", "m.c:2:18: O3 M"),
+    ("if (me) { lock(M); }", "2:18: O3 M"),
+    ("if (me) lock(M); else lock(L);", "2:18: O3 L"),
+    ("if (me) { lock(L); lock(M); } else lock(L);", "2:18: O3 M"),
     (
-        "void w(int me) { if (me) lock(M); else lock(L); }",
-        "m.c:2:18: O3 L",
-    ),
-    (
-        "void w(int me) { if (me) { lock(L); lock(M); } else lock(L); }",
-        "m.c:2:18: O3 M",
+        "lock(M); if (me) ; else { unlock(M); lock(L); }",
+        "2:27: O3 L",
     ),
     (
-        "void w(int me) { lock(M); if (me) ; else { unlock(M); lock(L); } }",
-        "m.c:2:27: O3 L",
+        "if (me) { lock(L); if (me) unlock(L); } else { lock(M); }",
+        "2:37: O3 L",
     ),
     (
-        "void w(int me) { if (me) { lock(L); if (me) unlock(L); } else { lock(M); } }",
-        "m.c:2:37: O3 L",
+        "if (me) { return; } else { if (me) lock(M); }",
+        "2:45: O3 M",
     ),
     (
-        "void w(int me) { if (me) { return; } else { if (me) lock(M); } }",
-        "m.c:2:45: O3 M",
-    ),
-    (
-        "void w(int me) { while (me) { if (me) { lock(L); } unlock(L); } }",
-        "m.c:2:31: O3 L",
-    ),
-    (
-        "void f(int a) holds(M) { if (a) { unlock(M); } }",
-        "m.c:2:26: O3 M",
+        "while (me) { if (me) { lock(L); } unlock(L); }",
+        "2:31: O3 L",
     ),
 ];
 
-// Ways back to the head of a loop, or out of it, with other locks than at its head. Each text stands behind `TWO`.
+// The same in other functions. Each text comes after `TWO`.
+const BRANCHES_ELSEWHERE: &[(&str, &str)] = &[(
+    "void f(int a) holds(M) { if (a) { unlock(M); } }",
+    "2:26: O3 M",
+)];
+
+// Ways back to the head of a loop, or out of it, with other locks than at its head. Each is the body of `w`, after
+// `TWO`.
 const LOOPS: &[(&str, &str)] = &[
+    ("while (me) { lock(L); }", "2:18: O4 L"),
+    ("do { lock(L); } while (me);", "2:18: O4 L"),
+    ("for (; me; ) { lock(M); }", "2:18: O4 M"),
+    ("while (me) { lock(L); break; }", "2:18: O4 L"),
+    ("while (me) { lock(L); continue; }", "2:18: O4 L"),
+    ("do { lock(L); break; } while (me);", "2:18: O4 L"),
+    ("for (; me; me--) { lock(L); continue; }", "2:18: O4 L"),
+    ("while (1) { lock(L); break; } unlock(L);", "2:18: O4 L"),
+    ("lock(L); while (me) { unlock(L); }", "2:27: O4 L"),
+    ("lock(L); for (;;) { unlock(L); break; }", "2:27: O4 L"),
+    ("while (me) { lock(M); lock(L); }", "2:18: O4 L"),
+    ("lock(L); while (me) { unlock(L); lock(M); }", "2:27: O4 L"),
     (
-        "void w(int me) { while (me) { lock(L); } }",
-        "m.c:2:18: O4 L",
+        "while (me) { while (me) { lock(L); break; } }",
+        "2:31: O4 L",
     ),
     (
-        "void w(int me) { do { lock(L); } while (me); }",
-        "m.c:2:18: O4 L",
+        "while (me) { while (me) { } lock(M); break; }",
+        "2:18: O4 M",
     ),
     (
-        "void w(int me) { for (; me; ) { lock(M); } }",
-        "m.c:2:18: O4 M",
+        "lock(L); while (me) { while (me) { break; } unlock(L); continue; }",
+        "2:27: O4 L",
     ),
     (
-        "void w(int me) { while (me) { lock(L); break; } }",
-        "m.c:2:18: O4 L",
+        "while (me) { do { lock(L); unlock(L); continue; } while (me); lock(M); }",
+        "2:18: O4 M",
     ),
     (
-        "void w(int me) { while (me) { lock(L); continue; } }",
-        "m.c:2:18: O4 L",
+        "while (me) { if (me) { lock(L); continue; } else { break; } }",
+        "2:18: O4 L",
     ),
     (
-        "void w(int me) { do { lock(L); break; } while (me); }",
-        "m.c:2:18: O4 L",
-    ),
-    (
-        "void w(int me) { for (; me; me--) { lock(L); continue; } }",
-        "m.c:2:18: O4 L",
-    ),
-    (
-        "void w(int me) { while (1) { lock(L); break; } unlock(L); }",
-        "m.c:2:18: O4 L",
-    ),
-    (
-        "void w(int me) { lock(L); while (me) { unlock(L); } }",
-        "m.c:2:27: O4 L",
-    ),
-    (
-        "void w(int me) { lock(L); for (;;) { unlock(L); break; } }",
-        "m.c:2:27: O4 L",
-    ),
-    (
-        "void w(int me) { while (me) { lock(M); lock(L); } }",
-        "m.c:2:18: O4 L",
-    ),
-    (
-        "void w(int me) { lock(L); while (me) { unlock(L); lock(M); } }",
-        "m.c:2:27: O4 L",
-    ),
-    (
-        "void w(int me) { while (me) { while (me) { lock(L); break; } } }",
-        "m.c:2:31: O4 L",
-    ),
-    (
-        "void w(int me) { while (me) { while (me) { } lock(M); break; } }",
-        "m.c:2:18: O4 M",
-    ),
-    (
-        "void w(int me) { lock(L); while (me) { while (me) { break; } unlock(L); continue; } }",
-        "m.c:2:27: O4 L",
-    ),
-    (
-        "void w(int me) { while (me) { do { lock(L); unlock(L); continue; } while (me); lock(M); } }",
-        "m.c:2:18: O4 M",
-    ),
-    (
-        "void w(int me) { while (me) { if (me) { lock(L); continue; } else { break; } } }",
-        "m.c:2:18: O4 L",
-    ),
-    (
-        "void w(int me) { while (me) { if (me) { lock(L); break; } lock(L); unlock(L); } }",
-        "m.c:2:18: O4 L",
+        "while (me) { if (me) { lock(L); break; } lock(L); unlock(L); }",
+        "2:18: O4 L",
     ),
 ];
 
-// Returns and ends of bodies with other locks than the caller holds. Each text stands behind `TWO`.
+// Returns and ends of bodies with other locks than the caller holds. Each is the body of `w`, after `TWO`.
 const ENDS: &[(&str, &str)] = &[
-    ("void w(int me) { lock(L); return; }", "m.c:2:27: O5 L"),
-    (
-        "void w(int me) { if (me) { lock(M); return; } }",
-        "m.c:2:37: O5 M",
-    ),
-    (
-        "void w(int me) { while (me) { lock(L); return; } }",
-        "m.c:2:40: O5 L",
-    ),
-    (
-        "void w(int me) { lock(M); lock(L); return; }",
-        "m.c:2:36: O5 L",
-    ),
-    ("void w(int me) { lock(L); }", "m.c:2:27: O5 L"),
-    (
-        "void w(int me) { if (me) { return; } lock(M); }",
-        "m.c:2:47: O5 M",
-    ),
-    ("void f(void) holds(L) { unlock(L); }", "m.c:2:36: O5 L"),
+    ("lock(L); return;", "2:27: O5 L"),
+    ("if (me) { lock(M); return; }", "2:37: O5 M"),
+    ("while (me) { lock(L); return; }", "2:40: O5 L"),
+    ("lock(M); lock(L); return;", "2:36: O5 L"),
+    ("lock(L);", "2:27: O5 L"),
+    ("if (me) { return; } lock(M);", "2:47: O5 M"),
+];
+
+// The same in other functions. Each text comes after `TWO`.
+const ENDS_ELSEWHERE: &[(&str, &str)] = &[
+    ("void f(void) holds(L) { unlock(L); }", "2:36: O5 L"),
     (
         "int f(void) holds(L) { unlock(L); return 1; }",
-        "m.c:2:35: O5 L",
+        "2:35: O5 L",
     ),
-    (
-        "void f(void) holds(L) { lock(M); return; }",
-        "m.c:2:34: O5 M",
-    ),
+    ("void f(void) holds(L) { lock(M); return; }", "2:34: O5 M"),
     (
         "void f(void) holds(M) { lock(L); unlock(M); }",
-        "m.c:2:45: O5 L",
+        "2:45: O5 L",
     ),
-    ("void f(void) holds(L, M) { unlock(M); }", "m.c:2:39: O5 M"),
-    ("int f(void) { lock(L); return h; }", "m.c:2:31: O1 M"),
+    ("void f(void) holds(L, M) { unlock(M); }", "2:39: O5 M"),
+    ("int f(void) { lock(L); return h; }", "2:31: O1 M"),
 ];
 
-// Locks that are taken where they are held, or given back where they aren't. Each text stands behind `TWO`.
+// Locks that are taken while they are held, or released while they aren't. Each is the body of `w`, after `TWO`.
 const LOCKS: &[(&str, &str)] = &[
-    ("void w(int me) { lock(L); lock(L); }", "m.c:2:27: O6 L"),
-    (
-        "void w(int me) { lock(L); lock(M); lock(M); }",
-        "m.c:2:36: O6 M",
-    ),
-    ("void w(int me) { unlock(L); }", "m.c:2:18: O7 L"),
-    ("void w(int me) { lock(L); unlock(M); }", "m.c:2:27: O7 M"),
-    (
-        "void w(int me) { lock(L); unlock(L); unlock(L); }",
-        "m.c:2:38: O7 L",
-    ),
-    (
-        "void w(int me) { while (me) { unlock(M); } }",
-        "m.c:2:31: O7 M",
-    ),
-    (
-        "void w(int me) { if (me) { return; } unlock(L); }",
-        "m.c:2:38: O7 L",
-    ),
-    ("void f(void) holds(L) { lock(L); }", "m.c:2:25: O6 L"),
+    ("lock(L); lock(L);", "2:27: O6 L"),
+    ("lock(L); lock(M); lock(M);", "2:36: O6 M"),
+    ("unlock(L);", "2:18: O7 L"),
+    ("lock(L); unlock(M);", "2:27: O7 M"),
+    ("lock(L); unlock(L); unlock(L);", "2:38: O7 L"),
+    ("while (me) { unlock(M); }", "2:31: O7 M"),
+    ("if (me) { return; } unlock(L);", "2:38: O7 L"),
+];
+
+// The same in other functions. Each text comes after `TWO`.
+const LOCKS_ELSEWHERE: &[(&str, &str)] = &[
+    ("void f(void) holds(L) { lock(L); }", "2:25: O6 L"),
     (
         "void f(void) holds(L) { unlock(L); lock(L); unlock(M); }",
-        "m.c:2:45: O7 M",
+        "2:45: O7 M",
     ),
 ];
 
 // Guards that are no locks declared before.
 const GUARDS: &[(&str, &str)] = &[
-    ("shared(X) int g;", "m.c:1:15: O8 X"),
-    ("extern shared(X) int g;", "m.c:1:22: O8 X"),
-    ("shared(L) int g; lock L;", "m.c:1:15: O8 L"),
-    ("void f(void); shared(f) int g;", "m.c:1:29: O8 f"),
-    ("const int k; shared(k) char a[2];", "m.c:1:29: O8 k"),
-    (
-        "lock L; shared(L) int g; shared(g) int h;",
-        "m.c:1:40: O8 g",
-    ),
+    ("shared(X) int g;", "1:15: O8 X"),
+    ("extern shared(X) int g;", "1:22: O8 X"),
+    ("shared(L) int g; lock L;", "1:15: O8 L"),
+    ("void f(void); shared(f) int g;", "1:29: O8 f"),
+    ("const int k; shared(k) char a[2];", "1:29: O8 k"),
+    ("lock L; shared(L) int g; shared(g) int h;", "1:40: O8 g"),
     (
         "lock L; shared(L) int g; shared(Lock) int h = 1;",
-        "m.c:1:43: O8 Lock",
+        "1:43: O8 Lock",
     ),
     (
         "lock L;\nvoid w(int me) { lock(L); } shared(X) int g;",
-        "m.c:2:27: O5 L",
+        "2:27: O5 L",
     ),
     (
         "lock L; shared(X) int g;\nvoid w(int me) { lock(L); }",
-        "m.c:1:23: O8 X",
+        "1:23: O8 X",
     ),
 ];
 
-// Several faults in one module: the first that the walk meets is told. Each text stands behind `TWO`.
+// Several faults in one module: the first that the check meets is reported. Each is the body of `w`, after `TWO`.
 const ORDER: &[(&str, &str)] = &[
+    ("print(g); lock(L); lock(L);", "2:24: O1 L"),
+    ("if (g) { unlock(L); }", "2:22: O1 L"),
+    ("if (me) { unlock(M); } else { unlock(L); }", "2:28: O7 M"),
+    ("if (me) { lock(L); } else { unlock(M); }", "2:46: O7 M"),
+    ("while (me) { lock(L); unlock(M); }", "2:40: O7 M"),
     (
-        "void w(int me) { print(g); lock(L); lock(L); }",
-        "m.c:2:24: O1 L",
+        "while (me) { lock(L); if (me) continue; g = 1; h = 1; }",
+        "2:18: O4 L",
     ),
-    ("void w(int me) { if (g) { unlock(L); } }", "m.c:2:22: O1 L"),
-    (
-        "void w(int me) { if (me) { unlock(M); } else { unlock(L); } }",
-        "m.c:2:28: O7 M",
-    ),
-    (
-        "void w(int me) { if (me) { lock(L); } else { unlock(M); } }",
-        "m.c:2:46: O7 M",
-    ),
-    (
-        "void w(int me) { while (me) { lock(L); unlock(M); } }",
-        "m.c:2:40: O7 M",
-    ),
-    (
-        "void w(int me) { while (me) { lock(L); if (me) continue; g = 1; h = 1; } }",
-        "m.c:2:18: O4 L",
-    ),
-    (
-        "void w(int me) { while (me) { lock(L); h = 1; } }",
-        "m.c:2:40: O1 M",
-    ),
-    (
-        "void w(int me) { do { unlock(L); } while (g); }",
-        "m.c:2:23: O7 L",
-    ),
-    (
-        "void w(int me) { for (g = 1; h; me = 1) { unlock(L); } }",
-        "m.c:2:23: O1 L",
-    ),
-    (
-        "void w(int me) { for (; h; g = 1) { unlock(L); } }",
-        "m.c:2:25: O1 M",
-    ),
-    (
-        "void w(int me) { for (; me; g = 1) { unlock(L); } }",
-        "m.c:2:38: O7 L",
-    ),
-    (
-        "void w(int me) { for (; me; g = 1) { lock(L); } }",
-        "m.c:2:18: O4 L",
-    ),
+    ("while (me) { lock(L); h = 1; }", "2:40: O1 M"),
+    ("do { unlock(L); } while (g);", "2:23: O7 L"),
+    ("for (g = 1; h; me = 1) { unlock(L); }", "2:23: O1 L"),
+    ("for (; h; g = 1) { unlock(L); }", "2:25: O1 M"),
+    ("for (; me; g = 1) { unlock(L); }", "2:38: O7 L"),
+    ("for (; me; g = 1) { lock(L); }", "2:18: O4 L"),
+];
+
+// The same in other functions. Each text comes after `TWO`.
+const ORDER_ELSEWHERE: &[(&str, &str)] = &[
     (
         "void f(void) { g = 1; } void w(int me) { h = 1; }",
-        "m.c:2:16: O1 L",
+        "2:16: O1 L",
     ),
     (
         "void f(void); void w(int me) { h = 1; } void f(void) { g = 1; }",
-        "m.c:2:32: O1 M",
+        "2:32: O1 M",
     ),
 ];
 
-// Modules that are checked. Each text stands behind `TWO`.
+// Modules that are checked. Each text comes after `TWO`.
 const CHECKED: &[&str] = &[
     "",
     "void w(int me) { lock(L); g = me; unlock(L); lock(M); h += me; unlock(M); print(me); }",
@@ -462,14 +329,14 @@ const CHECKED: &[&str] = &[
 
 const CHECK: &[&str] = &["check", "m.c"];
 
-// `check` and `run` of `m.c` with this text both tell this fault.
+// `check` and `run` of `m.c` with this text both report this fault, which begins with its line and column.
 fn assert_fault<R: Abort + Threads + Sync>(
     rt: &R,
     alloc: Global,
     text: &str,
     fault: &str,
 ) -> Result<(), AllocError> {
-    let line = format!(in alloc; "{fault}\n")?;
+    let line = format!(in alloc; "m.c:{fault}\n")?;
     let refused = wanted(1, "", line.as_str());
     assert_words(rt, alloc, CHECK, &[("m.c", text)], refused)?;
     assert_module(rt, alloc, text, refused)
@@ -489,29 +356,44 @@ fn assert_faults<R: Abort + Threads + Sync>(
     Ok(())
 }
 
-// Each call that may answer want of memory, once with ample memory: it gives another answer.
+// The same of each text, as the body of `w` after `TWO`.
+fn assert_bodies<R: Abort + Threads + Sync>(
+    rt: &R,
+    alloc: Global,
+    rows: &[(&str, &str)],
+) -> Result<(), AllocError> {
+    for (body, fault) in rows {
+        let whole = format!(in alloc; "{TWO}void w(int me) {{ {body} }}")?;
+        assert_fault(rt, alloc, whole.as_str(), fault)?;
+    }
+    Ok(())
+}
+
+// Each call that may run out of memory, once with ample memory: it gives another answer.
 #[test]
-fn always_want_of_memory(rt: HostRuntime) -> Result<(), Fail> {
+fn always_out_of_memory(rt: HostRuntime) -> Result<(), Fail> {
     let alloc = rt.alloc();
     let whole = format!(in alloc; "{TWO}void w(int me) {{ lock(L); g = me; unlock(L); }}")?;
     let texts = [("m.c", whole.as_str())];
     assert_words(&rt, alloc, CHECK, &texts, wanted(0, "m.c ok\n", ""))?;
     let refused = "lock L; shared(L) int g;\nvoid w(int me) { print(g); }";
-    assert_fault(&rt, alloc, refused, "m.c:2:24: O1 L")?;
+    assert_fault(&rt, alloc, refused, "2:24: O1 L")?;
     Ok(())
 }
 
 #[test]
-fn faults_of_ownership_are_told(rt: HostRuntime) -> Result<(), Fail> {
+fn faults_of_ownership_are_reported(rt: HostRuntime) -> Result<(), Fail> {
     let alloc = rt.alloc();
-    assert_faults(&rt, alloc, TWO, NAMES)?;
+    for bodies in [NAMES, BRANCHES, LOOPS, ENDS, LOCKS, ORDER] {
+        assert_bodies(&rt, alloc, bodies)?;
+    }
+    assert_faults(&rt, alloc, TWO, NAMES_ELSEWHERE)?;
     assert_faults(&rt, alloc, TWO, CALLS)?;
-    assert_faults(&rt, alloc, TWO, BRANCHES)?;
-    assert_faults(&rt, alloc, TWO, LOOPS)?;
-    assert_faults(&rt, alloc, TWO, ENDS)?;
-    assert_faults(&rt, alloc, TWO, LOCKS)?;
+    assert_faults(&rt, alloc, TWO, BRANCHES_ELSEWHERE)?;
+    assert_faults(&rt, alloc, TWO, ENDS_ELSEWHERE)?;
+    assert_faults(&rt, alloc, TWO, LOCKS_ELSEWHERE)?;
+    assert_faults(&rt, alloc, TWO, ORDER_ELSEWHERE)?;
     assert_faults(&rt, alloc, "", GUARDS)?;
-    assert_faults(&rt, alloc, TWO, ORDER)?;
     Ok(())
 }
 
@@ -521,13 +403,10 @@ fn first_lines_with_one_lock(rt: HostRuntime) -> Result<(), Fail> {
     let rows = [
         (
             "void w(int me) { lock(L); if (me) { unlock(L); } print(1); unlock(L); }",
-            "m.c:2:27: O3 L",
+            "2:27: O3 L",
         ),
-        (
-            "void w(int me) { while (me) { lock(L); } }",
-            "m.c:2:18: O4 L",
-        ),
-        ("void w(int me) { lock(L); return; }", "m.c:2:27: O5 L"),
+        ("void w(int me) { while (me) { lock(L); } }", "2:18: O4 L"),
+        ("void w(int me) { lock(L); return; }", "2:27: O5 L"),
     ];
     assert_faults(&rt, alloc, "lock L;\n", &rows)?;
     Ok(())

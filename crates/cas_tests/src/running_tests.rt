@@ -1,5 +1,5 @@
-//! What `run` answers of modules of the first form and of others, of words that are no command, and of reads and puts that
-//! fail. The wanted bytes are those that `docs/COMMANDS.md` gives.
+//! What `run` answers of modules of the first form and of others, of words that are no command, and of reads and
+//! puts that fail. The wanted bytes are those that `docs/COMMANDS.md` gives.
 
 ghost use Rattle.std.specs.Prelude.{None, []};
 
@@ -24,7 +24,7 @@ fn ones(alloc: Global, others: usize) -> Result<String, AllocError> {
 }
 
 #[test]
-fn always_want_of_memory(rt: HostRuntime) -> Result<(), Fail> {
+fn always_out_of_memory(rt: HostRuntime) -> Result<(), Fail> {
     assert_answer(&rt, rt.alloc(), run_of(SUM_TEXTS), wanted(0, PRINTED, ""))?;
     Ok(())
 }
@@ -121,7 +121,7 @@ fn assert_untold<R: Abort + Threads + Sync>(
 
 // The line of faulty words, of a text that is too long, and of a module that is refused can fail to be put.
 #[test]
-fn refusals_whose_put_fails_are_told(rt: HostRuntime) -> Result<(), Fail> {
+fn refusals_whose_put_fails_are_reported(rt: HostRuntime) -> Result<(), Fail> {
     let alloc = rt.alloc();
     let unread = Given {
         words: &["run", "m.c"],
@@ -219,7 +219,7 @@ fn assert_faults<R: Abort + Threads + Sync>(
 }
 
 #[test]
-fn reads_that_fail_are_told(rt: HostRuntime) -> Result<(), Fail> {
+fn reads_that_fail_are_reported(rt: HostRuntime) -> Result<(), Fail> {
     let alloc = rt.alloc();
     assert_faults(
         &rt,
@@ -251,7 +251,7 @@ fn reads_that_fail_are_told(rt: HostRuntime) -> Result<(), Fail> {
 }
 
 #[test]
-fn puts_that_fail_are_told(rt: HostRuntime) -> Result<(), Fail> {
+fn puts_that_fail_are_reported(rt: HostRuntime) -> Result<(), Fail> {
     let alloc = rt.alloc();
     assert_faults(&rt, alloc, [&[], &[1], &[2]], wanted(4, "", CANNOT_WRITE))?;
     assert_faults(
@@ -313,7 +313,7 @@ impl Sink for NarrowSink {
 }
 
 #[test]
-fn want_of_memory_is_told(rt: HostRuntime) -> Result<(), Fail> {
+fn out_of_memory_is_reported(rt: HostRuntime) -> Result<(), Fail> {
     let alloc = rt.alloc();
     let words = words_of(alloc, &RUN)?;
     let mut out = sink_of(alloc, &[])?;
@@ -354,7 +354,7 @@ impl Sink for ClosedSink {
 }
 
 #[test]
-fn lines_for_want_of_memory_are_tried_once(rt: HostRuntime) -> Result<(), Fail> {
+fn lines_for_out_of_memory_are_tried_once(rt: HostRuntime) -> Result<(), Fail> {
     let alloc = rt.alloc();
     let words = words_of(alloc, &RUN)?;
     let mut out = sink_of(alloc, &[])?;
@@ -375,7 +375,7 @@ fn lines_for_want_of_memory_are_tried_once(rt: HostRuntime) -> Result<(), Fail> 
 }
 
 #[test]
-fn puts_without_memory_are_told(rt: HostRuntime) -> Result<(), Fail> {
+fn puts_without_memory_are_reported(rt: HostRuntime) -> Result<(), Fail> {
     let alloc = rt.alloc();
     let mut shelf = shelf_of(alloc, run_of(SUM_TEXTS))?;
     let mut out = NarrowSink::new(alloc);

@@ -1,5 +1,5 @@
-//! What `world` answers of the turns of several threads, and which modules and threads are no program. The wanted lines are those that
-//! the rules of the language and of the command give (`docs/LANGUAGE.md`, `docs/COMMANDS.md`).
+//! What `world` answers of the turns of several threads, and which modules and threads are no program. The wanted lines
+//! are those of the rules of the language and of the command (`docs/LANGUAGE.md`, `docs/COMMANDS.md`).
 
 use crate::calls::{
     Answer, CANNOT_WRITE, Given, WORLD, assert_answer, assert_words, repeated, wanted,
@@ -22,141 +22,6 @@ const SELF_LOCKED: &str =
 
 const BAD_HOLDER: &str =
     "lock L; shared(L) int g; void w(int me) { lock(L); g = 1 / me; unlock(L); }";
-
-// 64 threads of one function.
-const MANY: &str =
-    "w,w,w,w,w,w,w,w,w,w,w,w,w,w,w,w,w,w,w,w,w,w,w,w,w,w,w,w,w,w,w,w,w,w,w,w,w,w,w,w,w,w,w,w,w,w,w,w,w,w,w,w,w,w,w,w,w,w,w,w,w,w,w,w";
-
-// What each of them puts out in the first round, and where it stands then.
-const MANY_LINES: &str = "0 0
-1 1
-2 2
-3 3
-4 4
-5 5
-6 6
-7 7
-8 8
-9 9
-10 10
-11 11
-12 12
-13 13
-14 14
-15 15
-16 16
-17 17
-18 18
-19 19
-20 20
-21 21
-22 22
-23 23
-24 24
-25 25
-26 26
-27 27
-28 28
-29 29
-30 30
-31 31
-32 32
-33 33
-34 34
-35 35
-36 36
-37 37
-38 38
-39 39
-40 40
-41 41
-42 42
-43 43
-44 44
-45 45
-46 46
-47 47
-48 48
-49 49
-50 50
-51 51
-52 52
-53 53
-54 54
-55 55
-56 56
-57 57
-58 58
-59 59
-60 60
-61 61
-62 62
-63 63
-thread 0 running
-thread 1 running
-thread 2 running
-thread 3 running
-thread 4 running
-thread 5 running
-thread 6 running
-thread 7 running
-thread 8 running
-thread 9 running
-thread 10 running
-thread 11 running
-thread 12 running
-thread 13 running
-thread 14 running
-thread 15 running
-thread 16 running
-thread 17 running
-thread 18 running
-thread 19 running
-thread 20 running
-thread 21 running
-thread 22 running
-thread 23 running
-thread 24 running
-thread 25 running
-thread 26 running
-thread 27 running
-thread 28 running
-thread 29 running
-thread 30 running
-thread 31 running
-thread 32 running
-thread 33 running
-thread 34 running
-thread 35 running
-thread 36 running
-thread 37 running
-thread 38 running
-thread 39 running
-thread 40 running
-thread 41 running
-thread 42 running
-thread 43 running
-thread 44 running
-thread 45 running
-thread 46 running
-thread 47 running
-thread 48 running
-thread 49 running
-thread 50 running
-thread 51 running
-thread 52 running
-thread 53 running
-thread 54 running
-thread 55 running
-thread 56 running
-thread 57 running
-thread 58 running
-thread 59 running
-thread 60 running
-thread 61 running
-thread 62 running
-thread 63 running
-";
 
 // Modules with the functions of their threads, the option of turns, and what is printed.
 const TURNS: &[(&str, &str, &[&str], &str)] = &[
@@ -249,12 +114,6 @@ const TURNS: &[(&str, &str, &[&str], &str)] = &[
         "w,w",
         &["--schedule", "0*1000,1*0001"],
         "thread 0 running\nthread 1 running\n",
-    ),
-    (
-        "void w(int me) { print(me); }",
-        MANY,
-        &["--rounds", "1"],
-        MANY_LINES,
     ),
     (
         CROSSED,
@@ -506,6 +365,37 @@ const LINKED: &[(&str, &str, &str)] = &[
         "0 9\nthread 0 ended\n",
     ),
 ];
+
+// 64 threads of `w`, and the lines after a first round in which each prints its number.
+fn many_threads(alloc: Global) -> Result<(String, String), AllocError> {
+    let mut threads = String::from_str(alloc, "w")?;
+    threads.push_str(repeated(alloc, ",w", 63)?.as_str())?;
+    let mut lines = String::new(alloc);
+    for thread in 0u32..64 {
+        lines.push_str(format!(in alloc; "{thread} {thread}\n")?.as_str())?;
+    }
+    for thread in 0u32..64 {
+        lines.push_str(format!(in alloc; "thread {thread} running\n")?.as_str())?;
+    }
+    Ok((threads, lines))
+}
+
+#[test]
+fn many_threads_take_turns(rt: HostRuntime) -> Result<(), Fail> {
+    let alloc = rt.alloc();
+    let (threads, lines) = many_threads(alloc)?;
+    let words = [
+        "world",
+        "m.c",
+        "--threads",
+        threads.as_str(),
+        "--rounds",
+        "1",
+    ];
+    let texts = [("m.c", "void w(int me) { print(me); }")];
+    assert_words(&rt, alloc, &words, &texts, wanted(0, lines.as_str(), ""))?;
+    Ok(())
+}
 
 #[test]
 fn threads_take_turns(rt: HostRuntime) -> Result<(), Fail> {

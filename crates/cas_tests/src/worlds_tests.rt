@@ -1,5 +1,5 @@
-//! What `world` answers of modules of one thread: what it puts out and stands at. The wanted lines are those that the rules of the
-//! language give (`docs/LANGUAGE.md`).
+//! What `world` answers of modules of one thread: what it puts out and stands at. The wanted lines are those that
+//! the rules of the language give (`docs/LANGUAGE.md`).
 
 use crate::calls::{WORLD, assert_words, wanted};
 use std::test::Fail;
