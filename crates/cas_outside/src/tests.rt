@@ -115,12 +115,14 @@ fn files_fail_and_are_too_long(rt: HostRuntime) {
     }
 }
 
-// Takes two bytes at a time, is interrupted before each third write, and fails once it is full.
+// Takes two bytes at a time, is interrupted before each third write and so many times before a flush, and fails once it
+// is full.
 #[derive(Drop)]
 struct ShortWriter {
     taken: Vec<u8>,
     room: usize,
     writes: u64,
+    interruptions: u32,
     failure: ErrorKind,
 }
 
@@ -140,6 +142,10 @@ impl Write for ShortWriter {
 
     // A full writer can't be flushed.
     fn flush(&mut self) -> io::Result<()> {
+        if self.interruptions > 0 {
+            self.interruptions -= 1;
+            return Err(io::Error::from(ErrorKind::Interrupted));
+        }
         if self.taken.len() >= self.room {
             return Err(io::Error::from(self.failure));
         }
@@ -167,10 +173,13 @@ fn stream_takes_all_or_fails(rt: HostRuntime) -> Result<(), Fail> {
             taken: Vec::new(alloc),
             room,
             writes: 0,
+            interruptions: 3,
             failure,
         };
         assert_eq!(rt; put_hello(alloc, &mut writer), want, "at {room}");
         assert_eq!(rt; writer.taken.as_slice(), taken.as_bytes(), "at {room}");
+        let interruptions = if want.is_ok() || room == 11 { 0 } else { 3 };
+        assert_eq!(rt; writer.interruptions, interruptions, "at {room}");
     }
     Ok(())
 }
