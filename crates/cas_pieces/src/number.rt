@@ -9,6 +9,13 @@ ghost use Rattle.cas_pieces.specs.Numbers as spec;
 use crate::piece::Word;
 
 impl<'a> Word<'a> {
+    /// Whether it is a number in its one spelling: decimal digits that don't begin with a 0 that isn't alone.
+    pub fn is_numeral(&self) -> bool
+        ensures { result ≡ spec.is_numeral self.now }
+    {
+        is_numeral(self.as_str().as_bytes())
+    }
+
     /// The number that it is, if its digits are decimal and don't begin with a 0 that isn't alone. A number above the
     /// largest `u64` is given as that.
     pub fn number(&self) -> Option<u64>

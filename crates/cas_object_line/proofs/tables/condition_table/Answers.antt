@@ -1,0 +1,6 @@
+use Rattle.std.proofs.Common.{refl}
+use Rattle.cas_object_line.proofs.Rows.{condition-table}
+use Rattle.cas_object_line.proofs.tables.condition_table.Goals as goal
+
+pub unreachable-requires : goal.unreachable-requires
+unreachable-requires c = c.in-None.ensures.none.0 refl condition-table
