@@ -1,0 +1,24 @@
+//! The lock object is sound over store buffers, whatever programs call it.
+//!
+//! Threads run any programs over shared words. Between them they call `lock` and `unlock`, whose eight instructions are
+//! a locked decrement that is repeated while the lock is taken, and a plain store of 1. Each thread has a first-in
+//! first-out buffer of stores, as on x86-TSO. Each run is one of the same threads over atomic locks: there is a legal
+//! list of labels, and each thread over atomic locks is where the buffered one is, or a step of one of them is Bad before.
+#![tactic(auto)]
+
+ghost use Rattle.cas_atomic.specs.Atomic.{Setup};
+ghost use Rattle.cas_atomic.specs.Kinds.{KindsFollow};
+ghost use Rattle.cas_atomic.specs.Sound.{IsSound};
+
+/// Each run is explained by labels over atomic locks, or a first part of it is and then a thread's next step over atomic
+/// locks is Bad.
+#[tactic(auto, using(crate::proofs::Main::sound))]
+pub fn buffered_locks_are_sound<X>()
+    ensures { (p : Setup X) → IsSound p }
+{}
+
+/// The words that a Lock brings are of their kinds, if the first words are and the words that threads give back are.
+#[tactic(auto, using(crate::proofs::Following::kinds_follow))]
+pub fn kinds_follow<X>()
+    ensures { (p : Setup X) → KindsFollow p }
+{}
