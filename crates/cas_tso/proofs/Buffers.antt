@@ -1,6 +1,7 @@
 -- Store buffers: the newest store to a place, found from the oldest on.
 use Rattle.std.proofs.Common.{◌≡◌, ℕ, zero, suc, ◌+◌, List, [], ◌∷◌, drop, slice_get, Option, Some, None, Bool, true, false, nat_eq, if◌then◌else◌, refl, sym, ap, ◌∙◌, add-one}
 use Rattle.std.specs.Option.{option_or}
+use Rattle.cas_tso.specs.Refusal.{refused_drain}
 use Rattle.cas_tso.specs.State.{newest}
 use Rattle.cas_tso.specs.declared.pending.Pending.{Pending}
 
@@ -43,3 +44,8 @@ past xs i at e = ap (λ (k : ℕ). newest (drop k xs) at) (add-one i) ∙ past_a
 pub first_and_rest : (xs : List Pending) (x : Pending) → slice_get xs 0 ≡ Some x → xs ≡ x ∷ drop 1 xs
 first_and_rest [] x e = cc
 first_and_rest (y ∷ ys) x e = cc
+
+-- a buffer with a store in it has something to drain
+pub drains_first : (xs : List Pending) (x : Pending) → slice_get xs 0 ≡ Some x → refused_drain xs ≡ None
+drains_first [] x e = cc
+drains_first (y ∷ ys) x e = refl

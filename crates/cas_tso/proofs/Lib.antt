@@ -1,3 +1,5 @@
 pub mod Buffers
 pub mod Asking
 pub mod Going
+pub mod Keeping
+pub mod Machines

@@ -17,17 +17,13 @@ pub record IsCounted (c : Thread) : Type 0 where
   pub fuel : c.counts.executed ≤ most_fuel
   pub full : length c.buffer ≤ room
 
--- the place of the store is a word of memory
-abbrev pub IsWithin : List ℕ → Pending → Type 0
-IsWithin memory x = x.at < length memory
-
 -- a thread of a machine: a running one has fuel left, it has made no more outputs than it may, and its stores are to memory
-pub record IsKeptThread (p : Setup) (memory : List ℕ) (c : Thread) : Type 0 where
+pub record IsKeptThread (p : Setup) (c : Thread) : Type 0 where
   pub counted : IsCounted c
   pub fuel : c.counts.executed ≤ p.options.fuel
   pub running : c.ended ≡ None → c.counts.executed < p.options.fuel
   pub outs : c.counts.outs ≤ p.options.outs
-  pub within : (k : ℕ) (x : Pending) → slice_get c.buffer k ≡ Some x → IsWithin memory x
+  pub within : (k : ℕ) (x : Pending) → slice_get c.buffer k ≡ Some x → x.at < length p.image.words
 
 -- the outputs that threads have made, together
 abbrev pub all_outs : List Thread → ℕ
@@ -40,4 +36,4 @@ pub record IsKept (p : Setup) (s : State) : Type 0 where
   pub memory : length s.memory ≡ length p.image.words
   pub outputs : length s.output ≡ all_outs s.threads
   pub count : length s.threads ≡ length p.image.entries
-  pub threads : (i : ℕ) (c : Thread) → slice_get s.threads i ≡ Some c → IsKeptThread p s.memory c
+  pub threads : (i : ℕ) (c : Thread) → slice_get s.threads i ≡ Some c → IsKeptThread p c

@@ -6,3 +6,5 @@ pub mod Refusal
 pub mod Counted
 pub mod Core
 pub mod Asking
+pub mod Machine
+pub mod Inside

@@ -1,7 +1,9 @@
 -- Choices of what to do next, and when they are refused.
 use Rattle.std.specs.Prelude.{◌≡◌, ⊤, ℕ, List, [], ◌∷◌, Option, Some, None, if◌then◌else◌}
+use Rattle.cas_asm.specs.Ask.{ask_of}
+use Rattle.cas_asm.specs.declared.image.Image.{Image}
 use Rattle.cas_tso.specs.State.{Setup, State, Thread}
-use Rattle.cas_tso.specs.Step.{Act, drained, Agrees, Step, Takes, asks, memory_after, output_after}
+use Rattle.cas_tso.specs.Step.{Act, drained, Agrees, Step, Takes, memory_after, output_after}
 use Rattle.cas_tso.specs.Timed.{must_drain}
 use Rattle.cas_tso.specs.declared.end.End.{End}
 use Rattle.cas_tso.specs.declared.pending.Pending.{Pending}
@@ -15,18 +17,18 @@ thread_of (choice.Run i) = i
 thread_of (choice.Drain i) = i
 
 -- why the thread's next instruction, or its end in place of it, isn't to be had
-abbrev pub refused_run : Setup → Thread → Option End → Option Refused
-refused_run p c (Some e) = Some refused.Ended
-refused_run p c None = if must_drain (asks p c None) c.buffer then Some refused.MustDrain else None
+abbrev pub refused_run : Image → Thread → Option End → Option Refused
+refused_run m c (Some e) = Some refused.Ended
+refused_run m c None = if must_drain (ask_of m c.cpu None) c.buffer then Some refused.MustDrain else None
 
 abbrev pub refused_drain : List Pending → Option Refused
 refused_drain [] = Some refused.NothingToDrain
 refused_drain (x ∷ xs) = None
 
 -- why the choice is refused where its thread is this
-abbrev pub refused_choice : Setup → Thread → Choice → Option Refused
-refused_choice p c (choice.Run i) = refused_run p c c.ended
-refused_choice p c (choice.Drain i) = refused_drain c.buffer
+abbrev pub refused_choice : Image → Thread → Choice → Option Refused
+refused_choice m c (choice.Run i) = refused_run m c c.ended
+refused_choice m c (choice.Drain i) = refused_drain c.buffer
 
 abbrev pub IsDrain : Act → Type 0
 IsDrain (drained at value) = ⊤

@@ -1,17 +1,20 @@
 //! The next instruction of a thread, with the memory and the output.
 
-ghost use Rattle.std.specs.Prelude.{◌≡◌, ◌<◌, ◌≤◌, ℕ, [], List, length, slice_get, None, Some, OnOk, IfErr, vec_len, vec_capacity};
+ghost use Rattle.std.specs.Prelude.{◌+◌, false, ◌≡◌, ◌<◌, ◌≤◌, ℕ, [], List, length, slice_get, None, Some, OnErr, OnOk, MatchResult, vec_len, vec_capacity};
 ghost use Rattle.cas_asm.specs.Ask.{ask_of};
 ghost use Rattle.cas_asm.specs.declared.ask.Ask.TheVariants as ask;
-ghost use Rattle.cas_tso.specs.Refusal.{Goes, part, refused_run};
-ghost use Rattle.cas_tso.specs.State.{newest, setup};
+ghost use Rattle.cas_tso.specs.Refusal.{Drains, Goes, part, refused_drain, refused_run};
+ghost use Rattle.cas_tso.specs.State.{Setup, newest, setup};
 ghost use Rattle.cas_tso.specs.Step.{IsRunning};
-ghost use Rattle.cas_tso.specs.declared.refused.Refused.TheVariants as refused;
+ghost use Rattle.cas_tso.specs.Timed.{must_drain};
+ghost use Rattle.cas_tso.specs.declared.pending.Pending.{Pending};
 
+use crate::end::End;
 use crate::options::Options;
 use crate::refused::Refused;
 use crate::thread::ThreadCore;
 use cas_asm::{Ask, Image};
+use cas_base::sub;
 
 // The word of memory at a place.
 fn word_at(memory: &[u32], at: u32) -> u32
@@ -49,4 +52,125 @@ fn load(core: &mut ThreadCore, image: &Image, options: &Options, memory: &[u32],
         Some(end) => core.stop(end),
         None => core.load(image, options, at, word),
     }
+}
+
+// The next instruction, a locked decrement.
+fn decrement(
+    core: &mut ThreadCore,
+    image: &Image,
+    options: &Options,
+    memory: &mut Vec<u32>,
+    at: u32,
+)
+    requires running { IsRunning core.old }
+    requires locked { ask_of image.now core.old.cpu None ≡ ask.LockedDec at }
+    requires empty { core.old.buffer ≡ [] }
+    requires fuel { core.old.counts.executed < 4000000000 }
+    requires place { at < vec_len memory.old }
+    ensures wide { vec_len memory.new ≡ vec_len memory.old }
+    ensures goes { (i : ℕ) (o : List (ℕ × ℕ)) → Goes (setup image.now options.now) i (part core.old memory.old.items o) (part core.new memory.new.items o) }
+{
+    let word = word_at(memory, at);
+    core.decrement(image, options, at, word);
+    memory[at as usize] = sub(word, 1);
+}
+
+// The next instruction, an `out`; or the end in place of it.
+fn print(
+    core: &mut ThreadCore,
+    image: &Image,
+    options: &Options,
+    output: &mut Vec<(u32, u32)>,
+    thread: u32,
+    word: u32,
+)
+    requires running { IsRunning core.old }
+    requires out { ask_of image.now core.old.cpu None ≡ ask.Out word }
+    requires fuel { core.old.counts.executed < 4000000000 }
+    requires room { core.old.counts.outs < options.now.outs → vec_len output.old < vec_capacity output.old }
+    ensures capacity { vec_capacity output.new ≡ vec_capacity output.old }
+    ensures goes { (m : List ℕ) → Goes (setup image.now options.now) thread (part core.old m output.old.items) (part core.new m output.new.items) }
+{
+    match core.stop_of(options, Ask::Out { value: word }) {
+        Some(end) => core.stop(end),
+        None => {
+            core.print(image, options, word);
+            output.push_reserved((thread, word));
+        }
+    }
+}
+
+// The next instruction, which asks for this and can be had; or the end in place of it.
+fn execute(
+    core: &mut ThreadCore,
+    image: &Image,
+    options: &Options,
+    memory: &mut Vec<u32>,
+    output: &mut Vec<(u32, u32)>,
+    thread: u32,
+)
+    requires running { IsRunning core.old }
+    requires free { must_drain (ask_of image.now core.old.cpu None) core.old.buffer ≡ false }
+    requires fuel { core.old.counts.executed < 4000000000 }
+    requires wide { vec_len memory.old ≡ length image.now.words }
+    requires room { core.old.counts.outs < options.now.outs → vec_len output.old < vec_capacity output.old }
+    ensures wide { vec_len memory.new ≡ vec_len memory.old }
+    ensures capacity { vec_capacity output.new ≡ vec_capacity output.old }
+    ensures goes { Goes (setup image.now options.now) thread (part core.old memory.old.items output.old.items) (part core.new memory.new.items output.new.items) }
+{
+    match core.ask(image, None) {
+        Ask::Plain | Ask::Finish => core.run(image, options),
+        Ask::Load { at } => match core.newest(at) {
+            Some(word) => forward(core, image, options, at, word),
+            None => load(core, image, options, memory, at),
+        },
+        Ask::Store { at, value } => core.store(image, options, at, value),
+        Ask::LockedDec { at } => decrement(core, image, options, memory, at),
+        Ask::Out { value } => print(core, image, options, output, thread, value),
+        Ask::Stack => core.stop(End::Stack),
+        Ask::Bad(why) => core.stop(End::Bad(why)),
+    }
+}
+
+/// The thread executes its next instruction or ends in place of it, or is refused, and then nothing changes.
+pub(crate) fn run_next(
+    core: &mut ThreadCore,
+    image: &Image,
+    options: &Options,
+    memory: &mut Vec<u32>,
+    output: &mut Vec<(u32, u32)>,
+    thread: u32,
+) -> Result<(), Refused>
+    requires fuel { IsRunning core.old → core.old.counts.executed < 4000000000 }
+    requires wide { vec_len memory.old ≡ length image.now.words }
+    requires room { core.old.counts.outs < options.now.outs → vec_len output.old < vec_capacity output.old }
+    ensures wide { vec_len memory.new ≡ vec_len memory.old }
+    ensures capacity { vec_capacity output.new ≡ vec_capacity output.old }
+    ensures goes { OnOk result (Goes (setup image.now options.now) thread (part core.old memory.old.items output.old.items) (part core.new memory.new.items output.new.items)) }
+    ensures answer { MatchResult result (λ _. refused_run image.now core.old core.old.ended ≡ None) (λ why. refused_run image.now core.old core.old.ended ≡ Some why) }
+    ensures still { OnErr result ((core.new ≡ core.old) × (memory.new.items ≡ memory.old.items) × (output.new.items ≡ output.old.items)) }
+{
+    if core.end().is_some() {
+        return Err(Refused::Ended);
+    }
+    if core.must_drain(core.ask(image, None)) {
+        return Err(Refused::MustDrain);
+    }
+    execute(core, image, options, memory, output, thread);
+    Ok(())
+}
+
+/// The thread's oldest store goes to memory, or it is refused, and then nothing changes.
+pub(crate) fn drain_oldest(core: &mut ThreadCore, memory: &mut Vec<u32>) -> Result<(), Refused>
+    requires { (k : ℕ) (x : Pending) → slice_get core.old.buffer k ≡ Some x → x.at < vec_len memory.old }
+    ensures wide { vec_len memory.new ≡ vec_len memory.old }
+    ensures drains { OnOk result ((p : Setup) (i : ℕ) (o : List (ℕ × ℕ)) → Drains p i (part core.old memory.old.items o) (part core.new memory.new.items o)) }
+    ensures answer { MatchResult result (λ _. refused_drain core.old.buffer ≡ None) (λ why. refused_drain core.old.buffer ≡ Some why) }
+    ensures still { OnErr result ((core.new ≡ core.old) × (memory.new.items ≡ memory.old.items)) }
+{
+    let Some(store) = core.drain() else {
+        return Err(Refused::NothingToDrain);
+    };
+    memory[store.at as usize] = store.value;
+    Ok(())
 }

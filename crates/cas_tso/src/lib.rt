@@ -3,12 +3,15 @@
 
 mod end;
 mod instruction;
+pub mod laws;
+mod machine;
 mod options;
 mod pending;
 mod refused;
 mod thread;
 
 pub use end::End;
+pub use machine::Tso;
 pub use options::Options;
 pub use pending::Pending;
 pub use refused::{Choice, Refused};

@@ -3,6 +3,7 @@
 ghost use Rattle.std.specs.Prelude.{◌≡◌, ◌+◌, ◌<◌, ◌≤◌, ℕ, [], List, length, None, Some, IfOk, IfSome, IfNone, MatchOption, ◌∷◌, slice_get, IsTrue};
 ghost use Rattle.cas_asm.specs.Ask.{ask_of};
 ghost use Rattle.cas_asm.specs.declared.ask.Ask.TheVariants as ask;
+ghost use Rattle.cas_tso.specs.Asking.{IsAmongWords};
 ghost use Rattle.cas_tso.specs.Run.{first_end, first_thread};
 ghost use Rattle.cas_tso.specs.State.{Setup, newest, room, setup};
 ghost use Rattle.cas_tso.specs.Step as act;
@@ -81,7 +82,8 @@ impl ThreadCore {
 
     /// What the thread's next instruction does, given the shared word that it loads.
     pub fn ask(&self, image: &Image, loaded: Option<u32>) -> Ask
-        ensures { result ≡ ask_of image.now self.now.cpu loaded }
+        ensures asked { result ≡ ask_of image.now self.now.cpu loaded }
+        ensures among { IsAmongWords (length image.now.words) result }
     {
         cpu_ask(image, &self.cpu, loaded)
     }
@@ -170,7 +172,8 @@ impl ThreadCore {
 
     /// Step 4: the oldest store leaves the buffer. Without a store nothing changes.
     pub fn drain(&mut self) -> Option<Pending>
-        ensures { MatchOption result ((self.old.buffer ≡ []) × (self.new ≡ self.old)) (λ x. (p : Setup) → Takes p self.old (act.drained x.at x.value) self.new) }
+        ensures value { result ≡ slice_get self.old.buffer 0 }
+        ensures taken { MatchOption result ((self.old.buffer ≡ []) × (self.new ≡ self.old)) (λ x. (p : Setup) → Takes p self.old (act.drained x.at x.value) self.new) }
     {
         let store = self.buffer.pop_front()?;
         self.drains += 1;

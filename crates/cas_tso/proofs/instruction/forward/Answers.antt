@@ -7,7 +7,7 @@ pub forward-requires-clause-plain : goal.forward-requires-clause-plain
 forward-requires-clause-plain c =
     let d = c.args.core.now in
     plain_after c.args.image.now c.args.options.now d c.args.at c.args.word c.requires.load
-    (ap (stop_of c.args.options.now d) (sym c.ask.ensures) ∙ (sym c.stop_of.ensures ∙ c.in-None.is))
+    (ap (stop_of c.args.options.now d) (sym c.ask.ensures.asked) ∙ (sym c.stop_of.ensures ∙ c.in-None.is))
 
 pub returns-in-Some : goal.returns-in-Some
 returns-in-Some c = λ i m o. (
@@ -19,7 +19,7 @@ returns-in-Some c = λ i m o. (
       (
         c.requires.load,
         c.requires.newest,
-        ap (stop_of c.args.options.now c.args.core.now) (sym c.ask.ensures) ∙ (sym c.stop_of.ensures ∙ c.in-Some.is),
+        ap (stop_of c.args.options.now c.args.core.now) (sym c.ask.ensures.asked) ∙ (sym c.stop_of.ensures ∙ c.in-Some.is),
       ),
       c.stop.ensures,
     ),

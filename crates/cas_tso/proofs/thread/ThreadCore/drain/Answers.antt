@@ -6,8 +6,8 @@ use Rattle.cas_tso.specs.declared.pending.Pending.{Pending}
 use Rattle.cas_tso.proofs.Buffers.{first_and_rest}
 use Rattle.cas_tso.proofs.thread.ThreadCore.drain.Goals as goal
 
-pub returns : goal.returns
-returns c =
+pub returns-clause-taken : goal.returns-clause-taken
+returns-clause-taken c =
     let x = c.in_ok-store.store in
     let d = c.self.inside in
     let is = c.self.view_is in

@@ -1,0 +1,101 @@
+//! The machine.
+
+ghost use Rattle.std.specs.Prelude.{◌≡◌, ◌*◌, ◌<◌, ◌≤◌, ℕ, Some, None, IfOk, OnErr, OnOk, MatchResult, length, slice_get};
+ghost use Rattle.cas_tso.specs.Counted.{most_fuel};
+ghost use Rattle.cas_tso.specs.Machine.{machine};
+ghost use Rattle.cas_tso.specs.Refusal.{StepsAs, refused_choice, refused_drain, refused_run, thread_of};
+ghost use Rattle.cas_tso.specs.Run.{start_state, threads_from};
+ghost use Rattle.cas_tso.specs.State.{Thread, setup};
+ghost use Rattle.cas_tso.specs.declared.refused.Choice.TheVariants as choice;
+
+use crate::instruction::{drain_oldest, run_next};
+use crate::options::Options;
+use crate::refused::{Choice, Refused};
+use crate::thread::ThreadCore;
+use cas_asm::Image;
+use cas_base::NoMemory;
+use std::alloc::Global;
+use std::marker::Model;
+
+/// The x86-TSO machine of an image, on one thread. Contracts see it as its setup and its state.
+#[derive(Drop)]
+pub struct Tso<'a> {
+    image: &'a Image,
+    options: Options,
+    memory: Vec<u32>,
+    output: Vec<(u32, u32)>,
+    threads: Vec<ThreadCore>,
+}
+
+impl<'a> Model for Tso<'a> {
+    ghost use Rattle.cas_tso.specs.Machine.{Machine};
+
+    ghost Value = { Machine };
+
+    ghost use Rattle.cas_tso.specs.Inside.{machine_in, IsSound};
+
+    ghost view = { machine_in };
+
+    ghost invariant = { IsSound };
+}
+
+impl<'a> Tso<'a> {
+    /// How many threads there are. They have the numbers from 0 on.
+    pub fn threads(&self) -> u32
+        ensures { result ≡ length self.now.state.threads }
+    {
+        self.threads.len() as u32
+    }
+
+    // The thread executes its next instruction, or ends in place of it.
+    fn run(&mut self, thread: u32) -> Result<(), Refused>
+        requires { thread < length self.old.state.threads }
+        ensures setup { self.new.setup ≡ self.old.setup }
+        ensures answer { (c : Thread) → slice_get self.old.state.threads thread ≡ Some c → MatchResult result (λ _. refused_run self.old.setup.image c c.ended ≡ None) (λ why. refused_run self.old.setup.image c c.ended ≡ Some why) }
+        ensures steps { OnOk result (StepsAs self.old.setup self.old.state (choice.Run thread) self.new.state) }
+        ensures still { OnErr result (self.new ≡ self.old) }
+    {
+        let core = &mut self.threads[thread as usize];
+        run_next(
+            core,
+            self.image,
+            &self.options,
+            &mut self.memory,
+            &mut self.output,
+            thread,
+        )
+    }
+
+    // The thread's oldest store goes to memory.
+    fn drain(&mut self, thread: u32) -> Result<(), Refused>
+        requires { thread < length self.old.state.threads }
+        ensures setup { self.new.setup ≡ self.old.setup }
+        ensures answer { (c : Thread) → slice_get self.old.state.threads thread ≡ Some c → MatchResult result (λ _. refused_drain c.buffer ≡ None) (λ why. refused_drain c.buffer ≡ Some why) }
+        ensures steps { OnOk result (StepsAs self.old.setup self.old.state (choice.Drain thread) self.new.state) }
+        ensures still { OnErr result (self.new ≡ self.old) }
+    {
+        let core = &mut self.threads[thread as usize];
+        drain_oldest(core, &mut self.memory)
+    }
+
+    /// Takes a step that is chosen: the thread executes its next instruction or ends in place of it, or its oldest store goes to
+    /// memory. It takes no memory.
+    ///
+    /// # Errors
+    ///
+    /// `Refused`, and then nothing changes: `Ended` exactly where a thread with an end is to run, `NothingToDrain` exactly where
+    /// a thread with an empty buffer is to drain, and `MustDrain` exactly where the next instruction of a thread that is to run
+    /// is locked while its buffer isn't empty, or stores while its buffer is full.
+    pub fn step(&mut self, choice: Choice) -> Result<(), Refused>
+        requires { thread_of choice < length self.old.state.threads }
+        ensures setup { self.new.setup ≡ self.old.setup }
+        ensures answer { (c : Thread) → slice_get self.old.state.threads (thread_of choice) ≡ Some c → MatchResult result (λ _. refused_choice self.old.setup.image c choice ≡ None) (λ why. refused_choice self.old.setup.image c choice ≡ Some why) }
+        ensures steps { OnOk result (StepsAs self.old.setup self.old.state choice self.new.state) }
+        ensures still { OnErr result (self.new ≡ self.old) }
+    {
+        match choice {
+            Choice::Run(thread) => self.run(thread),
+            Choice::Drain(thread) => self.drain(thread),
+        }
+    }
+}
