@@ -1,0 +1,8 @@
+//! Tests of the lines of objects and of lock texts. They stand in a library of their own, so that no part is proved once more
+//! for them.
+#![tactic(auto)]
+
+#[cfg(test)]
+mod lines_tests;
+#[cfg(test)]
+mod lock_tests;
