@@ -4,7 +4,7 @@ use Rattle.cas_atomic.specs.Leftover.{Leftover, IsMinus}
 use Rattle.cas_atomic.specs.Buffer.{Store, store, newest, put}
 use Rattle.cas_atomic.specs.Label.{ThreadLabel, state_of}
 use Rattle.cas_atomic.specs.Atomic.{Setup, Atomic}
-use Rattle.cas_atomic.specs.Buffered.{Location, Outside, Inside, Thread, thread, State, moved_in}
+use Rattle.cas_atomic.specs.Buffered.{Point, Outside, Inside, Thread, thread, State, moved_in}
 use Rattle.cas_atomic.specs.Table.{beside, Stands, AfterSign, AsksEmpty, refusals}
 use Rattle.cas_atomic.specs.Sound.{Unknown, Explains}
 use Rattle.cas_atomic.proofs.Basic.{put_else, popped_none, oldest_there}
@@ -19,7 +19,7 @@ module _ {X : Type 0} (p : Setup X) (a : Atomic X) (b rest : List Store) (x : St
   not_empty l m = let f = m.empty in absurd (cc (h, f))
 
   -- where a buffer must be empty, nothing drains
-  stands_after : (w : Location X) → Stands p a b n w → Stands p a rest n w
+  stands_after : (w : Point X) → Stands p a b n w → Stands p a rest n w
   stands_after (Outside y) m = m
   stands_after (Inside zero f l k) m = m
   stands_after (Inside (suc zero) f l k) m = by f.flags.sign m

@@ -4,7 +4,7 @@ use Rattle.cas_atomic.specs.Leftover.{Leftover, one_less, after_decrement}
 use Rattle.cas_atomic.specs.Buffer.{store, put}
 use Rattle.cas_atomic.specs.Label.{Cell, AreGuards, first_value, first_words, under, values, Lock, RunLabel, ThreadLabel}
 use Rattle.cas_atomic.specs.Atomic.{Setup, Atomic, Act, Quiet, Emits, Locks, Bad, Stops, IsBad, start, act, begins}
-use Rattle.cas_atomic.specs.Buffered.{call, turn, Location, Inside, Instr, LockDec, JumpNotSign, CompareZero, JumpLessEqual, Jump, Return, StoreOne, object, Thread, thread, State, opening, within, if_zero, Executes, Step, MayStep, Running, plain, load, put_off, decrement, call_lock, call_unlock, prints, done, inside, stops, drain, listed, Run, opens, and_then}
+use Rattle.cas_atomic.specs.Buffered.{call, turn, Point, Inside, Instr, LockDec, JumpNotSign, CompareZero, JumpLessEqual, Jump, Return, StoreOne, object, Thread, thread, State, opening, within, if_zero, Executes, Step, MayStep, Running, plain, load, put_off, decrement, call_lock, call_unlock, prints, done, inside, stops, drain, listed, Run, opens, and_then}
 use Rattle.cas_atomic.specs.Table.{beside, is_free, Stands, StandsAt}
 use Rattle.cas_atomic.specs.Sound.{Unknown, Explains, EndsStay, IsBadAt, IsBadBefore, flags_at, FitsLabel, Fits, IsSound}
 use Rattle.cas_atomic.proofs.Basic.{put_here}
@@ -86,7 +86,7 @@ module _ {X : Type 0} (p : Setup X) (guards : AreGuards p.cells) (few : p.thread
     one_step _ _ (done x y h n) live fit = step_done p guards u s ls e i below fine live stay x y h n
     one_step _ _ (inside place f l k instr t o h q x) live fit =
         executes live place f l k instr t o h
-        (subst (λ (w : Location X). Stands p (e.asm i) (s.threads i).buffer (s.threads i).executed w) h (e.stands i))
+        (subst (λ (w : Point X). Stands p (e.asm i) (s.threads i).buffer (s.threads i).executed w) h (e.stands i))
         q x fit
     one_step _ _ (stops why m) live fit = step_stops p guards u s ls e i below fine live why m
     one_step _ _ (drain w v rest h) live fit = step_drain p u s ls e i w v rest h

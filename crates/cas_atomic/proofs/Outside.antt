@@ -5,7 +5,7 @@ use Rattle.cas_atomic.specs.Buffer.{Store, store, newest, view, put}
 use Rattle.cas_atomic.specs.Label.{TableWord, IsLock, IsUnder, AreGuards, RunLabel, Out, Done, ThreadLabel, by_thread, IsLegal, projection, outs_of, occasions, state_of}
 use Rattle.cas_atomic.specs.Atomic as asm
 use Rattle.cas_atomic.specs.Atomic.{Setup, Atomic, Event, After, Goes, Fails, Halts, loaded, Stuck, Wrong, HasStopped, IsPrinting, Plain, Load, Decrement, CallLock, CallUnlock, Prints, Ends, Act, Quiet, Emits, IsBad, goes, writes, act_by, act, AtomicRun, quiet, says}
-use Rattle.cas_atomic.specs.Buffered.{Location, Outside, Inside, End, Running, IsDone, OutOfFuel, IsFull, HasFailed, OutOfOuts, WouldBe, outright, by_load, MayEnd, Thread, thread, State, state_with, moved, moved_in, out_of, listed}
+use Rattle.cas_atomic.specs.Buffered.{Point, Outside, Inside, End, Running, IsDone, OutOfFuel, IsFull, HasFailed, OutOfOuts, WouldBe, outright, by_load, MayEnd, Thread, thread, State, state_with, moved, moved_in, out_of, listed}
 use Rattle.cas_atomic.specs.Table.{Stands, IsAt, is_refused, refusals}
 use Rattle.cas_atomic.specs.Sound.{Unknown, Explains, EndFits, EndsStay}
 use Rattle.cas_atomic.proofs.Basic.{same_or_not, put_else, appended_else, view_none}
@@ -26,7 +26,7 @@ module _ {X : Type 0} (p : Setup X) (guards : AreGuards p.cells) (u : Unknown) (
   a = e.asm i
 
   pub at_out : (x : X) → c.at ≡ Outside x → IsAt a c.executed x
-  at_out x h = subst (λ (w : Location X). Stands p a c.buffer c.executed w) h (e.stands i)
+  at_out x h = subst (λ (w : Point X). Stands p a c.buffer c.executed w) h (e.stands i)
 
   pub next_is : (x : X) (v : Event X) → c.at ≡ Outside x → p.next x ≡ v → p.next a.at ≡ v
   next_is x v h n = ap p.next (at_out x h).at ∙ n

@@ -23,9 +23,9 @@ object = LockDec ∷ JumpNotSign 5 ∷ CompareZero ∷ JumpLessEqual 2 ∷ Jump 
 
 -- where a thread is: in its program, or in the lock object, at a place, with its flags, for a lock, and the program
 -- that it returns to
-pub data Location (X : Type 0) : Type 0 where
-  Outside : (x : X) → Location X
-  Inside : (place : ℕ) (flags : Leftover) (lock : ℕ) (back : Leftover → X) → Location X
+pub data Point (X : Type 0) : Type 0 where
+  Outside : (x : X) → Point X
+  Inside : (place : ℕ) (flags : Leftover) (lock : ℕ) (back : Leftover → X) → Point X
 
 -- how a thread has ended, if it has
 pub data End : Type 0 where
@@ -38,12 +38,12 @@ pub data End : Type 0 where
 
 -- a thread, with the count of the instructions that it executed outside the lock object
 pub record Thread (X : Type 0) : Type 0 where
-  pub at : Location X
+  pub at : Point X
   pub buffer : List Store
   pub ended : End
   pub executed : ℕ
 
-abbrev pub thread : {X : Type 0} → Location X → List Store → End → ℕ → Thread X
+abbrev pub thread : {X : Type 0} → Point X → List Store → End → ℕ → Thread X
 thread at buffer ended n = record { at = at; buffer = buffer; ended = ended; executed = n }
 
 pub record State (X : Type 0) : Type 0 where

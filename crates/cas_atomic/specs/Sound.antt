@@ -4,7 +4,7 @@ use Rattle.cas_atomic.specs.Leftover.{Leftover}
 use Rattle.cas_atomic.specs.Buffer.{newest}
 use Rattle.cas_atomic.specs.Label.{TableWord, IsLock, AreGuards, ThreadLabel, RunLabel, Lock, Unlock, Out, Done, IsLegal, projection, outs_of, occasions, state_of}
 use Rattle.cas_atomic.specs.Atomic.{Setup, Atomic, Act, IsBad, HasStopped, IsPrinting, act, AtomicRun, Ends, Stuck}
-use Rattle.cas_atomic.specs.Buffered.{Location, Outside, Inside, End, Running, IsDone, OutOfFuel, IsFull, HasFailed, OutOfOuts, State, Run, opens, and_then, opening, listed}
+use Rattle.cas_atomic.specs.Buffered.{Point, Outside, Inside, End, Running, IsDone, OutOfFuel, IsFull, HasFailed, OutOfOuts, State, Run, opens, and_then, opening, listed}
 use Rattle.cas_atomic.specs.Table.{scene, LockIs, Stands, refusals}
 
 -- the flags that nothing fixes, of each thread at each occasion
@@ -49,7 +49,7 @@ abbrev pub IsBadBefore : {X : Type 0} {p : Setup X} → Unknown → {s : State X
 IsBadBefore {p = p} u opens = IsBadAt p u (opening p) []
 IsBadBefore {p = p} u (and_then {ls = ls} i t o r below step may) = IsBadBefore u r ⊎ IsBadAt p u t (listed i o ls)
 
-abbrev pub flags_at : {X : Type 0} → Setup X → Location X → Leftover
+abbrev pub flags_at : {X : Type 0} → Setup X → Point X → Leftover
 flags_at p (Outside x) = p.flags x
 flags_at p (Inside place f l k) = f
 

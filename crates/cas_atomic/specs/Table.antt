@@ -4,7 +4,7 @@ use Rattle.cas_atomic.specs.Leftover.{Leftover, IsMinus, less_or_equal}
 use Rattle.cas_atomic.specs.Buffer.{Store, store, newest, view}
 use Rattle.cas_atomic.specs.Label.{Cell, IsUnder, under, values, LockState, Free, IsHeld}
 use Rattle.cas_atomic.specs.Atomic.{Setup, Atomic, CallLock, CallUnlock}
-use Rattle.cas_atomic.specs.Buffered.{Location, Outside, Inside, Thread}
+use Rattle.cas_atomic.specs.Buffered.{Point, Outside, Inside, Thread}
 
 -- refused at a place of the lock object: at `jns` with the sign, at `cmp`, and at `jle` with `le`
 abbrev pub refused_at : ℕ → Leftover → Bool
@@ -14,7 +14,7 @@ refused_at (suc (suc zero)) f = true
 refused_at (suc (suc (suc zero))) f = less_or_equal f
 refused_at (suc (suc (suc (suc n)))) f = false
 
-abbrev pub is_refused : {X : Type 0} → ℕ → Location X → Bool
+abbrev pub is_refused : {X : Type 0} → ℕ → Point X → Bool
 is_refused lock (Outside x) = false
 is_refused lock (Inside place f l k) = nat_eq l lock && refused_at place f
 
@@ -122,6 +122,6 @@ StandsAt z f l k (suc (suc (suc (suc (suc (suc zero)))))) = Gives z.setup z.atom
 StandsAt z f l k (suc (suc (suc (suc (suc (suc (suc zero))))))) = IsAt z.atomic z.executed (k f)
 StandsAt z f l k _ = ⊥
 
-abbrev pub Stands : {X : Type 0} → Setup X → Atomic X → List Store → ℕ → Location X → Type 0
+abbrev pub Stands : {X : Type 0} → Setup X → Atomic X → List Store → ℕ → Point X → Type 0
 Stands p a b n (Outside x) = IsAt a n x
 Stands p a b n (Inside place f l k) = StandsAt (beside p a b n) f l k place
