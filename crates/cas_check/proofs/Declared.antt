@@ -1,4 +1,4 @@
--- What declarations say of locks, told of references to them.
+-- What declarations say of locks, by references to them.
 use Rattle.std.proofs.Common.{◌≡◌, List, [], ◌∷◌, map, refl, ap, ◌∙◌}
 use Rattle.std.specs.Borrow.{Bor}
 use Rattle.cas_base.specs.declared.decl.Decl.{Decl}

@@ -29,20 +29,22 @@ HaltWithin end h.Memory = ⊤
 HaltWithin end (h.Fault code p l) = l < end
 
 -- unless it is out of memory, this is the fault
-abbrev pub Tells : OwnFault → Option OwnFaultTree → Type 0
-Tells Memory told = ⊤
-Tells (At code place lock) told = told ≡ Some (record { code = code; place = place; lock = lock })
+abbrev pub Reports : OwnFault → Option OwnFaultTree → Type 0
+Reports Memory fault = ⊤
+Reports (At code place lock) fault = fault ≡ Some (record { code = code; place = place; lock = lock })
 
 -- there is no fault, or else this one is answered
 abbrev pub Answers : Result ⊤ OwnFault → Option OwnFaultTree → Type 0
-Answers (Ok u) told = told ≡ None
-Answers (Err e) told = Tells e told
+Answers (Ok u) fault = fault ≡ None
+Answers (Err e) fault = Reports e fault
 
 -- after an item the faults are those of the others with the functions that are left, or else this is its fault
-abbrev pub Steps : (decls before : List Decl) → ItemTree → List ItemTree → List TypedFunTree → Result (Bor (List TypedFun)) OwnFault → Type 0
+abbrev pub Steps : (decls before : List Decl) → ItemTree → List ItemTree → List TypedFunTree →
+    Result (Bor (List TypedFun)) OwnFault → Type 0
 Steps ds before a items rs (Ok fs) =
-    (left : List TypedFunTree) × AreFunctionsOf left fs.now × (items_fault ds before (a ∷ items) rs ≡ items_fault ds (before ++ decl_of a ∷ []) items left)
-Steps ds before a items rs (Err e) = Tells e (items_fault ds before (a ∷ items) rs)
+    (left : List TypedFunTree) × AreFunctionsOf left fs.now ×
+    (items_fault ds before (a ∷ items) rs ≡ items_fault ds (before ++ decl_of a ∷ []) items left)
+Steps ds before a items rs (Err e) = Reports e (items_fault ds before (a ∷ items) rs)
 
 -- unless it is out of memory, the module has this fault first
 abbrev pub HasFault : TypedModuleTree → OwnFault → Type 0

@@ -1,4 +1,4 @@
--- How the code holds sets of locks, what a module's declarations say of locks, and what a walk comes to.
+-- What the sets of locks and the walks of the code stand for.
 use Rattle.std.specs.Prelude.{◌≡◌, ⊤, ℕ, ◌+◌, ◌≤◌, ◌<◌, List, [], ◌∷◌, length, Option, Some, None, Result, Ok, Err, slice_get, All}
 use Rattle.std.specs.Borrow.{Bor}
 use Rattle.cas_base.specs.declared.decl.Decl.{Decl}
@@ -51,17 +51,17 @@ abbrev pub optional_head : Option Head → Option f.Head
 optional_head None = None
 optional_head (Some h) = Some (head_of h)
 
--- unless it is out of memory, the walk comes to this fault
+-- unless it is out of memory, the walk ends with this fault
 abbrev pub Halts : Halt → f.Flow → Type 0
 Halts Memory flow = ⊤
 Halts (Fault code p l) flow = flow ≡ f.fault code p l
 
--- the walk comes to what follows, or else to this fault
+-- the walk continues with the next one, or ends with this fault
 abbrev pub Passes : Result ⊤ Halt → (next flow : f.Flow) → Type 0
 Passes (Ok u) next flow = flow ≡ next
 Passes (Err e) next flow = Halts e flow
 
--- the walk of what had this set continues so, or comes to this fault
+-- the walk that begins with this set continues so, or ends with this fault
 abbrev pub Walked : Locks → Result Onward Halt → f.Flow → Type 0
 Walked s (Ok o) flow = flow ≡ f.on (onward s o)
 Walked s (Err e) flow = Halts e flow
@@ -70,7 +70,8 @@ Walked s (Err e) flow = Halts e flow
 
 -- each part of a row has a greater number, and is there
 abbrev pub IsTable : List StmtRow → Type 0
-IsTable rows = (n : ℕ) (r : StmtRow) → slice_get rows n ≡ Some r → All (λ i. (n < i) × (i < length rows)) (parts_of r.form)
+IsTable rows = (n : ℕ) (r : StmtRow) → slice_get rows n ≡ Some r →
+    All (λ i. (n < i) × (i < length rows)) (parts_of r.form)
 
 abbrev pub IsPartWithin : (n end : ℕ) → Option ℕ → Type 0
 IsPartWithin n end None = ⊤
@@ -86,7 +87,8 @@ PartsAreWithin n end (row.For h c j k) = IsPartWithin n end h × IsPartWithin n 
 PartsAreWithin n end _ = ⊤
 
 -- the turns of a `for`, from the set after its first part on
-abbrev pub turns : List Decl → (own : Locks) → Place → Option TypedExprTree → (after : TypedStmtOption) → TypedStmtTree → Locks → (next : f.Flow) → f.Flow
+abbrev pub turns : List Decl → (own : Locks) → Place → Option TypedExprTree → (after : TypedStmtOption) →
+    TypedStmtTree → Locks → (next : f.Flow) → f.Flow
 turns ds own p c u a r next =
     f.guarded ds r (option_uses c) (f.after (f.flow ds own (Some (record { place = p; set = r })) a r) (λ t.
     f.back (record { place = p; set = r }) t (f.after (f.flow_part ds own None u r) (λ v.

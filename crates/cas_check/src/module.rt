@@ -3,7 +3,7 @@
 ghost use Rattle.std.specs.Prelude.{◌≡◌, ◌++◌, ◌∷◌, [], ◌≤◌, ◌<◌, ◌-◌, ℕ, List, IfOk, IfErr, None, Some, length, map, is_some, All};
 ghost use Rattle.cas_base.specs.declared.decl.Decl.{Decl};
 ghost use Rattle.cas_own.specs.Checked.{IsChecked, fault_of, function_fault, global_fault, held_set, items_fault, own_fault};
-ghost use Rattle.cas_check.specs.Fits.{Answers, FunctionFits, FunctionsFit, HaltWithin, HasFault, Steps, Tells};
+ghost use Rattle.cas_check.specs.Fits.{Answers, FunctionFits, FunctionsFit, HaltWithin, HasFault, Steps, Reports};
 ghost use Rattle.cas_own.specs.Flow.{Flow, body_flow, on, same, with_set};
 ghost use Rattle.cas_own.specs.Locks.{lock_named};
 ghost use Rattle.cas_check.specs.View.{Halts, IsTable, Passes, set_at};
@@ -28,7 +28,7 @@ use std::alloc::Global;
 
 // A fault with a lock's name, which is kept.
 fn fault(alloc: Global, code: OwnCode, place: Place, lock: &Name) -> OwnFault
-    ensures { Tells result (Some (record { code = code; place = place; lock = lock.now })) }
+    ensures { Reports result (Some (record { code = code; place = place; lock = lock.now })) }
 {
     match lock.copy(alloc) {
         Ok(lock) => OwnFault::At { code, place, lock },
@@ -37,9 +37,9 @@ fn fault(alloc: Global, code: OwnCode, place: Place, lock: &Name) -> OwnFault
 }
 
 // The fault of a walk, with the lock's name.
-fn told(alloc: Global, table: &Table<'_>, halt: Halt) -> OwnFault
+fn reported(alloc: Global, table: &Table<'_>, halt: Halt) -> OwnFault
     requires { HaltWithin (length table.now) halt }
-    ensures { (flow : Flow) → Halts halt flow → Tells result (fault_of table.now flow) }
+    ensures { (flow : Flow) → Halts halt flow → Reports result (fault_of table.now flow) }
 {
     match halt {
         Halt::Memory => OwnFault::Memory,
@@ -50,7 +50,8 @@ fn told(alloc: Global, table: &Table<'_>, halt: Halt) -> OwnFault
 // Whether a name means a lock that is declared before the item with this number.
 #[tactic(auto, using(crate::proofs::Before::is_before, crate::proofs::Before::not_named))]
 fn is_lock_before(table: &Table<'_>, number: usize, name: &Name) -> bool
-    ensures { (before behind : List Decl) → table.now ≡ before ++ behind → number ≡ length before → result ≡ is_some (lock_named before name.now) }
+    ensures { (before behind : List Decl) → table.now ≡ before ++ behind → number ≡ length before →
+        result ≡ is_some (lock_named before name.now) }
 {
     match table.lock(name) {
         Some(lock) => (lock as usize) < number,
@@ -66,7 +67,8 @@ fn check_global(
     form: &Form,
     place: Place,
 ) -> Result<(), OwnFault>
-    ensures { (before behind : List Decl) → table.now ≡ before ++ behind → number ≡ length before → Answers result (global_fault before form.now place) }
+    ensures { (before behind : List Decl) → table.now ≡ before ++ behind → number ≡ length before →
+        Answers result (global_fault before form.now place) }
 {
     match form {
         Form::Shared { lock, .. } => {
@@ -121,11 +123,12 @@ fn check_function(
     function: &TypedFun,
 ) -> Result<(), OwnFault>
     requires { FunctionFits table.now function.now }
-    ensures { (r : TypedFunTree) → IsFunctionOf r function.now → Answers result (function_fault table.now (fun_tree fun.now) r) }
+    ensures { (r : TypedFunTree) → IsFunctionOf r function.now →
+        Answers result (function_fault table.now (fun_tree fun.now) r) }
 {
     match check_body(alloc, table, fun.closing, function) {
         Ok(()) => Ok(()),
-        Err(halt) => Err(told(alloc, table, halt)),
+        Err(halt) => Err(reported(alloc, table, halt)),
     }
 }
 
@@ -139,7 +142,8 @@ fn check_item<'a>(
 ) -> Result<&'a [TypedFun], OwnFault>
     requires some { 0 < length table.now }
     requires fit { FunctionsFit table.now functions.now }
-    ensures steps { (before behind : List Decl) (items : List ItemTree) (rs : List TypedFunTree) → table.now ≡ before ++ behind → number ≡ length before
+    ensures steps { (before behind : List Decl) (items : List ItemTree) (rs : List TypedFunTree) →
+        table.now ≡ before ++ behind → number ≡ length before
         → AreFunctionsOf rs functions.now → Steps table.now before (item_tree item.now) items rs result }
     ensures fit { IfOk result (λ left. FunctionsFit table.now left.now) }
 {
@@ -176,7 +180,8 @@ fn check_items(
 ) -> Result<(), OwnFault>
     requires items { table.now ≡ map decl_of (map item_tree items.now) }
     requires fit { FunctionsFit table.now functions.now }
-    ensures { (rs : List TypedFunTree) → AreFunctionsOf rs functions.now → Answers result (items_fault table.now [] (map item_tree items.now) rs) }
+    ensures { (rs : List TypedFunTree) → AreFunctionsOf rs functions.now →
+        Answers result (items_fault table.now [] (map item_tree items.now) rs) }
 {
     let mut rest = items;
     let mut left = functions;

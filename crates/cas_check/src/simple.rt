@@ -28,7 +28,8 @@ pub fn check_assign(
     target: &TypedTarget,
     value: &TypedExpr,
 ) -> Result<Onward, Halt>
-    ensures { Walked set.now result (guarded table.now set.now (target_uses (typed_target_tree target.now) ++ uses (typed_expr_tree value.now)) (on (Some set.now))) }
+    ensures { Walked set.now result (guarded table.now set.now
+        (target_uses (typed_target_tree target.now) ++ uses (typed_expr_tree value.now)) (on (Some set.now))) }
 {
     check_target(table, set, target)?;
     check_expr(table, set, value)?;
@@ -43,7 +44,8 @@ pub fn check_call(
     place: Place,
     args: &[TypedExpr],
 ) -> Result<Onward, Halt>
-    ensures { Walked set.now result (guarded table.now set.now (argument_uses (map typed_expr_tree args.now)) (held place set.now (holds_of table.now item) (on (Some set.now)))) }
+    ensures { Walked set.now result (guarded table.now set.now (argument_uses (map typed_expr_tree args.now))
+        (held place set.now (holds_of table.now item) (on (Some set.now)))) }
 {
     check_arguments(table, set, args)?;
     check_held(set, table.holds(item), place)?;
@@ -58,7 +60,8 @@ pub fn check_return(
     place: Place,
     value: &Option<TypedExpr>,
 ) -> Result<Onward, Halt>
-    ensures { Walked set.now result (guarded table.now set.now (option_uses (optional_expr_tree value.now)) (same O5 place own.now set.now (on None))) }
+    ensures { Walked set.now result (guarded table.now set.now (option_uses (optional_expr_tree value.now))
+        (same O5 place own.now set.now (on None))) }
 {
     check_optional(table, set, value)?;
     check_same(OwnCode::O5, place, own, set)?;
@@ -67,7 +70,8 @@ pub fn check_return(
 
 /// A lock is taken.
 pub fn check_lock(alloc: Global, set: &Locks, place: Place, lock: u32) -> Result<Onward, Halt>
-    ensures { Walked set.now result (if has set.now lock then fault O6 place lock else on (Some (having set.now lock))) }
+    ensures { Walked set.now result (if has set.now lock then fault O6 place lock else on
+        (Some (having set.now lock))) }
 {
     if set.has(lock) {
         return Err(Halt::Fault(OwnCode::O6, place, lock));
@@ -77,7 +81,8 @@ pub fn check_lock(alloc: Global, set: &Locks, place: Place, lock: u32) -> Result
 
 /// A lock is released.
 pub fn check_unlock(alloc: Global, set: &Locks, place: Place, lock: u32) -> Result<Onward, Halt>
-    ensures { Walked set.now result (if has set.now lock then on (Some (without set.now lock)) else fault O7 place lock) }
+    ensures { Walked set.now result (if has set.now lock then on
+        (Some (without set.now lock)) else fault O7 place lock) }
 {
     if !set.has(lock) {
         return Err(Halt::Fault(OwnCode::O7, place, lock));

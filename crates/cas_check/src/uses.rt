@@ -18,7 +18,8 @@ use cas_typed::{TypedExpr, TypedTarget};
 
 // A name of a global, whose guard is in the set.
 fn check_use(table: &Table<'_>, set: &Locks, item: u32, place: Place) -> Result<(), Halt>
-    ensures { (us : List Use) (next : Flow) → Passes result (guarded table.now set.now us next) (guarded table.now set.now (use_of item place ∷ us) next) }
+    ensures { (us : List Use) (next : Flow) → Passes result (guarded table.now set.now us next)
+        (guarded table.now set.now (use_of item place ∷ us) next) }
 {
     match table.guard(item) {
         None => Ok(()),
@@ -78,7 +79,8 @@ pub fn check_expr(table: &Table<'_>, set: &Locks, expr: &TypedExpr) -> Result<()
 
 /// The names in what an assignment writes.
 pub fn check_target(table: &Table<'_>, set: &Locks, target: &TypedTarget) -> Result<(), Halt>
-    ensures { (next : Flow) → Passes result next (guarded table.now set.now (target_uses (typed_target_tree target.now)) next) }
+    ensures { (next : Flow) → Passes result next (guarded table.now set.now
+        (target_uses (typed_target_tree target.now)) next) }
 {
     match target {
         TypedTarget::Local(_) => Ok(()),
@@ -93,7 +95,8 @@ pub fn check_target(table: &Table<'_>, set: &Locks, target: &TypedTarget) -> Res
 
 /// The names in an expression that may be missing.
 pub fn check_optional(table: &Table<'_>, set: &Locks, expr: &Option<TypedExpr>) -> Result<(), Halt>
-    ensures { (next : Flow) → Passes result next (guarded table.now set.now (option_uses (optional_expr_tree expr.now)) next) }
+    ensures { (next : Flow) → Passes result next (guarded table.now set.now
+        (option_uses (optional_expr_tree expr.now)) next) }
 {
     match expr {
         Some(expr) => check_expr(table, set, expr),
@@ -104,7 +107,8 @@ pub fn check_optional(table: &Table<'_>, set: &Locks, expr: &Option<TypedExpr>) 
 /// The names in arguments.
 #[tactic(auto, using(crate::proofs::Steps::guarded_append))]
 pub fn check_arguments(table: &Table<'_>, set: &Locks, args: &[TypedExpr]) -> Result<(), Halt>
-    ensures { (next : Flow) → Passes result next (guarded table.now set.now (argument_uses (map typed_expr_tree args.now)) next) }
+    ensures { (next : Flow) → Passes result next (guarded table.now set.now
+        (argument_uses (map typed_expr_tree args.now)) next) }
 {
     let mut rest = args;
     'each: while let Some((arg, others)) = rest.split_first() {
@@ -116,7 +120,8 @@ pub fn check_arguments(table: &Table<'_>, set: &Locks, args: &[TypedExpr]) -> Re
 
 // A lock that a called function's caller holds is in the set.
 fn check_lock_held(set: &Locks, lock: u32, place: Place) -> Result<(), Halt>
-    ensures { (ls : List ℕ) (next : Flow) → Passes result (held place set.now ls next) (held place set.now (lock ∷ ls) next) }
+    ensures { (ls : List ℕ) (next : Flow) → Passes result (held place set.now ls next)
+        (held place set.now (lock ∷ ls) next) }
 {
     if set.has(lock) {
         Ok(())

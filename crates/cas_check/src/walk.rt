@@ -36,7 +36,8 @@ fn row_at(rows: &[StmtRow], n: u32) -> &StmtRow
     requires table { IsTable rows.now }
     requires within { n < length rows.now }
     ensures parts { PartsAreWithin n (length rows.now) result.now.form }
-    ensures stands { (a : TypedStmtTree) → At rows.now n (IsRow rows.now n a) → IsRow rows.now n a result.now.place result.now.form }
+    ensures stands { (a : TypedStmtTree) → At rows.now n (IsRow rows.now n a) →
+        IsRow rows.now n a result.now.place result.now.form }
 {
     &rows[n as usize]
 }
@@ -117,7 +118,8 @@ fn walk_part(
     requires table { IsTable body.rows.now }
     requires within { IsPartWithin n (length body.rows.now) part }
     ensures { (m : ℕ) (o : TypedStmtOption) → IsPartRow body.entry.rows.now m o part
-        → Walked set.now result (flow_part body.entry.table.now body.entry.own.now (optional_head head.entry) o set.now) }
+        → Walked set.now result (flow_part body.entry.table.now body.entry.own.now
+        (optional_head head.entry) o set.now) }
 {
     match part {
         Some(part) => walk(alloc, body, head, part, set),
@@ -138,7 +140,8 @@ pub fn walk_all(
     requires table { IsTable body.rows.now }
     requires within { All (λ i. (least ≤ i) × (i < length body.rows.now)) parts.now }
     ensures { (m : ℕ) (bs : TypedStmtList) → AreRows body.entry.rows.now m bs parts.now
-        → Walked set.now result (flow_all body.entry.table.now body.entry.own.now (optional_head head.entry) bs (Some set.now)) }
+        → Walked set.now result (flow_all body.entry.table.now body.entry.own.now (optional_head head.entry) bs
+        (Some set.now)) }
 {
     let mut onward = Onward::Same;
     for part in parts {
@@ -168,9 +171,11 @@ fn branch(
     requires table { IsTable body.rows.now }
     requires first { (n < first) × (first < length body.rows.now) }
     requires second { IsPartWithin n (length body.rows.now) second }
-    ensures { (a : TypedStmtTree) (m : ℕ) (o : TypedStmtOption) → At body.entry.rows.now first (IsRow body.entry.rows.now first a)
+    ensures { (a : TypedStmtTree) (m : ℕ) (o : TypedStmtOption) →
+        At body.entry.rows.now first (IsRow body.entry.rows.now first a)
         → IsPartRow body.entry.rows.now m o second
-        → Walked set.now result (flow body.entry.table.now body.entry.own.now (optional_head head.entry) (t.if_ place (typed_expr_tree condition.now) a o) set.now) }
+        → Walked set.now result (flow body.entry.table.now body.entry.own.now (optional_head head.entry)
+        (t.if_ place (typed_expr_tree condition.now) a o) set.now) }
 {
     check_expr(body.table, set, condition)?;
     let yes = walk(alloc, body, head, first, set)?;
@@ -191,7 +196,8 @@ fn turn(
     requires table { IsTable body.rows.now }
     requires inner { (n < inner) × (inner < length body.rows.now) }
     ensures { (a : TypedStmtTree) (next : Flow) → At body.entry.rows.now inner (IsRow body.entry.rows.now inner a)
-        → Passes result next (f.after (flow body.entry.table.now body.entry.own.now (Some (record { place = place; set = set.now })) a set.now)
+        → Passes result next (f.after (flow body.entry.table.now body.entry.own.now
+        (Some (record { place = place; set = set.now })) a set.now)
         (λ o. f.back (record { place = place; set = set.now }) o next)) }
 {
     let head = Head { place, set };
@@ -232,7 +238,8 @@ fn while_loop(
     requires table { IsTable body.rows.now }
     requires inner { (n < inner) × (inner < length body.rows.now) }
     ensures { (h : Option f.Head) (a : TypedStmtTree) → At body.entry.rows.now inner (IsRow body.entry.rows.now inner a)
-        → Walked set.now result (flow body.entry.table.now body.entry.own.now h (t.while_ place (typed_expr_tree condition.now) a) set.now) }
+        → Walked set.now result (flow body.entry.table.now body.entry.own.now h
+        (t.while_ place (typed_expr_tree condition.now) a) set.now) }
 {
     check_expr(body.table, set, condition)?;
     turn(alloc, body, n, place, inner, set)?;
@@ -252,7 +259,8 @@ fn do_loop(
     requires table { IsTable body.rows.now }
     requires inner { (n < inner) × (inner < length body.rows.now) }
     ensures { (h : Option f.Head) (a : TypedStmtTree) → At body.entry.rows.now inner (IsRow body.entry.rows.now inner a)
-        → Walked set.now result (flow body.entry.table.now body.entry.own.now h (t.do_ place a (typed_expr_tree condition.now)) set.now) }
+        → Walked set.now result (flow body.entry.table.now body.entry.own.now h
+        (t.do_ place a (typed_expr_tree condition.now)) set.now) }
 {
     turn(alloc, body, n, place, inner, set)?;
     check_expr(body.table, set, condition)?;
@@ -276,7 +284,8 @@ fn turns(
     requires inner { (n < inner) × (inner < length body.rows.now) }
     ensures { (m : ℕ) (u : TypedStmtOption) (a : TypedStmtTree) (next : Flow) → IsPartRow body.entry.rows.now m u after
         → At body.entry.rows.now inner (IsRow body.entry.rows.now inner a)
-        → Passes result next (turns body.entry.table.now body.entry.own.now place (optional_expr_tree condition.now) u a set.now next) }
+        → Passes result next (turns body.entry.table.now body.entry.own.now place
+        (optional_expr_tree condition.now) u a set.now next) }
 {
     check_optional(body.table, set, condition)?;
     turn(alloc, body, n, place, inner, set)?;
@@ -301,7 +310,8 @@ fn turns_from(
     ensures { (m : ℕ) (u : TypedStmtOption) (a : TypedStmtTree) → IsPartRow body.entry.rows.now m u after
         → At body.entry.rows.now inner (IsRow body.entry.rows.now inner a)
         → Passes result (f.on (set_at start.entry)) (f.with_set (set_at start.entry)
-        (λ r. turns body.entry.table.now body.entry.own.now place (optional_expr_tree condition.now) u a r (f.on (Some r)))) }
+        (λ r. turns body.entry.table.now body.entry.own.now place (optional_expr_tree condition.now) u a r
+        (f.on (Some r)))) }
 {
     match start {
         None => Ok(()),
@@ -325,9 +335,11 @@ fn for_loop(
     requires first { IsPartWithin n (length body.rows.now) first }
     requires after { IsPartWithin n (length body.rows.now) after }
     requires inner { (n < inner) × (inner < length body.rows.now) }
-    ensures { (h : Option f.Head) (k m : ℕ) (i u : TypedStmtOption) (a : TypedStmtTree) → IsPartRow body.entry.rows.now k i first
+    ensures { (h : Option f.Head) (k m : ℕ) (i u : TypedStmtOption) (a : TypedStmtTree) →
+        IsPartRow body.entry.rows.now k i first
         → IsPartRow body.entry.rows.now m u after → At body.entry.rows.now inner (IsRow body.entry.rows.now inner a)
-        → Walked set.now result (flow body.entry.table.now body.entry.own.now h (t.for_ place i (optional_expr_tree condition.now) u a) set.now) }
+        → Walked set.now result (flow body.entry.table.now body.entry.own.now h
+        (t.for_ place i (optional_expr_tree condition.now) u a) set.now) }
 {
     let onward = walk_part(alloc, body, None, n, first, set)?;
     turns_from(

@@ -28,7 +28,8 @@ pub fn arguments(
     context: &EvalContext<'_>,
     args: &[TypedExpr],
 ) -> Result<Vec<Value>, NoArguments>
-    ensures { AreArguments result (answer (eval_state context.now) (values_of (eval_context (eval_state context.now)) (map typed_expr_tree args.now))) }
+    ensures { AreArguments result (answer (eval_state context.now)
+        (values_of (eval_context (eval_state context.now)) (map typed_expr_tree args.now))) }
 {
     let Ok(mut values) = Vec::with_capacity(alloc, args.len()) else {
         return Err(NoArguments::Memory);
@@ -50,7 +51,8 @@ pub fn arguments(
 
 /// Whether each of the expressions has a value, or why not: the answer of `arguments`, without memory.
 pub fn check_arguments(context: &EvalContext<'_>, args: &[TypedExpr]) -> Result<(), NoResult>
-    ensures { result ≡ map_answer nothing (answer (eval_state context.now) (values_of (eval_context (eval_state context.now)) (map typed_expr_tree args.now))) }
+    ensures { result ≡ map_answer nothing (answer (eval_state context.now)
+        (values_of (eval_context (eval_state context.now)) (map typed_expr_tree args.now))) }
 {
     let mut rest = args;
     'each: while let Some((arg, others)) = rest.split_first() {

@@ -49,7 +49,8 @@ impl EvalContext<'_> {
     /// The first cell of a local.
     #[tactic(auto, unfolding(crate::specs::Answer::answer))]
     pub fn local(&self, local: u32) -> Result<Value, NoResult>
-        ensures { map_answer value_of result ≡ answer (eval_state self.now) (local_value ((eval_context (eval_state self.now)).own local)) }
+        ensures { map_answer value_of result ≡ answer (eval_state self.now)
+            (local_value ((eval_context (eval_state self.now)).own local)) }
     {
         match self.memory.load(self.own(local), 0) {
             Some(value) => Ok(value),
@@ -97,7 +98,8 @@ impl EvalContext<'_> {
         signedness: Signedness,
         index: Value,
     ) -> Result<u32, NoResult>
-        ensures { result ≡ answer (eval_state self.now) (element_place (eval_context (eval_state self.now)) item signedness (value_of index)) }
+        ensures { result ≡ answer (eval_state self.now)
+            (element_place (eval_context (eval_state self.now)) item signedness (value_of index)) }
     {
         let number = number_of(signedness, word_in(index)?);
         match self.length(item) {

@@ -25,7 +25,8 @@ use cas_typed::{Signedness, TypedExpr};
 // An operator on a word.
 #[tactic(auto, using(crate::proofs::Answering::answer_then), unfolding(crate::specs::Answer::answer))]
 fn unary_value(operator: UnaryOperator, a: Value) -> Result<Value, NoResult>
-    ensures { (r : EvalState) → map_answer value_of result ≡ answer r (and_then (asks.word_in (value_of a)) (λ m. gives (word (o.unary_result operator m)))) }
+    ensures { (r : EvalState) → map_answer value_of result ≡ answer r
+        (and_then (asks.word_in (value_of a)) (λ m. gives (word (o.unary_result operator m)))) }
 {
     Ok(Value::Word(unary(operator, word_in(a)?)))
 }
@@ -38,7 +39,9 @@ fn binary_value(
     a: Value,
     b: Value,
 ) -> Result<Value, NoResult>
-    ensures { (r : EvalState) → map_answer value_of result ≡ answer r (and_then (asks.word_in (value_of a)) (λ m. and_then (asks.word_in (value_of b)) (λ n. e.a_word (o.binary_result operator signedness m n)))) }
+    ensures { (r : EvalState) → map_answer value_of result ≡ answer r
+        (and_then (asks.word_in (value_of a)) (λ m. and_then (asks.word_in (value_of b))
+        (λ n. e.a_word (o.binary_result operator signedness m n)))) }
 {
     let left = word_in(a)?;
     let right = word_in(b)?;
@@ -48,7 +51,8 @@ fn binary_value(
 // A word converted to a kind.
 #[tactic(auto, using(crate::proofs::Answering::answer_then), unfolding(crate::specs::Answer::answer))]
 fn narrowed_value(kind: Kind, a: Value) -> Result<Value, NoResult>
-    ensures { (r : EvalState) → map_answer value_of result ≡ answer r (and_then (asks.word_in (value_of a)) (λ m. gives (word (narrowed m kind)))) }
+    ensures { (r : EvalState) → map_answer value_of result ≡ answer r
+        (and_then (asks.word_in (value_of a)) (λ m. gives (word (narrowed m kind)))) }
 {
     Ok(Value::Word(narrow(word_in(a)?, kind)))
 }
@@ -60,7 +64,8 @@ fn moved_forward(
     pointer: Value,
     number: Value,
 ) -> Result<Value, NoResult>
-    ensures { map_answer value_of result ≡ answer (eval_state context.now) (e.forward signedness (value_of pointer) (value_of number)) }
+    ensures { map_answer value_of result ≡ answer (eval_state context.now)
+        (e.forward signedness (value_of pointer) (value_of number)) }
 {
     let from = pointed(pointer)?;
     context.moved(from, number_of(signedness, word_in(number)?))
@@ -73,7 +78,8 @@ fn moved_back(
     pointer: Value,
     number: Value,
 ) -> Result<Value, NoResult>
-    ensures { map_answer value_of result ≡ answer (eval_state context.now) (e.backward signedness (value_of pointer) (value_of number)) }
+    ensures { map_answer value_of result ≡ answer (eval_state context.now)
+        (e.backward signedness (value_of pointer) (value_of number)) }
 {
     let from = pointed(pointer)?;
     context.moved(from, -number_of(signedness, word_in(number)?))
@@ -81,7 +87,8 @@ fn moved_back(
 
 // How many elements the first lies after the second.
 fn difference_of(context: &EvalContext<'_>, a: Value, b: Value) -> Result<Value, NoResult>
-    ensures { map_answer value_of result ≡ answer (eval_state context.now) (e.on_both (value_of a) (value_of b) (λ x y. e.a_word (p.difference same_object x y))) }
+    ensures { map_answer value_of result ≡ answer (eval_state context.now)
+        (e.on_both (value_of a) (value_of b) (λ x y. e.a_word (p.difference same_object x y))) }
 {
     let first = pointed(a)?;
     let second = pointed(b)?;
@@ -95,7 +102,8 @@ fn comparison_of(
     a: Value,
     b: Value,
 ) -> Result<Value, NoResult>
-    ensures { map_answer value_of result ≡ answer (eval_state context.now) (e.on_both (value_of a) (value_of b) (λ x y. e.a_truth (p.compared same_object operator x y))) }
+    ensures { map_answer value_of result ≡ answer (eval_state context.now)
+        (e.on_both (value_of a) (value_of b) (λ x y. e.a_truth (p.compared same_object operator x y))) }
 {
     let first = pointed(a)?;
     let second = pointed(b)?;
@@ -110,7 +118,10 @@ fn element(
     signedness: Signedness,
     index: &TypedExpr,
 ) -> Result<Value, NoResult>
-    ensures { map_answer value_of result ≡ answer (eval_state context.now) (and_then (e.value_of (eval_context (eval_state context.now)) (typed_expr_tree index.now)) (λ v. and_then (e.element_place (eval_context (eval_state context.now)) item signedness v) (e.global_value item))) }
+    ensures { map_answer value_of result ≡ answer (eval_state context.now)
+        (and_then (e.value_of (eval_context (eval_state context.now)) (typed_expr_tree index.now))
+        (λ v. and_then (e.element_place (eval_context (eval_state context.now)) item signedness v)
+        (e.global_value item))) }
 {
     let index = evaluate(context, index)?;
     let place = context.element_place(item, signedness, index)?;
@@ -120,7 +131,9 @@ fn element(
 // The value that a pointer points to.
 #[cycle(evaluation)]
 fn behind(context: &EvalContext<'_>, pointer: &TypedExpr) -> Result<Value, NoResult>
-    ensures { map_answer value_of result ≡ answer (eval_state context.now) (and_then (e.value_of (eval_context (eval_state context.now)) (typed_expr_tree pointer.now)) (λ u. and_then (asks.pointed u) p.behind)) }
+    ensures { map_answer value_of result ≡ answer (eval_state context.now)
+        (and_then (e.value_of (eval_context (eval_state context.now)) (typed_expr_tree pointer.now))
+        (λ u. and_then (asks.pointed u) p.behind)) }
 {
     let value = evaluate(context, pointer)?;
     context.behind(pointed(value)?)
@@ -134,7 +147,9 @@ fn pointer_plus(
     pointer: &TypedExpr,
     number: &TypedExpr,
 ) -> Result<Value, NoResult>
-    ensures { map_answer value_of result ≡ answer (eval_state context.now) (e.value_of (eval_context (eval_state context.now)) (t.pointer_plus signedness (typed_expr_tree pointer.now) (typed_expr_tree number.now))) }
+    ensures { map_answer value_of result ≡ answer (eval_state context.now)
+        (e.value_of (eval_context (eval_state context.now))
+        (t.pointer_plus signedness (typed_expr_tree pointer.now) (typed_expr_tree number.now))) }
 {
     let first = evaluate(context, pointer)?;
     let second = evaluate(context, number)?;
@@ -149,7 +164,9 @@ fn plus_pointer(
     number: &TypedExpr,
     pointer: &TypedExpr,
 ) -> Result<Value, NoResult>
-    ensures { map_answer value_of result ≡ answer (eval_state context.now) (e.value_of (eval_context (eval_state context.now)) (t.plus_pointer signedness (typed_expr_tree number.now) (typed_expr_tree pointer.now))) }
+    ensures { map_answer value_of result ≡ answer (eval_state context.now)
+        (e.value_of (eval_context (eval_state context.now))
+        (t.plus_pointer signedness (typed_expr_tree number.now) (typed_expr_tree pointer.now))) }
 {
     let first = evaluate(context, number)?;
     let second = evaluate(context, pointer)?;
@@ -164,7 +181,9 @@ fn pointer_minus(
     pointer: &TypedExpr,
     number: &TypedExpr,
 ) -> Result<Value, NoResult>
-    ensures { map_answer value_of result ≡ answer (eval_state context.now) (e.value_of (eval_context (eval_state context.now)) (t.pointer_minus signedness (typed_expr_tree pointer.now) (typed_expr_tree number.now))) }
+    ensures { map_answer value_of result ≡ answer (eval_state context.now)
+        (e.value_of (eval_context (eval_state context.now))
+        (t.pointer_minus signedness (typed_expr_tree pointer.now) (typed_expr_tree number.now))) }
 {
     let first = evaluate(context, pointer)?;
     let second = evaluate(context, number)?;
@@ -178,7 +197,9 @@ fn pointer_difference(
     a: &TypedExpr,
     b: &TypedExpr,
 ) -> Result<Value, NoResult>
-    ensures { map_answer value_of result ≡ answer (eval_state context.now) (e.value_of (eval_context (eval_state context.now)) (t.pointer_difference (typed_expr_tree a.now) (typed_expr_tree b.now))) }
+    ensures { map_answer value_of result ≡ answer (eval_state context.now)
+        (e.value_of (eval_context (eval_state context.now))
+        (t.pointer_difference (typed_expr_tree a.now) (typed_expr_tree b.now))) }
 {
     let first = evaluate(context, a)?;
     let second = evaluate(context, b)?;
@@ -193,7 +214,9 @@ fn compare(
     a: &TypedExpr,
     b: &TypedExpr,
 ) -> Result<Value, NoResult>
-    ensures { map_answer value_of result ≡ answer (eval_state context.now) (e.value_of (eval_context (eval_state context.now)) (t.compare operator (typed_expr_tree a.now) (typed_expr_tree b.now))) }
+    ensures { map_answer value_of result ≡ answer (eval_state context.now)
+        (e.value_of (eval_context (eval_state context.now))
+        (t.compare operator (typed_expr_tree a.now) (typed_expr_tree b.now))) }
 {
     let first = evaluate(context, a)?;
     let second = evaluate(context, b)?;
@@ -207,7 +230,8 @@ fn unary_of(
     operator: UnaryOperator,
     a: &TypedExpr,
 ) -> Result<Value, NoResult>
-    ensures { map_answer value_of result ≡ answer (eval_state context.now) (e.value_of (eval_context (eval_state context.now)) (t.unary operator (typed_expr_tree a.now))) }
+    ensures { map_answer value_of result ≡ answer (eval_state context.now)
+        (e.value_of (eval_context (eval_state context.now)) (t.unary operator (typed_expr_tree a.now))) }
 {
     let value = evaluate(context, a)?;
     unary_value(operator, value)
@@ -222,7 +246,9 @@ fn binary_of(
     a: &TypedExpr,
     b: &TypedExpr,
 ) -> Result<Value, NoResult>
-    ensures { map_answer value_of result ≡ answer (eval_state context.now) (e.value_of (eval_context (eval_state context.now)) (t.binary operator signedness (typed_expr_tree a.now) (typed_expr_tree b.now))) }
+    ensures { map_answer value_of result ≡ answer (eval_state context.now)
+        (e.value_of (eval_context (eval_state context.now))
+        (t.binary operator signedness (typed_expr_tree a.now) (typed_expr_tree b.now))) }
 {
     let first = evaluate(context, a)?;
     let second = evaluate(context, b)?;
@@ -232,7 +258,8 @@ fn binary_of(
 // A word converted to a kind.
 #[cycle(evaluation)]
 fn narrow_of(context: &EvalContext<'_>, kind: Kind, a: &TypedExpr) -> Result<Value, NoResult>
-    ensures { map_answer value_of result ≡ answer (eval_state context.now) (e.value_of (eval_context (eval_state context.now)) (t.narrow kind (typed_expr_tree a.now))) }
+    ensures { map_answer value_of result ≡ answer (eval_state context.now)
+        (e.value_of (eval_context (eval_state context.now)) (t.narrow kind (typed_expr_tree a.now))) }
 {
     let value = evaluate(context, a)?;
     narrowed_value(kind, value)
@@ -241,7 +268,9 @@ fn narrow_of(context: &EvalContext<'_>, kind: Kind, a: &TypedExpr) -> Result<Val
 // The truth of an expression, as a word.
 #[cycle(evaluation)]
 fn truth_of(context: &EvalContext<'_>, a: &TypedExpr) -> Result<Value, NoResult>
-    ensures { map_answer value_of result ≡ answer (eval_state context.now) (and_then (e.value_of (eval_context (eval_state context.now)) (typed_expr_tree a.now)) (λ v. e.a_truth (e.condition v))) }
+    ensures { map_answer value_of result ≡ answer (eval_state context.now)
+        (and_then (e.value_of (eval_context (eval_state context.now)) (typed_expr_tree a.now))
+        (λ v. e.a_truth (e.condition v))) }
 {
     let value = evaluate(context, a)?;
     Ok(Value::Word(truth(condition(value)?)))
@@ -250,7 +279,9 @@ fn truth_of(context: &EvalContext<'_>, a: &TypedExpr) -> Result<Value, NoResult>
 // Whether both are true, as a word. The second is evaluated only if the first is true.
 #[cycle(evaluation)]
 fn and_also(context: &EvalContext<'_>, a: &TypedExpr, b: &TypedExpr) -> Result<Value, NoResult>
-    ensures { map_answer value_of result ≡ answer (eval_state context.now) (e.value_of (eval_context (eval_state context.now)) (t.and_also (typed_expr_tree a.now) (typed_expr_tree b.now))) }
+    ensures { map_answer value_of result ≡ answer (eval_state context.now)
+        (e.value_of (eval_context (eval_state context.now))
+        (t.and_also (typed_expr_tree a.now) (typed_expr_tree b.now))) }
 {
     let first = evaluate(context, a)?;
     if condition(first)? {
@@ -263,7 +294,9 @@ fn and_also(context: &EvalContext<'_>, a: &TypedExpr, b: &TypedExpr) -> Result<V
 // Whether one of them is true, as a word. The second is evaluated only if the first is false.
 #[cycle(evaluation)]
 fn or_else(context: &EvalContext<'_>, a: &TypedExpr, b: &TypedExpr) -> Result<Value, NoResult>
-    ensures { map_answer value_of result ≡ answer (eval_state context.now) (e.value_of (eval_context (eval_state context.now)) (t.or_else (typed_expr_tree a.now) (typed_expr_tree b.now))) }
+    ensures { map_answer value_of result ≡ answer (eval_state context.now)
+        (e.value_of (eval_context (eval_state context.now))
+        (t.or_else (typed_expr_tree a.now) (typed_expr_tree b.now))) }
 {
     let first = evaluate(context, a)?;
     if condition(first)? {
@@ -281,7 +314,9 @@ fn choose(
     a: &TypedExpr,
     b: &TypedExpr,
 ) -> Result<Value, NoResult>
-    ensures { map_answer value_of result ≡ answer (eval_state context.now) (e.value_of (eval_context (eval_state context.now)) (t.choose (typed_expr_tree test.now) (typed_expr_tree a.now) (typed_expr_tree b.now))) }
+    ensures { map_answer value_of result ≡ answer (eval_state context.now)
+        (e.value_of (eval_context (eval_state context.now))
+        (t.choose (typed_expr_tree test.now) (typed_expr_tree a.now) (typed_expr_tree b.now))) }
 {
     let first = evaluate(context, test)?;
     if condition(first)? {
@@ -293,7 +328,8 @@ fn choose(
 
 // The word of a global that has only one.
 fn global(context: &EvalContext<'_>, item: u32) -> Result<Value, NoResult>
-    ensures { map_answer value_of result ≡ answer (eval_state context.now) (and_then (e.only_place (length_of ((eval_state context.now).entity item))) (e.global_value item)) }
+    ensures { map_answer value_of result ≡ answer (eval_state context.now)
+        (and_then (e.only_place (length_of ((eval_state context.now).entity item))) (e.global_value item)) }
 {
     let place = context.only_place(item)?;
     context.global(item, place)
@@ -303,7 +339,8 @@ fn global(context: &EvalContext<'_>, item: u32) -> Result<Value, NoResult>
 #[cycle(evaluation)]
 #[tactic(auto, using(crate::proofs::Answering::given))]
 pub fn evaluate(context: &EvalContext<'_>, expr: &TypedExpr) -> Result<Value, NoResult>
-    ensures { map_answer value_of result ≡ answer (eval_state context.now) (e.value_of (eval_context (eval_state context.now)) (typed_expr_tree expr.now)) }
+    ensures { map_answer value_of result ≡ answer (eval_state context.now)
+        (e.value_of (eval_context (eval_state context.now)) (typed_expr_tree expr.now)) }
 {
     match expr {
         TypedExpr::Literal(word) => Ok(Value::Word(*word)),

@@ -1,9 +1,7 @@
-//! The values of expressions: why there is none (`values`), the context of an evaluation and what is read there
-//! (`context`), operators on words and on pointers (`operators`, `pointers`), expressions and the arguments of calls
-//! (`expressions`, `args`), conditions and the cells of targets (`targets`). Contracts speak of the definitions of
-//! `cas_step`: each says that the code answers what the definition answers by the same words and memory, whatever
-//! that is (`specs/Answer`). It depends on `cas_base`, `cas_lex`, `cas_syntax`, `cas_typed`, `cas_step` and
-//! `cas_memory`.
+//! Evaluation in code: values of expressions and arguments (`expressions`, `args`), conditions and the cells of
+//! targets (`targets`), operators on words and on pointers (`operators`, `pointers`), the context of an evaluation
+//! (`context`), and why there is no value (`values`). Each contract says that the code answers what the definition
+//! in `cas_step` answers with the same words and memory (`specs/Answer`).
 #![tactic(auto)]
 
 mod args;

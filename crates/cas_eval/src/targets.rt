@@ -27,14 +27,16 @@ pub enum Cell {
 
 /// Whether an expression is true as a condition.
 pub fn test(context: &EvalContext<'_>, expr: &TypedExpr) -> Result<bool, NoResult>
-    ensures { result ≡ answer (eval_state context.now) (e.test_of (eval_context (eval_state context.now)) (typed_expr_tree expr.now)) }
+    ensures { result ≡ answer (eval_state context.now)
+        (e.test_of (eval_context (eval_state context.now)) (typed_expr_tree expr.now)) }
 {
     condition(evaluate(context, expr)?)
 }
 
 // The only cell of a global.
 fn global(context: &EvalContext<'_>, item: u32) -> Result<Cell, NoResult>
-    ensures { map_answer cell_view result ≡ answer (eval_state context.now) (and_then (e.only_place (length_of ((eval_state context.now).entity item))) (λ i. gives (e.of_global item i))) }
+    ensures { map_answer cell_view result ≡ answer (eval_state context.now)
+        (and_then (e.only_place (length_of ((eval_state context.now).entity item))) (λ i. gives (e.of_global item i))) }
 {
     let place = context.only_place(item)?;
     Ok(Cell::Global(item, place))
@@ -47,7 +49,10 @@ fn element(
     signedness: Signedness,
     index: &TypedExpr,
 ) -> Result<Cell, NoResult>
-    ensures { map_answer cell_view result ≡ answer (eval_state context.now) (and_then (e.value_of (eval_context (eval_state context.now)) (typed_expr_tree index.now)) (λ v. and_then (e.element_place (eval_context (eval_state context.now)) item signedness v) (λ i. gives (e.of_global item i)))) }
+    ensures { map_answer cell_view result ≡ answer (eval_state context.now)
+        (and_then (e.value_of (eval_context (eval_state context.now)) (typed_expr_tree index.now))
+        (λ v. and_then (e.element_place (eval_context (eval_state context.now)) item signedness v)
+        (λ i. gives (e.of_global item i)))) }
 {
     let value = evaluate(context, index)?;
     let place = context.element_place(item, signedness, value)?;
@@ -56,7 +61,9 @@ fn element(
 
 // The cell behind a pointer.
 fn behind(context: &EvalContext<'_>, pointer: &TypedExpr) -> Result<Cell, NoResult>
-    ensures { map_answer cell_view result ≡ answer (eval_state context.now) (and_then (e.value_of (eval_context (eval_state context.now)) (typed_expr_tree pointer.now)) (λ u. and_then (asks.pointed u) (λ a. and_then (p.cell_behind a) (λ c. gives (e.of_object c.0 c.1))))) }
+    ensures { map_answer cell_view result ≡ answer (eval_state context.now)
+        (and_then (e.value_of (eval_context (eval_state context.now)) (typed_expr_tree pointer.now))
+        (λ u. and_then (asks.pointed u) (λ a. and_then (p.cell_behind a) (λ c. gives (e.of_object c.0 c.1))))) }
 {
     let value = evaluate(context, pointer)?;
     let place = pointed(value)?;
@@ -67,7 +74,8 @@ fn behind(context: &EvalContext<'_>, pointer: &TypedExpr) -> Result<Cell, NoResu
 /// The cell of a target.
 #[tactic(auto, using(crate::proofs::Answering::given))]
 pub fn target_cell(context: &EvalContext<'_>, target: &TypedTarget) -> Result<Cell, NoResult>
-    ensures { map_answer cell_view result ≡ answer (eval_state context.now) (e.target_of (eval_context (eval_state context.now)) (typed_target_tree target.now)) }
+    ensures { map_answer cell_view result ≡ answer (eval_state context.now)
+        (e.target_of (eval_context (eval_state context.now)) (typed_target_tree target.now)) }
 {
     match target {
         TypedTarget::Local(local) => Ok(Cell::Object(context.own(*local), 0)),

@@ -28,7 +28,8 @@ blocks_before (b ∷ bs) older = blocks_before bs (block_of b ∷ older)
 
 -- serial numbers ascend
 abbrev pub AscendBySerial : List Block → Type 0
-AscendBySerial bs = (i j : ℕ) (d : Block) → i < j → j < length bs → (slice_index_or bs i d).serial < (slice_index_or bs j d).serial
+AscendBySerial bs = (i j : ℕ) (d : Block) → i < j → j < length bs →
+    (slice_index_or bs i d).serial < (slice_index_or bs j d).serial
 
 -- the block at this place has this serial number
 pub record IsAtSerial (bs : List Block) (serial at : ℕ) : Type 0 where

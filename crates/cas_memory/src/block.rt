@@ -23,5 +23,6 @@ pub struct Block {
     pub spans: Vec<Span>,
     /// The cells of all locals.
     pub cells: Vec<Value>,
-    ghost whole: { AreSpans 0 (length cells.items) spans.items } by { are_spans_prop 0 (length cells.items) spans.items },
+    ghost whole: { AreSpans 0 (length cells.items) spans.items } by { are_spans_prop 0
+        (length cells.items) spans.items },
 }

@@ -1,8 +1,7 @@
-//! Values, what items of modules stand for, and the memory of a thread: values and objects (`value`), what items
-//! stand for (`entity`), the locals of one activation, with their cells in one row (`block`, `locals`), and those of
-//! a thread's activations (`memory`). Contracts speak of the definitions of `cas_step`; `specs/Values`,
-//! `specs/Entities` and `specs/Blocks` with `specs/Spans` say what the code's values, items and blocks stand for. It
-//! stands on `cas_base`, `cas_lex`, `cas_syntax`, `cas_typed` and `cas_step`.
+//! Values and memory in code: values and objects (`value`), what items stand for (`entity`), the locals of one
+//! activation (`block`, `locals`), and the memory of a thread (`memory`). Contracts speak of the definitions of
+//! `cas_step`; `specs/Values`, `Entities`, `Blocks` and `Spans` say what the values, items and blocks of the code
+//! stand for.
 #![tactic(auto)]
 
 mod block;

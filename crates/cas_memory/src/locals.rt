@@ -78,7 +78,8 @@ impl Block {
     #[tactic(auto, using(crate::proofs::Block_lemmas::stored_there, crate::proofs::Block_lemmas::stored_nowhere, crate::proofs::Block_lemmas::place_within))]
     pub fn store(&mut self, local: u32, place: u32, value: Value)
         ensures serial { self.new.serial ≡ self.old.serial }
-        ensures locals { (block_of self.new).locals ≡ with_local (block_of self.old).locals local place (value_of value) }
+        ensures locals { (block_of self.new).locals ≡ with_local (block_of self.old).locals local place
+            (value_of value) }
     {
         if let Some(at) = self.place(local, place) {
             self.cells[at] = value;
@@ -94,7 +95,8 @@ impl Block {
         arguments: &[Value],
     ) -> Result<Block, NoMemory>
         ensures serial { IfOk result (λ b. b.serial ≡ serial) }
-        ensures locals { IfOk result (λ b. (block_of b).locals ≡ locals_of (map (λ v. v.ty) locals.now) (map value_of arguments.now)) }
+        ensures locals { IfOk result (λ b. (block_of b).locals ≡ locals_of (map (λ v. v.ty) locals.now)
+            (map value_of arguments.now)) }
     {
         let mut spans = Vec::with_capacity(alloc, locals.len())?;
         let mut cells = Vec::new(alloc);
@@ -151,7 +153,8 @@ fn add(
     count: u32,
     value: Value,
 ) -> Result<(), NoMemory>
-    ensures spans { IfOk result (λ _. spans.new.items ≡ spans.old.items ++ record { first = length cells.old.items; length = count } ∷ []) }
+    ensures spans { IfOk result (λ _. spans.new.items ≡ spans.old.items ++
+        record { first = length cells.old.items; length = count } ∷ []) }
     ensures cells { IfOk result (λ _. cells.new.items ≡ cells.old.items ++ replicate count value) }
 {
     let first = cells.len();

@@ -84,7 +84,11 @@ impl Memory {
         arguments: &[Value],
     ) -> Result<(), NoMemory>
         requires { AreBefore serial self.old }
-        ensures pushed { IfOk result (λ _. self.new ≡ record { serial = serial; locals = locals_of (map (λ v. v.ty) locals.now) (map value_of arguments.now) } ∷ self.old) }
+        ensures pushed { IfOk result (λ _. self.new ≡ record {
+          serial = serial;
+          locals = locals_of
+              (map (λ v. v.ty) locals.now) (map value_of arguments.now);
+        } ∷ self.old) }
         ensures kept { OnErr result (self.new ≡ self.old) }
     {
         let block = Block::new(*self.blocks.allocator(), serial, locals, arguments)?;

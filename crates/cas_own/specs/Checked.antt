@@ -54,13 +54,15 @@ held_set decls g = set_of (holds_of decls g)
 abbrev pub function_fault : List Decl → FunTree → TypedFunTree → Option OwnFaultTree
 function_fault decls f r = fault_of decls (body_flow decls (held_set decls r.item) f.closing r.body)
 
--- of items, which stand after these declarations in a module of these, with the resolved functions of those with
+-- of items after these declarations in a module with these, with the resolved functions of those with
 -- bodies; a body that isn't resolved, in no typed module, is a fault
 abbrev pub items_fault : (decls before : List Decl) → List ItemTree → List TypedFunTree → Option OwnFaultTree
 items_fault decls before [] rs = None
-items_fault decls before (global d vs p ∷ rest) rs = first (global_fault before d.form p) (items_fault decls (before ++ d ∷ []) rest rs)
+items_fault decls before (global d vs p ∷ rest) rs =
+    first (global_fault before d.form p) (items_fault decls (before ++ d ∷ []) rest rs)
 items_fault decls before (prototype d hs p ∷ rest) rs = items_fault decls (before ++ d ∷ []) rest rs
-items_fault decls before (define f ∷ rest) (r ∷ rs) = first (function_fault decls f r) (items_fault decls (before ++ f.decl ∷ []) rest rs)
+items_fault decls before (define f ∷ rest) (r ∷ rs) =
+    first (function_fault decls f r) (items_fault decls (before ++ f.decl ∷ []) rest rs)
 items_fault decls before (define f ∷ rest) [] = Some (record { code = O5; place = f.closing; lock = name_of decls 0 })
 
 -- the first fault of a module, in order of text

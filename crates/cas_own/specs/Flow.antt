@@ -60,7 +60,7 @@ joined p None o = on o
 joined p (Some s) None = on (Some s)
 joined p (Some s) (Some t) = same O3 p s t (on (Some s))
 
--- a `break` or `continue`, with the set there; outside a loop, where no typed module has one, it is a fault
+-- a `break` or `continue`, with the set there; outside of a loop it is a fault, which no typed module has
 abbrev pub leaves : Option Head → Place → Locks → Flow
 leaves None p s = fault O4 p 0
 leaves (Some h) p s = back h (Some s) (on None)
@@ -79,7 +79,8 @@ module _ (ds : List Decl) (own : Locks) where
     flow h (assign p target a) s = guarded ds s (target_uses target ++ uses a) (on (Some s))
     flow h (call p kept g at args) s = guarded ds s (argument_uses args) (held at s (holds_of ds g) (on (Some s)))
     flow h (block p bs) s = flow_all h bs (Some s)
-    flow h (if_ p c a o) s = guarded ds s (uses c) (after (flow h a s) (λ t. after (flow_part h o s) (λ u. joined p t u)))
+    flow h (if_ p c a o) s = guarded ds s (uses c)
+        (after (flow h a s) (λ t. after (flow_part h o s) (λ u. joined p t u)))
     flow h (while_ p c a) s = guarded ds s (uses c) (after (flow (Some (record { place = p; set = s })) a s) (λ t.
         back (record { place = p; set = s }) t (on (Some s))))
     flow h (do_ p a c) s = after (flow (Some (record { place = p; set = s })) a s) (λ t.
@@ -107,7 +108,8 @@ module _ (ds : List Decl) (own : Locks) where
 
   -- a body, up to its closing brace
   abbrev pub body_flow : (closing : Place) → TypedStmtList → Flow
-  body_flow closing body = after (flow_all None body (Some own)) (λ o. with_set o (λ s. same O5 closing own s (on None)))
+  body_flow closing body = after (flow_all None body (Some own))
+      (λ o. with_set o (λ s. same O5 closing own s (on None)))
 
 -- with which set each statement is walked
 

@@ -16,11 +16,13 @@ IsAscending s = IsAscendingFrom 0 s
 
 -- Sets of locks ascend, and still do after a lock is taken or released.
 abbrev pub SetsAscend : Type 0
-SetsAscend = ((ls : List ℕ) → IsAscending (set_of ls)) × ((s : Locks) (l : ℕ) → IsAscending s → IsAscending (having s l) × IsAscending (without s l))
+SetsAscend = ((ls : List ℕ) → IsAscending (set_of ls)) ×
+    ((s : Locks) (l : ℕ) → IsAscending s → IsAscending (having s l) × IsAscending (without s l))
 
 -- Taking and releasing a lock changes no other lock of the set.
 abbrev pub OthersStay : Type 0
-OthersStay = (s : Locks) (l m : ℕ) → IsAscending s → (has (having s l) m ≡ (l == m || has s m)) × (has (without s l) m ≡ (not (l == m) && has s m))
+OthersStay = (s : Locks) (l m : ℕ) → IsAscending s → (has (having s l) m ≡ (l == m || has s m)) ×
+    (has (without s l) m ≡ (not (l == m) && has s m))
 
 -- The set of some locks has them and no others.
 abbrev pub SetsAreOfLocks : Type 0
@@ -29,9 +31,11 @@ SetsAreOfLocks = (ls : List ℕ) (l : ℕ) → has (set_of ls) l ≡ list_any (�
 -- Sets differ in no lock exactly if they are equal; else they differ in that lock, and in none before.
 abbrev pub DifferencesAreFirst : Type 0
 DifferencesAreFirst = ((s t : Locks) → (differs s t ≡ None) ↔ (s ≡ t))
-    × ((s t : Locks) (l : ℕ) → IsAscending s → IsAscending t → differs s t ≡ Some l → (has s l ≢ has t l) × ((m : ℕ) → m < l → has s m ≡ has t m))
+    × ((s t : Locks) (l : ℕ) → IsAscending s → IsAscending t → differs s t ≡ Some l → (has s l ≢ has t l) ×
+    ((m : ℕ) → m < l → has s m ≡ has t m))
 
 -- A walk without a fault passes only names of globals whose guards are in the set.
 abbrev pub GuardsAreHeld : Type 0
-GuardsAreHeld = (ds : List Decl) (s : Locks) (us : List Use) (next : Flow) (o : Option Locks) → guarded ds s us next ≡ on o →
+GuardsAreHeld = (ds : List Decl) (s : Locks) (us : List Use) (next : Flow) (o : Option Locks) →
+    guarded ds s us next ≡ on o →
     (next ≡ on o) × ((u : Use) (l : ℕ) → Contains us u → guard_of ds u.item ≡ Some l → has s l ≡ true)

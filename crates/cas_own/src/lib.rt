@@ -1,7 +1,7 @@
-//! The ownership check: each shared global is touched only if its lock is held. The definitions are in
-//! `specs/`: sets of locks (`Locks`), the globals that expressions name (`Uses`), the set with which each statement
-//! is walked and continues (`Flow`), which modules are checked (`Checked`), and what is claimed of sets and walks
-//! (`Laws`). It depends on `cas_base`, `cas_syntax` and `cas_typed`.
+//! The ownership check, as definitions: each shared global is touched only while its lock is held. `specs/Locks` has
+//! sets of locks, `Uses` the globals that expressions name, `Flow` the lock flow: the set of locks before and after
+//! each statement, or the first fault. `Checked` says which modules are checked. `specs/Laws` states the laws, which
+//! the contracts of `laws` prove. The code has checked modules (`checked`) and the codes of faults (`fault`).
 #![tactic(auto)]
 
 mod checked;

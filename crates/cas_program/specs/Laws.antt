@@ -17,25 +17,30 @@ use Rattle.cas_typed.specs.Modules.{decls_of}
 
 -- in the module with this number, the item with this number declares this
 abbrev pub Declares : List TypedModuleTree → (unit item : ℕ) → Decl → Type 0
-Declares modules n g d = (decls : List Decl) × (slice_get (units_of modules) n ≡ Some decls) × (slice_get decls g ≡ Some d)
+Declares modules n g d = (decls : List Decl) × (slice_get (units_of modules) n ≡ Some decls) ×
+    (slice_get decls g ≡ Some d)
 
 -- The environment of a program is well-formed.
 abbrev pub EnvironmentsAreWellFormed : Type 0
-EnvironmentsAreWellFormed = (modules : List TypedModuleTree) (entries : List (List ℕ)) → IsProgram modules entries → IsWellFormed modules (env_of modules)
+EnvironmentsAreWellFormed = (modules : List TypedModuleTree) (entries : List (List ℕ)) → IsProgram modules entries →
+    IsWellFormed modules (env_of modules)
 
 -- the entries are the functions of these names, in their order
 pub record AreInOrder (modules : List TypedModuleTree) (names : List (List ℕ)) : Type 0 where
   pub count : length (entries_of modules names) ≡ length names
   pub each : (thread : ℕ) (name : List ℕ) → slice_get names thread ≡ Some name →
-      (f : FunctionAt) × (place_named (units_of modules) name ≡ Some (f.unit, f.place)) × (slice_get (entries_of modules names) thread ≡ Some f)
+      (f : FunctionAt) × (place_named (units_of modules) name ≡ Some (f.unit, f.place)) ×
+      (slice_get (entries_of modules names) thread ≡ Some f)
 
 -- The entries of a program are the functions of the names. Threads may begin there, if there are no more of them
 -- than words.
 abbrev pub EntriesAreInOrder : Type 0
-EntriesAreInOrder = (modules : List TypedModuleTree) (entries : List (List ℕ)) → IsProgram modules entries → AreInOrder modules entries
+EntriesAreInOrder = (modules : List TypedModuleTree) (entries : List (List ℕ)) → IsProgram modules entries →
+    AreInOrder modules entries
 
 abbrev pub EntriesAreEntered : Type 0
-EntriesAreEntered = (modules : List TypedModuleTree) (entries : List (List ℕ)) → IsProgram modules entries → length entries ≤ 2 ^ 32 →
+EntriesAreEntered = (modules : List TypedModuleTree) (entries : List (List ℕ)) → IsProgram modules entries →
+    length entries ≤ 2 ^ 32 →
     AreEntries modules (env_of modules) (entries_of modules entries)
 
 -- A thread holds no lock at its entry.
@@ -47,11 +52,13 @@ EntriesHoldNone = (modules : List TypedModuleTree) (entries : List (List ℕ)) �
 -- The initial store of a program is well-typed, and has as many words as the program has kinds.
 abbrev pub InitialStoreIsWellTyped : Type 0
 InitialStoreIsWellTyped = (modules : List TypedModuleTree) (entries : List (List ℕ)) → IsProgram modules entries →
-    (length (initial_words modules) ≡ length (env_of modules).kinds) × IsWellTypedStore (env_of modules) (initial_words modules)
+    (length (initial_words modules) ≡ length (env_of modules).kinds) ×
+    IsWellTypedStore (env_of modules) (initial_words modules)
 
 -- Each guard is the word of a lock of the program.
 abbrev pub GuardsAreWords : Type 0
-GuardsAreWords = (modules : List TypedModuleTree) (entries : List (List ℕ)) → IsProgram modules entries → (n g first len w : ℕ) →
+GuardsAreWords = (modules : List TypedModuleTree) (entries : List (List ℕ)) → IsProgram modules entries →
+    (n g first len w : ℕ) →
     (env_of modules).entity n g ≡ Some (shared first len (Some w)) →
     (w < length (initial_words modules)) × (slice_get (env_of modules).kinds w ≡ Some None)
 
@@ -79,7 +86,8 @@ pub record HasValues (modules : List TypedModuleTree) (name : List ℕ) (first l
 -- The initial value of each word of a global is its value at the global's definition. A typed module has a value for
 -- each word: 0 if the text has none.
 abbrev pub InitialValuesStand : Type 0
-InitialValuesStand = (modules : List TypedModuleTree) (entries : List (List ℕ)) → IsProgram modules entries → (n g first len : ℕ) (d : Decl) →
+InitialValuesStand = (modules : List TypedModuleTree) (entries : List (List ℕ)) → IsProgram modules entries →
+    (n g first len : ℕ) (d : Decl) →
     Declares modules n g d → IsCell ((env_of modules).entity n g) first len → HasValues modules d.name first len
 
 -- The initial word of a lock is 1.
@@ -93,7 +101,8 @@ LocksBeginFree = (modules : List TypedModuleTree) (entries : List (List ℕ)) �
 abbrev pub GuardsAreLocks : Type 0
 GuardsAreLocks = (modules : List TypedModuleTree) (entries : List (List ℕ)) → IsProgram modules entries →
     (n g l : ℕ) (decls : List Decl) → slice_get (units_of modules) n ≡ Some decls → guard_of decls g ≡ Some l →
-    (first len w : ℕ) × ((env_of modules).entity n g ≡ Some (shared first len (Some w))) × ((env_of modules).entity n l ≡ Some (lock w))
+    (first len w : ℕ) × ((env_of modules).entity n g ≡ Some (shared first len (Some w))) ×
+    ((env_of modules).entity n l ≡ Some (lock w))
 
 -- An item that stands for a shared global is declared as one, and an item that stands for a lock as a lock.
 abbrev pub SharedAreDeclared : Type 0
@@ -109,7 +118,8 @@ LocksAreDeclared = (modules : List TypedModuleTree) (entries : List (List ℕ)) 
 abbrev pub LocksAreByName : Type 0
 LocksAreByName = (modules : List TypedModuleTree) (entries : List (List ℕ)) → IsProgram modules entries →
     (n l m k : ℕ) (d e : Decl) → Declares modules n l d → d.form ≡ Lock → Declares modules m k e → e.form ≡ Lock →
-    (w v : ℕ) × ((env_of modules).entity n l ≡ Some (lock w)) × ((env_of modules).entity m k ≡ Some (lock v)) × ((w ≡ v) ↔ (d.name ≡ e.name))
+    (w v : ℕ) × ((env_of modules).entity n l ≡ Some (lock w)) × ((env_of modules).entity m k ≡ Some (lock v)) ×
+    ((w ≡ v) ↔ (d.name ≡ e.name))
 
 -- declarations of one name
 
@@ -121,7 +131,8 @@ DeclarationsAgree = (modules : List TypedModuleTree) (entries : List (List ℕ))
 
 -- the word is that of a lock that the item's `holds` names in its module
 abbrev pub HoldsWord : List TypedModuleTree → (unit item word : ℕ) → Type 0
-HoldsWord modules n g w = (decls : List Decl) × (l : ℕ) × (slice_get (units_of modules) n ≡ Some decls) × Contains (holds_of decls g) l × ((env_of modules).entity n l ≡ Some (lock w))
+HoldsWord modules n g w = (decls : List Decl) × (l : ℕ) × (slice_get (units_of modules) n ≡ Some decls) ×
+    Contains (holds_of decls g) l × ((env_of modules).entity n l ≡ Some (lock w))
 
 -- two items declare functions with the same signature, whose callers hold locks with the same words
 pub record AreSameFunctions (modules : List TypedModuleTree) (n g m h : ℕ) : Type 0 where
@@ -141,11 +152,13 @@ pub record AreSameFunctions (modules : List TypedModuleTree) (n g m h : ℕ) : T
 abbrev pub FunctionsAgree : Type 0
 FunctionsAgree = (modules : List TypedModuleTree) (entries : List (List ℕ)) → IsProgram modules entries →
     (n g : ℕ) (f : FunctionAt) → (env_of modules).entity n g ≡ Some (function f) →
-    (unit : TypedModuleTree) × (it : TypedFunTree) × IsAt modules f unit it × AreSameFunctions modules n g f.unit it.item
+    (unit : TypedModuleTree) × (it : TypedFunTree) × IsAt modules f unit it ×
+    AreSameFunctions modules n g f.unit it.item
 
 -- Items that stand for shared globals with a word in common have the same guard.
 abbrev pub GuardsAgree : Type 0
 GuardsAgree = (modules : List TypedModuleTree) (entries : List (List ℕ)) → IsProgram modules entries →
     (n g first len m h start count w : ℕ) (guard other : Option ℕ) →
-    (env_of modules).entity n g ≡ Some (shared first len guard) → (env_of modules).entity m h ≡ Some (shared start count other) →
+    (env_of modules).entity n g ≡ Some (shared first len guard) →
+    (env_of modules).entity m h ≡ Some (shared start count other) →
     HasWord (shared first len guard) w → HasWord (shared start count other) w → guard ≡ other

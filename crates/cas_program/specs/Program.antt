@@ -33,8 +33,20 @@ body_item _ = None
 -- a resolved function with its item's return type and closing brace; without an item it returns nothing, and ends at
 -- line 1, column 1
 abbrev pub function_with : TypedFunTree → Option FunTree → Function
-function_with it (Some f) = record { ret = return_type f.decl.form; locals = map (λ v. v.ty) it.locals; body = it.body; closing = f.closing }
-function_with it None = record { ret = Void; locals = map (λ v. v.ty) it.locals; body = it.body; closing = record { line = 1; col = 1 } }
+function_with it (Some f) = record {
+  ret = return_type f.decl.form;
+  locals = map
+      (λ v. v.ty) it.locals;
+  body = it.body;
+  closing = f.closing;
+}
+function_with it None = record {
+  ret = Void;
+  locals = map
+      (λ v. v.ty) it.locals;
+  body = it.body;
+  closing = record { line = 1; col = 1 };
+}
 
 -- a function that doesn't exist does nothing
 abbrev pub no_function : Function
@@ -115,7 +127,9 @@ env_of modules = record {
 -- the functions at which threads begin, by their names
 abbrev pub entries_of : List TypedModuleTree → (names : List (List ℕ)) → List FunctionAt
 entries_of modules [] = []
-entries_of modules (name ∷ names) = cons_option (option_map (λ (p : ℕ × ℕ). record { unit = p.0; place = p.1 }) (place_named (units_of modules) name)) (entries_of modules names)
+entries_of modules (name ∷ names) = cons_option
+    (option_map (λ (p : ℕ × ℕ). record { unit = p.0; place = p.1 }) (place_named (units_of modules) name))
+    (entries_of modules names)
 
 -- These modules are a program with these entries: each is typed, and formed like a module that is read from a text,
 -- and they settle.

@@ -48,11 +48,14 @@ module _ {O : Type 0} where
   value_at (Some cells) p = slice_get cells p
 
   -- the outcome with these words and these cells of objects. All words are read at one moment
-  abbrev pub answered : {A : Type 0} → (entity : ℕ → Option Entity) → (word : (number : ℕ) → Option ℕ) → (cells : O → Option (List (Value O))) → Asks O A → Got A
+  abbrev pub answered : {A : Type 0} → (entity : ℕ → Option Entity) → (word : (number : ℕ) → Option ℕ) →
+      (cells : O → Option (List (Value O))) → Asks O A → Got A
   answered entity word cells (asks.gives a) = got [] a
   answered entity word cells (asks.fails why) = bad [] why
   answered entity word cells asks.stuck = got_stuck []
   answered entity word cells (asks.reads g i more) =
-      if_there (word_at word (entity g) i) (λ n. having_read (trace_of (entity g) i) (answered entity word cells (more n)))
+      if_there (word_at word (entity g) i) (λ n. having_read (trace_of (entity g) i)
+      (answered entity word cells (more n)))
   answered entity word cells (asks.looks o more) = answered entity word cells (more (size_of (cells o)))
-  answered entity word cells (asks.loads o p more) = if_there (value_at (cells o) p) (λ v. answered entity word cells (more v))
+  answered entity word cells (asks.loads o p more) =
+      if_there (value_at (cells o) p) (λ v. answered entity word cells (more v))

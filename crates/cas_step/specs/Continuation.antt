@@ -75,7 +75,8 @@ module _ {O : Type 0} where
   jumps (Some cont) = gives (continues cont)
 
   -- one continuation or the other, by a condition; a missing condition is true
-  abbrev pub chooses : EvalContext O → Option TypedExprTree → (where_true where_false : List ContItem) → Asks O (Effect O)
+  abbrev pub chooses : EvalContext O → Option TypedExprTree → (where_true where_false : List ContItem) →
+      Asks O (Effect O)
   chooses s None some others = gives (continues some)
   chooses s (Some c) some others = and_then (test_of s c) (λ is. gives (continues (either some others is)))
 
@@ -87,7 +88,8 @@ module _ {O : Type 0} where
   -- the effect of a statement, with the continuation after it
   abbrev pub statement_effect : EvalContext O → TypedStmtTree → List ContItem → Asks O (Effect O)
   statement_effect s (skip p) cont = gives (continues cont)
-  statement_effect s (assign p target a) cont = and_then (target_of s target) (λ c. and_then (value_of s a) (λ v. into c v cont))
+  statement_effect s (assign p target a) cont =
+      and_then (target_of s target) (λ c. and_then (value_of s a) (λ v. into c v cont))
   statement_effect s (block p bs) cont = gives (continues (begin_all bs cont))
   statement_effect s (if_ p c a otherwise) cont = chooses s (Some c) (begin a ∷ cont) (begin_part otherwise cont)
   statement_effect s (while_ p c a) cont = chooses s (Some c) (begin a ∷ begun p c a ∷ cont) cont

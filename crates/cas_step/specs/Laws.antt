@@ -66,7 +66,8 @@ item_names (next p (present a) ∷ cont) = statement_names a
 
 -- the word with this number belongs to one of these shared globals of a module
 abbrev pub IsWordOf : Env → (unit : ℕ) → (globals : List ℕ) → (number : ℕ) → Type 0
-IsWordOf e unit globals n = (g first len : ℕ) × (guard : Option ℕ) × Contains globals g × (e.entity unit g ≡ Some (shared first len guard)) × (first ≤ n) × (n < first + len)
+IsWordOf e unit globals n = (g first len : ℕ) × (guard : Option ℕ) × Contains globals g ×
+    (e.entity unit g ≡ Some (shared first len guard)) × (first ≤ n) × (n < first + len)
 
 -- A thread's footprint has only words of shared globals that its statement names.
 abbrev pub FootprintsAreNamed : Type 0
@@ -76,12 +77,14 @@ FootprintsAreNamed = (e : Env) (ws : List ℕ) (c : Config) (a : Activation) (ol
 
 -- the same words in all tables of constants
 abbrev pub AgreeOnTables : Env → (ws vs : List ℕ) → Type 0
-AgreeOnTables e ws vs = (unit g first len i : ℕ) → e.entity unit g ≡ Some (table first len) → i < len → slice_get ws (first + i) ≡ slice_get vs (first + i)
+AgreeOnTables e ws vs = (unit g first len i : ℕ) → e.entity unit g ≡ Some (table first len) → i < len →
+    slice_get ws (first + i) ≡ slice_get vs (first + i)
 
 -- the words after a step are those before it, except the written ones, which are these
 abbrev pub ChangesOnly : (written : List ℕ) → (before after these : List ℕ) → Type 0
 ChangesOnly written before after these =
-    ((n : ℕ) → Contains written n → slice_get after n ≡ slice_get these n) × ((n : ℕ) → (Contains written n → ⊥) → slice_get after n ≡ slice_get before n)
+    ((n : ℕ) → Contains written n → slice_get after n ≡ slice_get these n) ×
+    ((n : ℕ) → (Contains written n → ⊥) → slice_get after n ≡ slice_get before n)
 
 -- the second step does the same as the first, over these words
 pub record AreSame (vs : List ℕ) (s r : Step) : Type 0 where
@@ -95,13 +98,15 @@ pub record AreSame (vs : List ℕ) (s r : Step) : Type 0 where
 
 -- A step is determined by the configuration, the words that it reads, and the tables of constants, which never change.
 abbrev pub StepsAreDetermined : Type 0
-StepsAreDetermined = (e : Env) (ws vs : List ℕ) (c : Config) (s : Step) → length ws ≡ length vs → AgreeOnTables e ws vs →
+StepsAreDetermined = (e : Env) (ws vs : List ℕ) (c : Config) (s : Step) → length ws ≡ length vs →
+    AgreeOnTables e ws vs →
     step e ws c ≡ Some s → ((n : ℕ) → Contains s.reads n → slice_get ws n ≡ slice_get vs n) →
     (r : Step) × (step e vs c ≡ Some r) × AreSame vs s r
 
 -- A step changes only words that its footprint reports as written.
 abbrev pub WritesAreReported : Type 0
-WritesAreReported = (e : Env) (ws : List ℕ) (c : Config) (s : Step) → step e ws c ≡ Some s → ChangesOnly s.writes ws s.words s.words
+WritesAreReported = (e : Env) (ws : List ℕ) (c : Config) (s : Step) → step e ws c ≡ Some s →
+    ChangesOnly s.writes ws s.words s.words
 
 -- Tables of constants never change.
 abbrev pub TablesStay : Type 0
@@ -116,6 +121,8 @@ IsTaken _ = ⊤
 -- A reachable thread that hasn't ended has a step over each well-typed store, so it is never stuck. Unless the step
 -- is Bad, the next configuration is reachable and the next store well-typed.
 abbrev pub ReachableThreadsStep : Type 0
-ReachableThreadsStep = (modules : List TypedModuleTree) (e : Env) (entries : List FunctionAt) (ws : List ℕ) (c : Config) (a : Activation) (older : List Activation) →
-    IsWellFormed modules e → AreEntries modules e entries → IsReachable e entries c → IsWellTypedStore e ws → c.activations ≡ a ∷ older →
+ReachableThreadsStep = (modules : List TypedModuleTree) (e : Env) (entries : List FunctionAt) (ws : List ℕ)
+    (c : Config) (a : Activation) (older : List Activation) →
+    IsWellFormed modules e → AreEntries modules e entries → IsReachable e entries c → IsWellTypedStore e ws →
+    c.activations ≡ a ∷ older →
     (s : Step) × (step e ws c ≡ Some s) × (IsTaken s.act → IsReachable e entries s.next × IsWellTypedStore e s.words)

@@ -61,13 +61,15 @@ EachOfType e c ty (v ∷ vs) = IsOfType e c ty v × EachOfType e c ty vs
 -- locals of these types, each with as many cells as its type has
 abbrev pub AreLocals : Env → Config → List Ty → List (List (Value Object)) → Type 0
 AreLocals e c [] [] = ⊤
-AreLocals e c (ty ∷ tys) (cells ∷ locals) = (length cells ≡ words_of_ty ty) × EachOfType e c (cell_type ty) cells × AreLocals e c tys locals
+AreLocals e c (ty ∷ tys) (cells ∷ locals) = (length cells ≡ words_of_ty ty) × EachOfType e c (cell_type ty) cells ×
+    AreLocals e c tys locals
 AreLocals e c _ _ = ⊥
 
 -- the memory has the locals of these activations, and no others
 abbrev pub AreBlocks : Env → Config → List Activation → List Block → Type 0
 AreBlocks e c [] [] = ⊤
-AreBlocks e c (a ∷ older) (b ∷ bs) = (b.serial ≡ a.serial) × AreLocals e c (types_of e a) b.locals × AreBlocks e c older bs
+AreBlocks e c (a ∷ older) (b ∷ bs) = (b.serial ≡ a.serial) × AreLocals e c (types_of e a) b.locals ×
+    AreBlocks e c older bs
 AreBlocks e c _ _ = ⊥
 
 -- an activation of a function of these modules, whose continuation belongs to the function's body
@@ -85,7 +87,9 @@ CallerKeeps e a (caller ∷ older) = MayKeep (types_of e caller) a.target (e.fun
 -- activations, the newest first: each has a serial number below this one, and above those of the older ones
 abbrev pub AreActivations : List TypedModuleTree → Env → (before : ℕ) → List Activation → Type 0
 AreActivations modules e before [] = ⊤
-AreActivations modules e before (a ∷ older) = (a.serial < before) × IsSoundActivation modules e a × CallerKeeps e a older × AreActivations modules e a.serial older
+AreActivations modules e before (a ∷ older) =
+    (a.serial < before) × IsSoundActivation modules e a × CallerKeeps e a older ×
+    AreActivations modules e a.serial older
 
 -- a thread is sound
 pub record IsSound (modules : List TypedModuleTree) (e : Env) (c : Config) : Type 0 where
@@ -100,7 +104,8 @@ ReachableThreadsAreSound = (modules : List TypedModuleTree) (e : Env) (entries :
 -- Progress: a sound thread that hasn't ended has a step over each well-typed store. Preservation: after the step the
 -- thread is sound and the store well-typed.
 abbrev pub ProgressAndPreservation : Type 0
-ProgressAndPreservation = (modules : List TypedModuleTree) (e : Env) (ws : List ℕ) (c : Config) (a : Activation) (older : List Activation) →
+ProgressAndPreservation = (modules : List TypedModuleTree) (e : Env) (ws : List ℕ) (c : Config) (a : Activation)
+    (older : List Activation) →
     IsWellFormed modules e → IsSound modules e c → IsWellTypedStore e ws → c.activations ≡ a ∷ older →
     (s : Step) × (step e ws c ≡ Some s) × IsSound modules e s.next × IsWellTypedStore e s.words
 
@@ -119,7 +124,10 @@ Gets P (got_stuck rs) = ⊥
 
 -- In a sound thread a well-sorted expression has a value of its sort, or fails, but is never stuck.
 abbrev pub ValuesAreSorted : Type 0
-ValuesAreSorted = (modules : List TypedModuleTree) (e : Env) (ws : List ℕ) (c : Config) (a : Activation) (older : List Activation) (unit : TypedModuleTree) (x : TypedExprTree) (sort : Sort) →
-    IsWellFormed modules e → IsSound modules e c → IsWellTypedStore e ws → c.activations ≡ a ∷ older → slice_get modules a.function.unit ≡ Some unit →
+ValuesAreSorted = (modules : List TypedModuleTree) (e : Env) (ws : List ℕ) (c : Config) (a : Activation)
+    (older : List Activation) (unit : TypedModuleTree) (x : TypedExprTree) (sort : Sort) →
+    IsWellFormed modules e → IsSound modules e c → IsWellTypedStore e ws → c.activations ≡ a ∷ older →
+    slice_get modules a.function.unit ≡ Some unit →
     HasSort (types_of e a) (decls_of unit) x sort → HasWords x →
-    Gets (IsOfSort e c sort) (answered (e.entity a.function.unit) (slice_get ws) (cells_at c.memory) (value_of (eval_context_of e (record { config = c; newest = a; older = older; words = ws })) x))
+    Gets (IsOfSort e c sort) (answered (e.entity a.function.unit) (slice_get ws) (cells_at c.memory)
+    (value_of (eval_context_of e (record { config = c; newest = a; older = older; words = ws })) x))

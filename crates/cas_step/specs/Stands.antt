@@ -12,16 +12,23 @@ IsAmong (one_more b bs) a = (b ≡ a) ⊎ IsAmong bs a
 -- a statement of the body, at whatever depth, in a loop of the body or not
 pub data StandsIn (body : TypedStmtList) : (in_loop : Bool) → TypedStmtTree → Type 0 where
   of_body : (a : TypedStmtTree) → IsAmong body a → StandsIn body false a
-  of_block : (l : Bool) (p : Place) (bs : TypedStmtList) (a : TypedStmtTree) → StandsIn body l (block p bs) → IsAmong bs a → StandsIn body l a
-  where_true : (l : Bool) (p : Place) (c : TypedExprTree) (a : TypedStmtTree) (o : TypedStmtOption) → StandsIn body l (if_ p c a o) → StandsIn body l a
-  where_false : (l : Bool) (p : Place) (c : TypedExprTree) (a b : TypedStmtTree) → StandsIn body l (if_ p c a (present b)) → StandsIn body l b
-  of_while : (l : Bool) (p : Place) (c : TypedExprTree) (a : TypedStmtTree) → StandsIn body l (while_ p c a) → StandsIn body true a
-  of_do : (l : Bool) (p : Place) (a : TypedStmtTree) (c : TypedExprTree) → StandsIn body l (do_ p a c) → StandsIn body true a
-  first_of_for : (l : Bool) (p : Place) (i : TypedStmtTree) (c : Option TypedExprTree) (u : TypedStmtOption) (a : TypedStmtTree) →
+  of_block : (l : Bool) (p : Place) (bs : TypedStmtList) (a : TypedStmtTree) → StandsIn body l (block p bs) →
+      IsAmong bs a → StandsIn body l a
+  where_true : (l : Bool) (p : Place) (c : TypedExprTree) (a : TypedStmtTree) (o : TypedStmtOption) →
+      StandsIn body l (if_ p c a o) → StandsIn body l a
+  where_false : (l : Bool) (p : Place) (c : TypedExprTree) (a b : TypedStmtTree) →
+      StandsIn body l (if_ p c a (present b)) → StandsIn body l b
+  of_while : (l : Bool) (p : Place) (c : TypedExprTree) (a : TypedStmtTree) → StandsIn body l (while_ p c a) →
+      StandsIn body true a
+  of_do : (l : Bool) (p : Place) (a : TypedStmtTree) (c : TypedExprTree) → StandsIn body l (do_ p a c) →
+      StandsIn body true a
+  first_of_for : (l : Bool) (p : Place) (i : TypedStmtTree) (c : Option TypedExprTree) (u : TypedStmtOption)
+      (a : TypedStmtTree) →
       StandsIn body l (for_ p (present i) c u a) → StandsIn body l i
   after_of_for : (l : Bool) (p : Place) (i : TypedStmtOption) (c : Option TypedExprTree) (u a : TypedStmtTree) →
       StandsIn body l (for_ p i c (present u) a) → StandsIn body l u
-  of_for : (l : Bool) (p : Place) (i : TypedStmtOption) (c : Option TypedExprTree) (u : TypedStmtOption) (a : TypedStmtTree) →
+  of_for : (l : Bool) (p : Place) (i : TypedStmtOption) (c : Option TypedExprTree) (u : TypedStmtOption)
+      (a : TypedStmtTree) →
       StandsIn body l (for_ p i c u a) → StandsIn body true a
 
 -- there is a continuation
@@ -49,5 +56,6 @@ abbrev pub MayDo : TypedStmtList → List ContItem → Type 0
 MayDo body [] = ⊤
 MayDo body (begin a ∷ cont) = ((l : Bool) × StandsIn body l a × MayLeave l cont) × MayDo body cont
 MayDo body (begun p c a ∷ cont) = ((l : Bool) × IsLoopOf body l p c a) × MayDo body cont
-MayDo body (loop p c u a ∷ cont) = ((l : Bool) × (i : TypedStmtOption) × StandsIn body l (for_ p i c u a) × MayLeave l cont) × MayDo body cont
+MayDo body (loop p c u a ∷ cont) = ((l : Bool) × (i : TypedStmtOption) × StandsIn body l (for_ p i c u a) ×
+    MayLeave l cont) × MayDo body cont
 MayDo body (next p u ∷ cont) = IsTurnOf p u cont × MayDo body cont

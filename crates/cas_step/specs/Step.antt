@@ -67,7 +67,8 @@ with_local locals n i v = slice_set locals n (slice_set (slice_index_or locals n
 abbrev pub memory_with : List Block → Object → (place : ℕ) → Value Object → List Block
 memory_with [] o i v = []
 memory_with (b ∷ bs) o i v =
-    if nat_eq b.serial o.serial then record { serial = b.serial; locals = with_local b.locals o.local i v } ∷ bs else b ∷ memory_with bs o i v
+    if nat_eq b.serial o.serial then record { serial = b.serial; locals = with_local b.locals o.local i v } ∷
+    bs else b ∷ memory_with bs o i v
 
 -- the memory without the locals of an activation; its objects are dead from now on
 abbrev pub memory_without : List Block → (serial : ℕ) → List Block
@@ -107,7 +108,8 @@ eval_context_of e h = record {
 
 -- the activations with this continuation of the newest one
 abbrev pub doing : StepContext → List ContItem → List Activation
-doing h cont = record { serial = h.newest.serial; function = h.newest.function; target = h.newest.target; cont = cont } ∷ h.older
+doing h cont =
+    record { serial = h.newest.serial; function = h.newest.function; target = h.newest.target; cont = cont } ∷ h.older
 
 -- the thread with these activations and this memory
 abbrev pub thread_with : StepContext → List Activation → List Block → Config
@@ -153,13 +155,16 @@ module _ (e : Env) (h : StepContext) where
 
   -- a step that writes a word of a shared global
   abbrev pub global_step : (reads : List ℕ) → Option Entity → (place value : ℕ) → List ContItem → Option Step
-  global_step rs (Some (shared first len guard)) i n cont = word_step rs (slice_get h.words (first + i)) (first + i) n cont
+  global_step rs (Some (shared first len guard)) i n cont =
+      word_step rs (slice_get h.words (first + i)) (first + i) n cont
   global_step rs _ i n cont = None
 
   -- a step that stores a value into a cell, which holds this one before the step
-  abbrev pub store_step : (reads : List ℕ) → (held : Option (Value Object)) → Object → (place : ℕ) → Value Object → List ContItem → Option Step
+  abbrev pub store_step : (reads : List ℕ) → (held : Option (Value Object)) → Object → (place : ℕ) → Value Object →
+      List ContItem → Option Step
   store_step rs None o i v cont = None
-  store_step rs (Some held) o i v cont = Some (step_to rs act.Quiet (thread_with h (doing h cont) (memory_with h.config.memory o i v)))
+  store_step rs (Some held) o i v cont = Some (step_to rs act.Quiet
+      (thread_with h (doing h cont) (memory_with h.config.memory o i v)))
 
 -- the value of a local's cells at the start
 abbrev pub zero_of : Ty → Value Object
@@ -173,9 +178,11 @@ locals_of (ty ∷ tys) [] = replicate (words_of_ty ty) (zero_of ty) ∷ locals_o
 locals_of (ty ∷ tys) (v ∷ vs) = (v ∷ []) ∷ locals_of tys vs
 
 -- the thread with these activations and this memory, after a call of this function with these arguments has begun
-abbrev pub with_call : Env → List Activation → List Block → (serial : ℕ) → FunctionAt → List (Value Object) → Option Destination → Config
+abbrev pub with_call : Env → List Activation → List Block → (serial : ℕ) → FunctionAt → List (Value Object) →
+    Option Destination → Config
 with_call e activations memory serial f vs target = record {
-  activations = record { serial = serial; function = f; target = target; cont = begin_all (e.function f).body [] } ∷ activations;
+  activations = record { serial = serial; function = f; target = target; cont = begin_all (e.function f).body [] } ∷
+      activations;
   memory = record { serial = serial; locals = locals_of (e.function f).locals vs } ∷ memory;
   fresh = serial + 1;
 }
@@ -188,7 +195,8 @@ converted (Ptr k) (pointer o p) = Some (pointer o p)
 converted _ v = None
 
 -- the memory with a value in a cell, which holds this one before the step
-abbrev pub memory_storing : List Block → (held : Option (Value Object)) → Object → (place : ℕ) → Option (Value Object) → Option (List Block)
+abbrev pub memory_storing : List Block → (held : Option (Value Object)) → Object → (place : ℕ) →
+    Option (Value Object) → Option (List Block)
 memory_storing memory None o i v = None
 memory_storing memory (Some held) o i None = None
 memory_storing memory (Some held) o i (Some v) = Some (memory_with memory o i v)
@@ -198,12 +206,15 @@ abbrev pub memory_keeping : List Block → (serial : ℕ) → Option Destination
 memory_keeping memory serial None v = Some memory
 memory_keeping memory serial (Some d) None = None
 memory_keeping memory serial (Some d) (Some v) =
-    let o : Object = record { serial = serial; local = d.local } in memory_storing memory (value_at (cells_at memory o) 0) o 0 (converted d.ty v)
+    let o : Object = record { serial = serial; local = d.local } in memory_storing memory
+    (value_at (cells_at memory o) 0) o 0 (converted d.ty v)
 
 module _ (e : Env) (h : StepContext) where
   -- a call
-  abbrev pub call_step : (reads : List ℕ) → Option Entity → List (Value Object) → Option Destination → List ContItem → Option Step
-  call_step rs (Some (function f)) vs target cont = Some (step_to e h rs act.Quiet (with_call e (doing h cont) h.config.memory h.config.fresh f vs target))
+  abbrev pub call_step : (reads : List ℕ) → Option Entity → List (Value Object) → Option Destination → List ContItem →
+      Option Step
+  call_step rs (Some (function f)) vs target cont =
+      Some (step_to e h rs act.Quiet (with_call e (doing h cont) h.config.memory h.config.fresh f vs target))
   call_step rs _ vs target cont = None
 
   -- a return to these activations with this memory
@@ -213,8 +224,10 @@ module _ (e : Env) (h : StepContext) where
 
   -- a return: to the caller, or, from the outermost activation, the end of the thread
   abbrev pub return_step : (reads : List ℕ) → (older : List Activation) → Option (Value Object) → Option Step
-  return_step rs [] v = Some (step_to e h rs act.Done (thread_with h [] (memory_without h.config.memory h.newest.serial)))
-  return_step rs (a ∷ older) v = return_to rs (a ∷ older) (memory_keeping (memory_without h.config.memory h.newest.serial) a.serial h.newest.target v)
+  return_step rs [] v = Some (step_to e h rs act.Done
+      (thread_with h [] (memory_without h.config.memory h.newest.serial)))
+  return_step rs (a ∷ older) v = return_to rs (a ∷ older)
+      (memory_keeping (memory_without h.config.memory h.newest.serial) a.serial h.newest.target v)
 
   -- an act on a lock
   abbrev pub lock_step : (reads : List ℕ) → Option Entity → (ℕ → Act) → List ContItem → Option Step
@@ -236,7 +249,8 @@ module _ (e : Env) (h : StepContext) where
 
   -- the step of the newest activation's first item
   abbrev pub newest_step : Option Step
-  newest_step = step_with_effect (answered (entity_in e h) (slice_get h.words) (cells_at h.config.memory) (effect_of (eval_context_of e h) (e.function h.newest.function).ret h.newest.cont))
+  newest_step = step_with_effect (answered (entity_in e h) (slice_get h.words) (cells_at h.config.memory)
+      (effect_of (eval_context_of e h) (e.function h.newest.function).ret h.newest.cont))
 
 -- the next step of a thread over these shared words; none if it has ended, or is stuck, as no thread of typed
 -- modules is

@@ -19,7 +19,8 @@ use Rattle.cas_typed.specs.Literals.{BodyHasWords}
 use Rattle.cas_step.specs.Step.{Config, Step, step, start}
 
 -- the function at this place
-pub record IsAt (modules : List TypedModuleTree) (f : FunctionAt) (unit : TypedModuleTree) (it : TypedFunTree) : Type 0 where
+pub record IsAt (modules : List TypedModuleTree) (f : FunctionAt) (unit : TypedModuleTree)
+    (it : TypedFunTree) : Type 0 where
   pub unit_is : slice_get modules f.unit ≡ Some unit
   pub function_is : slice_get unit.functions f.place ≡ Some it
 
@@ -70,16 +71,19 @@ HasWord _ w = ⊥
 -- environment of a program.
 pub record IsWellFormed (modules : List TypedModuleTree) (e : Env) : Type 0 where
   pub sorted : All IsSortedModule modules
-  pub functions : (f : FunctionAt) (unit : TypedModuleTree) (it : TypedFunTree) → IsAt modules f unit it → IsFunctionOf unit it (e.function f)
+  pub functions : (f : FunctionAt) (unit : TypedModuleTree) (it : TypedFunTree) → IsAt modules f unit it →
+      IsFunctionOf unit it (e.function f)
   pub entities : (n g : ℕ) (unit : TypedModuleTree) (d : Decl) → slice_get modules n ≡ Some unit →
       slice_get (decls_of unit) g ≡ Some d → StandsFor modules e d.form (e.entity n g)
-  pub apart : (n g m h w : ℕ) (it other : Entity) → e.entity n g ≡ Some it → e.entity m h ≡ Some other → HasWord it w → HasWord other w → it ≡ other
+  pub apart : (n g m h w : ℕ) (it other : Entity) → e.entity n g ≡ Some it → e.entity m h ≡ Some other → HasWord it w →
+      HasWord other w → it ≡ other
 
 -- each entry is a function of these modules that takes the thread's number; the numbers are words
 pub record AreEntries (modules : List TypedModuleTree) (e : Env) (entries : List FunctionAt) : Type 0 where
   pub count : length entries ≤ 2 ^ 32
   pub each : (thread : ℕ) (f : FunctionAt) → slice_get entries thread ≡ Some f →
-      (unit : TypedModuleTree) × (it : TypedFunTree) × IsAt modules f unit it × HasSignature (e.function f) Void (Int I32 ∷ [])
+      (unit : TypedModuleTree) × (it : TypedFunTree) × IsAt modules f unit it ×
+      HasSignature (e.function f) Void (Int I32 ∷ [])
 
 -- the word is a value of the kind; the word of a lock may be any
 abbrev pub IsWellTypedWord : Option Kind → ℕ → Type 0
@@ -97,5 +101,7 @@ IsWellTypedStore e ws = AreWellTypedWords e.kinds ws
 
 -- the thread is reachable: it starts at an entry with its number, and takes steps, each over some well-typed store
 pub data IsReachable (e : Env) (entries : List FunctionAt) : Config → Type 0 where
-  at_start : (thread : ℕ) (f : FunctionAt) → slice_get entries thread ≡ Some f → IsReachable e entries (start e f (word thread ∷ []))
-  and_step : (c : Config) (ws : List ℕ) (s : Step) → IsReachable e entries c → IsWellTypedStore e ws → step e ws c ≡ Some s → IsReachable e entries s.next
+  at_start : (thread : ℕ) (f : FunctionAt) → slice_get entries thread ≡ Some f →
+      IsReachable e entries (start e f (word thread ∷ []))
+  and_step : (c : Config) (ws : List ℕ) (s : Step) → IsReachable e entries c → IsWellTypedStore e ws →
+      step e ws c ≡ Some s → IsReachable e entries s.next

@@ -38,7 +38,8 @@ impl<'a> Model for Symbols<'a> {
 
     ghost view = { λ s. map (λ decl. decl.now) s.decls.items };
 
-    ghost invariant = { λ s. (length s.decls.items < 2 ^ 32) × IsIndex (map (λ decl. decl.now) s.decls.items) s.table.entries };
+    ghost invariant = { λ s. (length s.decls.items < 2 ^ 32) ×
+        IsIndex (map (λ decl. decl.now) s.decls.items) s.table.entries };
 }
 
 impl<'a> Symbols<'a> {
@@ -77,7 +78,8 @@ impl<'a> Symbols<'a> {
     // What is declared by a declaration's name after that declaration.
     fn get_with(&self, decl: &'a Decl) -> Symbol<'a>
         ensures meaning { symbol_meaning (Some result) ≡ item_named 0 (self.now ++ decl.now ∷ []) decl.now.name }
-        ensures defined { is_defined (Some result) ≡ list_any (is_named decl.now.name) (definitions (self.now ++ decl.now ∷ [])) }
+        ensures defined { is_defined (Some result) ≡ list_any (is_named decl.now.name)
+            (definitions (self.now ++ decl.now ∷ [])) }
     {
         match self.get(decl.name.as_str()) {
             Some(first) => Symbol {

@@ -22,7 +22,8 @@ IsCallOf c _ = ⊥
 
 -- a call whose arguments are evaluated, or why they aren't, as the evaluation answers; running out of memory says
 -- nothing
-abbrev pub IsReady : Result (items.Effect Object) NoResult → (left : List items.ContItem) → Result Ready NoArguments → Type 0
+abbrev pub IsReady : Result (items.Effect Object) NoResult → (left : List items.ContItem) → Result Ready NoArguments →
+    Type 0
 IsReady answer left (Ok r) = answer ≡ Ok (calls r.item (map value_of r.values.items) r.kept left)
 IsReady answer left (Err (OfValue e)) = answer ≡ Err e
 IsReady answer left (Err Memory) = ⊤
@@ -34,5 +35,6 @@ function_place _ = None
 
 -- whether the arguments of a call have values, as the evaluation answers
 abbrev pub IsReadied : Result (items.Effect Object) NoResult → Result (Unit {0}) NoResult → Type 0
-IsReadied answer (Ok u) = (g : ℕ) × (vs : List (Value Object)) × (kept : Option Destination) × (left : List items.ContItem) × (answer ≡ Ok (calls g vs kept left))
+IsReadied answer (Ok u) = (g : ℕ) × (vs : List (Value Object)) × (kept : Option Destination) ×
+    (left : List items.ContItem) × (answer ≡ Ok (calls g vs kept left))
 IsReadied answer (Err e) = answer ≡ Err e

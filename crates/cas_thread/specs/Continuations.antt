@@ -34,7 +34,8 @@ IsBegunRow rows p c a q (row.Do i c') = (q ≡ p) × (typed_expr_tree c' ≡ c) 
 IsBegunRow rows p c a q _ = ⊥
 
 -- a row of a `for` at this place, with this condition, last part and body
-abbrev pub IsLoopRow : List StmtRow → Place → Option TypedExprTree → TypedStmtOption → TypedStmtTree → Place → StmtRowForm → Type 0
+abbrev pub IsLoopRow : List StmtRow → Place → Option TypedExprTree → TypedStmtOption → TypedStmtTree → Place →
+    StmtRowForm → Type 0
 IsLoopRow rows p c u a q (row.For h c' j k) = (q ≡ p) × (optional_expr_tree c' ≡ c) × IsPart rows u j × IsAt rows k a
 IsLoopRow rows p c u a q _ = ⊥
 
@@ -47,7 +48,9 @@ IsNextRow rows p u q _ = ⊥
 abbrev pub IsContinuation : List StmtRow → List ContItem → List items.ContItem → Type 0
 IsContinuation rows [] [] = ⊤
 IsContinuation rows (Begin n ∷ xs) (begin a ∷ cont) = IsAt rows n a × IsContinuation rows xs cont
-IsContinuation rows (Begun n ∷ xs) (begun p c a ∷ cont) = At rows n (IsBegunRow rows p c a) × IsContinuation rows xs cont
-IsContinuation rows (Loop n ∷ xs) (loop p c u a ∷ cont) = At rows n (IsLoopRow rows p c u a) × IsContinuation rows xs cont
+IsContinuation rows (Begun n ∷ xs) (begun p c a ∷ cont) =
+    At rows n (IsBegunRow rows p c a) × IsContinuation rows xs cont
+IsContinuation rows (Loop n ∷ xs) (loop p c u a ∷ cont) =
+    At rows n (IsLoopRow rows p c u a) × IsContinuation rows xs cont
 IsContinuation rows (Next n ∷ xs) (next p u ∷ cont) = At rows n (IsNextRow rows p u) × IsContinuation rows xs cont
 IsContinuation rows _ _ = ⊥

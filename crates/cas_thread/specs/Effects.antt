@@ -39,7 +39,8 @@ FirstStatementIs P (next p (present a) ∷ cont) = P a
 FirstStatementIs P _ = ⊥
 
 -- the first item: a call or a jump, or the effect that its evaluation answers, with the continuation after it
-abbrev pub IsFirst : Result (items.Effect Object) NoResult → (left : Bool → List ContItem) → (calls jumps : Type 0) → Result First NoResult → Type 0
+abbrev pub IsFirst : Result (items.Effect Object) NoResult → (left : Bool → List ContItem) → (calls jumps : Type 0) →
+    Result First NoResult → Type 0
 IsFirst answer left calls jumps (Ok Call) = calls
 IsFirst answer left calls jumps (Ok Jump) = jumps
 IsFirst answer left calls jumps (Ok (Does d)) = answer ≡ Ok (effect_with left d)

@@ -36,7 +36,8 @@ AreFrames ts _ _ = ⊥
 
 -- these frames, the newest last, this memory and next serial number are the thread's; its blocks have smaller serial
 -- numbers
-pub record AreParts (ts : List Typed) (frames : List Frame) (memory : List Block) (fresh : ℕ) (c : Config) : Type 0 where
+pub record AreParts (ts : List Typed) (frames : List Frame) (memory : List Block) (fresh : ℕ)
+    (c : Config) : Type 0 where
   pub frames_are : AreFrames ts (reverse frames) c.activations
   pub memory_is : c.memory ≡ memory
   pub fresh_is : c.fresh ≡ fresh

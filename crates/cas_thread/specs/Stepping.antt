@@ -23,7 +23,8 @@ use Rattle.cas_thread.specs.Eval_state.{eval_state_in}
 -- the activations after the first item of the newest one
 abbrev pub gone : Bool → List Activation → List Activation
 gone is [] = []
-gone is (a ∷ older) = record { serial = a.serial; function = a.function; target = a.target; cont = after is a.cont } ∷ older
+gone is (a ∷ older) = record { serial = a.serial; function = a.function; target = a.target; cont = after is a.cont } ∷
+    older
 
 -- the serial number of the newest activation, if there is one
 abbrev pub newest_serial : List Activation → Option ℕ
@@ -43,7 +44,8 @@ abbrev pub AreEntities : List (Option Entity) → Env → StepContext → Type 0
 AreEntities its e h = (g : ℕ) → entity_if (slice_get its g) ≡ entity_in e h g
 
 -- the thread of the code and its words are those of this context
-pub record IsStepContext (ts : List Typed) (its : List (Option Entity)) (k : code.Config) (ws : List ℕ) (e : Env) (h : StepContext) : Type 0 where
+pub record IsStepContext (ts : List Typed) (its : List (Option Entity)) (k : code.Config) (ws : List ℕ) (e : Env)
+    (h : StepContext) : Type 0 where
   pub thread : AreThread ts k h.config
   pub newest : h.config.activations ≡ h.newest ∷ h.older
   pub words : ws ≡ h.words
@@ -51,14 +53,15 @@ pub record IsStepContext (ts : List Typed) (its : List (Option Entity)) (k : cod
 
 -- for each program and thread that the code's stand for, this holds of the modules and of the context of the next step
 abbrev pub AtThread : Program → code.Config → (List TypedModuleTree → StepContext → Type 0) → Type 0
-AtThread p k P = (ms : List TypedModuleTree) (names : List (List ℕ)) (h : StepContext) → IsProgramOf p ms names → AreThread p.modules k h.config →
+AtThread p k P = (ms : List TypedModuleTree) (names : List (List ℕ)) (h : StepContext) → IsProgramOf p ms names →
+    AreThread p.modules k h.config →
     h.config.activations ≡ h.newest ∷ h.older → P ms h
 
 -- the same with these words
 abbrev pub AtStep : Program → code.Config → (words : List ℕ) → (List TypedModuleTree → StepContext → Type 0) → Type 0
 AtStep p k ws P = AtThread p k (λ ms h. ws ≡ h.words → P ms h)
 
--- the same where the step is that of a call
+-- the same, if the step is that of a call
 abbrev pub AtCall : Program → code.Config → (words : List ℕ) → (List TypedModuleTree → StepContext → Type 0) → Type 0
 AtCall p k ws P = AtStep p k ws (λ ms h. FirstStatementIs IsCall h.newest.cont → P ms h)
 
@@ -68,7 +71,8 @@ OfStep P ms h = (s : Step) → newest_step (env_of ms) h ≡ Some s → P s
 
 -- the effect of the step, as its evaluation answers
 abbrev pub evaluated_effect : List TypedModuleTree → StepContext → Result (Effect Object) NoResult
-evaluated_effect ms h = let e = env_of ms in answer (eval_state_in e h) (effect_of (eval_context_of e h) (e.function h.newest.function).ret h.newest.cont)
+evaluated_effect ms h = let e = env_of ms in answer (eval_state_in e h)
+    (effect_of (eval_context_of e h) (e.function h.newest.function).ret h.newest.cont)
 
 -- the word of a lock, and the number of a word of a shared global
 abbrev pub lock_word : Option env.Entity → Option ℕ

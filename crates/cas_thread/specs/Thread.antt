@@ -44,11 +44,13 @@ pub record IsUnfinished (p : Program) (k : code.Config) : Type 0 where
 
 -- this holds of the thread's next step over these words
 abbrev pub OfNextStep : Program → code.Config → (words : List ℕ) → (Step → Type 0) → Type 0
-OfNextStep p k ws P = (modules : List TypedModuleTree) (names : List (List ℕ)) (c : Config) (s : Step) → IsProgramOf p modules names → IsThread p k c → step (env_of modules) ws c ≡ Some s → P s
+OfNextStep p k ws P = (modules : List TypedModuleTree) (names : List (List ℕ)) (c : Config) (s : Step) →
+    IsProgramOf p modules names → IsThread p k c → step (env_of modules) ws c ≡ Some s → P s
 
 -- the thread of the code is the one with this number at its start
 abbrev pub IsStarted : Program → (thread : ℕ) → code.Config → Type 0
-IsStarted p n k = (modules : List TypedModuleTree) (names : List (List ℕ)) (f : FunctionAt) → IsProgramOf p modules names → slice_get (entries_of modules names) n ≡ Some f →
+IsStarted p n k = (modules : List TypedModuleTree) (names : List (List ℕ)) (f : FunctionAt) →
+    IsProgramOf p modules names → slice_get (entries_of modules names) n ≡ Some f →
     IsThread p k (start (env_of modules) f (word n ∷ []))
 
 -- the word of the lock that an act takes, if it takes one

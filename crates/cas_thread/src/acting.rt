@@ -29,7 +29,8 @@ use cas_whole::Program;
 
 // The act of a return from the newest of these calls: the outermost ends the thread.
 fn return_act(frames: &[Frame]) -> Act
-    ensures { (modules : List Typed) (e : Env) (h : step.StepContext) (rs : List ℕ) (v : Option (Value step.Object)) (s : step.Step) → AreFrames modules (reverse frames.now) (h.newest ∷ h.older)
+    ensures { (modules : List Typed) (e : Env) (h : step.StepContext) (rs : List ℕ) (v : Option (Value step.Object))
+        (s : step.Step) → AreFrames modules (reverse frames.now) (h.newest ∷ h.older)
         → step.return_step e h rs h.older v ≡ Some s → result ≡ s.act }
 {
     if frames.len() < 2 {
@@ -41,7 +42,8 @@ fn return_act(frames: &[Frame]) -> Act
 
 // The act of taking the lock that an item is, if it is one.
 fn lock_act(items: &[Option<Entity>], item: u32) -> Option<Act>
-    ensures { (e : Env) (h : step.StepContext) (rs : List ℕ) (cont : List conts.ContItem) (s : step.Step) → AreEntities items.now e h
+    ensures { (e : Env) (h : step.StepContext) (rs : List ℕ) (cont : List conts.ContItem) (s : step.Step) →
+        AreEntities items.now e h
         → step.lock_step e h rs (step.entity_in e h item) act.Lock cont ≡ Some s → result ≡ Some s.act }
 {
     lock_of(items, item).map(Act::Lock)
@@ -49,7 +51,8 @@ fn lock_act(items: &[Option<Entity>], item: u32) -> Option<Act>
 
 // The act of releasing the lock that an item is, if it is one.
 fn unlock_act(items: &[Option<Entity>], item: u32) -> Option<Act>
-    ensures { (e : Env) (h : step.StepContext) (rs : List ℕ) (cont : List conts.ContItem) (s : step.Step) → AreEntities items.now e h
+    ensures { (e : Env) (h : step.StepContext) (rs : List ℕ) (cont : List conts.ContItem) (s : step.Step) →
+        AreEntities items.now e h
         → step.lock_step e h rs (step.entity_in e h item) act.Unlock cont ≡ Some s → result ≡ Some s.act }
 {
     lock_of(items, item).map(Act::Unlock)
@@ -57,8 +60,10 @@ fn unlock_act(items: &[Option<Entity>], item: u32) -> Option<Act>
 
 // The act of an effect. None if it is stuck, as in no typed module.
 fn effect_act(config: &Config, items: &[Option<Entity>], effect: Effect) -> Option<Act>
-    ensures { (modules : List Typed) (e : Env) (h : step.StepContext) (rs : List ℕ) (s : step.Step) → AreThread modules config.now h.config → h.config.activations ≡ h.newest ∷ h.older
-        → AreEntities items.now e h → step_with_effect e h (got rs (effect_with (λ is. after is h.newest.cont) effect)) ≡ Some s → result ≡ Some s.act }
+    ensures { (modules : List Typed) (e : Env) (h : step.StepContext) (rs : List ℕ) (s : step.Step) →
+        AreThread modules config.now h.config → h.config.activations ≡ h.newest ∷ h.older
+        → AreEntities items.now e h → step_with_effect e h
+        (got rs (effect_with (λ is. after is h.newest.cont) effect)) ≡ Some s → result ≡ Some s.act }
 {
     match effect {
         Effect::Continues(_) => Some(Act::Quiet),

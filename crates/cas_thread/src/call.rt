@@ -51,8 +51,10 @@ pub(crate) struct Ready {
 
 // The call that a row is, if it is one.
 fn called_in(row: &StmtRow) -> Option<Called<'_>>
-    ensures some { IfSome result (λ called. (rows : List StmtRow) (n : ℕ) (a : TypedStmtTree) → IsRow rows n a row.now.place row.now.form → IsCallOf called a) }
-    ensures none { IfNone result ((rows : List StmtRow) (n : ℕ) (a : TypedStmtTree) → IsRow rows n a row.now.place row.now.form → ¬ (IsCall a)) }
+    ensures some { IfSome result (λ called. (rows : List StmtRow) (n : ℕ) (a : TypedStmtTree) →
+        IsRow rows n a row.now.place row.now.form → IsCallOf called a) }
+    ensures none { IfNone result ((rows : List StmtRow) (n : ℕ) (a : TypedStmtTree) →
+        IsRow rows n a row.now.place row.now.form → ¬ (IsCall a)) }
 {
     match &row.form {
         StmtRowForm::Call(kept, item, _, args) => Some(Called {
@@ -66,8 +68,10 @@ fn called_in(row: &StmtRow) -> Option<Called<'_>>
 
 /// The call that comes first, if one does.
 pub(crate) fn first_call<'a>(rows: &'a [StmtRow], cont: &[ContItem]) -> Option<Called<'a>>
-    ensures some { IfSome result (λ called. (it : List items.ContItem) → IsContinuation rows.now (reverse cont.now) it → FirstStatementIs (IsCallOf called) it) }
-    ensures none { IfNone result ((it : List items.ContItem) → IsContinuation rows.now (reverse cont.now) it → ¬ (FirstStatementIs IsCall it)) }
+    ensures some { IfSome result (λ called. (it : List items.ContItem) →
+        IsContinuation rows.now (reverse cont.now) it → FirstStatementIs (IsCallOf called) it) }
+    ensures none { IfNone result ((it : List items.ContItem) → IsContinuation rows.now (reverse cont.now) it →
+        ¬ (FirstStatementIs IsCall it)) }
 {
     called_in(first_row(rows, cont)?)
 }
@@ -79,7 +83,8 @@ pub(crate) fn evaluated(
     called: &Called<'_>,
 ) -> Result<Ready, NoArguments>
     ensures { (ret : Ty) (it : List items.ContItem) → FirstStatementIs (IsCallOf called.now) it
-        → IsReady (answer (eval_state context.now) (effect_of (eval_context (eval_state context.now)) ret it)) (after true it) result }
+        → IsReady (answer (eval_state context.now) (effect_of (eval_context (eval_state context.now)) ret it))
+        (after true it) result }
 {
     let values = arguments(alloc, context, called.args)?;
     Ok(Ready {
@@ -120,8 +125,10 @@ pub(crate) fn new_frame(
     ensures unit { IfOk result (λ f. f.unit ≡ at.0) }
     ensures place { IfOk result (λ f. f.place ≡ at.1) }
     ensures target { IfOk result (λ f. f.target ≡ target) }
-    ensures cont { IfOk result (λ f. (it : TypedFunTree) → numbered.IsFunctionOf it function.now → IsContinuation function.now.rows (reverse f.cont.items) (begin_all it.body [])) }
-    ensures room { IfOk result (λ f. (it : TypedFunTree) → numbered.IsFunctionOf it function.now → Fits (vec_capacity f.cont) (begin_all it.body [])) }
+    ensures cont { IfOk result (λ f. (it : TypedFunTree) → numbered.IsFunctionOf it function.now →
+        IsContinuation function.now.rows (reverse f.cont.items) (begin_all it.body [])) }
+    ensures room { IfOk result (λ f. (it : TypedFunTree) → numbered.IsFunctionOf it function.now →
+        Fits (vec_capacity f.cont) (begin_all it.body [])) }
 {
     let rows = function.rows.as_slice();
     let parts = function.body.as_slice();

@@ -65,7 +65,8 @@ pub(crate) fn rows_of(modules: &[Typed], unit: u32, place: u32) -> &[StmtRow]
 fn advance_frame(modules: &[Typed], frame: Frame, holds: bool) -> Frame
     requires { ∥ ((a : step.Activation) × IsFrame modules.now frame a) ∥₁ }
     ensures { (a : step.Activation) → IsFrame modules.now frame a
-        → IsFrame modules.now result (record { serial = a.serial; function = a.function; target = a.target; cont = after holds a.cont }) }
+        → IsFrame modules.now result
+        (record { serial = a.serial; function = a.function; target = a.target; cont = after holds a.cont }) }
 {
     let mut frame = frame;
     let rows = rows_of(modules, frame.unit, frame.place);
@@ -90,7 +91,8 @@ pub(crate) fn advance_newest(modules: &[Typed], frames: &mut Vec<Frame>, holds: 
 impl Config {
     /// Whether the thread has ended: it has no call.
     pub fn has_ended(&self) -> bool
-        ensures { (program : Program) (c : step.Config) → IsThread program self.now c → IsTrue result ↔ (c.activations ≡ []) }
+        ensures { (program : Program) (c : step.Config) → IsThread program self.now c →
+            IsTrue result ↔ (c.activations ≡ []) }
     {
         caller_of(&self.frames).is_none()
     }
@@ -98,7 +100,8 @@ impl Config {
     /// Continues in the newest call after its first item. It takes no memory.
     pub(crate) fn proceed(&mut self, modules: &[Typed], holds: bool)
         requires { ∥ IsAThread modules.now self.old ∥₁ }
-        ensures goes { (h : step.StepContext) → AreThread modules.now self.old h.config → h.config.activations ≡ h.newest ∷ h.older
+        ensures goes { (h : step.StepContext) → AreThread modules.now self.old h.config →
+            h.config.activations ≡ h.newest ∷ h.older
             → AreThread modules.now self.new (thread_with h (doing h (after holds h.newest.cont)) h.config.memory) }
         ensures len { vec_len self.new.frames ≡ vec_len self.old.frames }
         ensures room { vec_capacity self.new.frames ≡ vec_capacity self.old.frames }
@@ -108,8 +111,10 @@ impl Config {
 
     /// Stores a value at a place of an object. If there is no such place, nothing changes.
     pub(crate) fn store(&mut self, object: Object, place: u32, value: Value)
-        ensures { (modules : List Typed) (h : step.StepContext) (cont : List items.ContItem) → AreThread modules self.old (thread_with h (doing h cont) h.config.memory)
-            → AreThread modules self.new (thread_with h (doing h cont) (memory_with h.config.memory (object_of object) place (value_of value))) }
+        ensures { (modules : List Typed) (h : step.StepContext) (cont : List items.ContItem) →
+            AreThread modules self.old (thread_with h (doing h cont) h.config.memory)
+            → AreThread modules self.new (thread_with h (doing h cont)
+            (memory_with h.config.memory (object_of object) place (value_of value))) }
     {
         self.memory.store(object, place, value);
     }
@@ -137,7 +142,8 @@ fn converted(ty: Ty, value: Value) -> Option<Value>
 
 // Keeps what was returned in the caller's local.
 fn keep(memory: &mut Memory, serial: u64, target: Option<Destination>, value: Option<Value>)
-    ensures { (m : List step.Block) → memory_keeping memory.old serial target (option_map value_of value) ≡ Some m → memory.new ≡ m }
+    ensures { (m : List step.Block) → memory_keeping memory.old serial target (option_map value_of value) ≡ Some m →
+        memory.new ≡ m }
 {
     if let Some(destination) = target {
         if let Some(value) = value {
@@ -156,7 +162,8 @@ impl Config {
     /// Returns from the newest call with this value: to the caller, or, from the outermost call, to the end of the
     /// thread. None if there is no call.
     pub(crate) fn return_value(&mut self, value: Option<Value>) -> Option<Act>
-        ensures { (modules : List Typed) (e : Env) (h : step.StepContext) (rs : List ℕ) (s : step.Step) → AreThread modules self.old h.config → h.config.activations ≡ h.newest ∷ h.older
+        ensures { (modules : List Typed) (e : Env) (h : step.StepContext) (rs : List ℕ) (s : step.Step) →
+            AreThread modules self.old h.config → h.config.activations ≡ h.newest ∷ h.older
             → return_step e h rs h.older (option_map value_of value) ≡ Some s → IsTaken modules result self.new s }
     {
         match self.frames.pop() {
@@ -177,7 +184,8 @@ impl Config {
 
 // The serial number of the newest of these.
 fn caller_of(frames: &[Frame]) -> Option<u64>
-    ensures { (modules : List Typed) (all : List step.Activation) → AreFrames modules (reverse frames.now) all → result ≡ newest_serial all }
+    ensures { (modules : List Typed) (all : List step.Activation) → AreFrames modules (reverse frames.now) all →
+        result ≡ newest_serial all }
 {
     let (frame, _) = frames.split_last()?;
     Some(frame.serial)

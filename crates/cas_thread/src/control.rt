@@ -17,7 +17,8 @@ use cas_typed::{StmtRow, StmtRowForm};
 
 // Removes all up to and with the nearest loop.
 fn leave_loop(rows: &[StmtRow], cont: &mut Vec<ContItem>)
-    ensures shows { (it : List items.ContItem) → IsContinuation rows.now (reverse cont.old.items) it → IsContinuation rows.now (reverse cont.new.items) (if_any (after_break it)) }
+    ensures shows { (it : List items.ContItem) → IsContinuation rows.now (reverse cont.old.items) it →
+        IsContinuation rows.now (reverse cont.new.items) (if_any (after_break it)) }
     ensures room { vec_capacity cont.new ≡ vec_capacity cont.old }
 {
     while let Some(item) = cont.pop() {
@@ -32,7 +33,8 @@ fn leave_loop(rows: &[StmtRow], cont: &mut Vec<ContItem>)
 
 // Removes all up to the nearest turn of a loop, which stays.
 fn next_turn(rows: &[StmtRow], cont: &mut Vec<ContItem>)
-    ensures shows { (it : List items.ContItem) → IsContinuation rows.now (reverse cont.old.items) it → IsContinuation rows.now (reverse cont.new.items) (if_any (after_continue it)) }
+    ensures shows { (it : List items.ContItem) → IsContinuation rows.now (reverse cont.old.items) it →
+        IsContinuation rows.now (reverse cont.new.items) (if_any (after_continue it)) }
     ensures room { vec_capacity cont.new ≡ vec_capacity cont.old }
 {
     while let Some(item) = cont.pop() {
@@ -54,7 +56,8 @@ fn next_turn(rows: &[StmtRow], cont: &mut Vec<ContItem>)
 /// Statements before the items.
 pub(crate) fn begin_each(rows: &[StmtRow], cont: &mut Vec<ContItem>, parts: &[u32])
     requires room { vec_len cont.old + length parts.now ≤ vec_capacity cont.old }
-    ensures shows { (bs : TypedStmtList) (it : List items.ContItem) → AreAt rows.now bs parts.now → IsContinuation rows.now (reverse cont.old.items) it
+    ensures shows { (bs : TypedStmtList) (it : List items.ContItem) → AreAt rows.now bs parts.now →
+        IsContinuation rows.now (reverse cont.old.items) it
         → IsContinuation rows.now (reverse cont.new.items) (begin_all bs it) }
     ensures room { vec_capacity cont.new ≡ vec_capacity cont.old }
 {
@@ -68,7 +71,8 @@ pub(crate) fn begin_each(rows: &[StmtRow], cont: &mut Vec<ContItem>, parts: &[u3
 // A part that may be missing before the items.
 fn begin_some(rows: &[StmtRow], cont: &mut Vec<ContItem>, part: Option<u32>)
     requires room { vec_len cont.old + 1 ≤ vec_capacity cont.old }
-    ensures shows { (o : TypedStmtOption) (it : List items.ContItem) → IsPart rows.now o part → IsContinuation rows.now (reverse cont.old.items) it
+    ensures shows { (o : TypedStmtOption) (it : List items.ContItem) → IsPart rows.now o part →
+        IsContinuation rows.now (reverse cont.old.items) it
         → IsContinuation rows.now (reverse cont.new.items) (begin_part o it) }
     ensures room { vec_capacity cont.new ≡ vec_capacity cont.old }
     ensures len { vec_len cont.new ≤ vec_len cont.old + 1 }
@@ -87,8 +91,10 @@ fn begin_either(
     holds: bool,
 )
     requires room { vec_len cont.old + 1 ≤ vec_capacity cont.old }
-    ensures shows { (a : TypedStmtTree) (o : TypedStmtOption) (it : List items.ContItem) → IsAt rows.now first a → IsPart rows.now o second
-        → IsContinuation rows.now (reverse cont.old.items) it → IsContinuation rows.now (reverse cont.new.items) (either (begin a ∷ it) (begin_part o it) holds) }
+    ensures shows { (a : TypedStmtTree) (o : TypedStmtOption) (it : List items.ContItem) → IsAt rows.now first a →
+        IsPart rows.now o second
+        → IsContinuation rows.now (reverse cont.old.items) it →
+        IsContinuation rows.now (reverse cont.new.items) (either (begin a ∷ it) (begin_part o it) holds) }
     ensures room { vec_capacity cont.new ≡ vec_capacity cont.old }
 {
     if holds {
@@ -101,7 +107,8 @@ fn begin_either(
 // A turn of a `while` or `do`, or its end.
 fn turn(rows: &[StmtRow], cont: &mut Vec<ContItem>, number: u32, body: u32, holds: bool)
     requires room { vec_len cont.old + 2 ≤ vec_capacity cont.old }
-    ensures shows { (p : Place) (c : TypedExprTree) (a : TypedStmtTree) (it : List items.ContItem) → At rows.now number (IsBegunRow rows.now p c a)
+    ensures shows { (p : Place) (c : TypedExprTree) (a : TypedStmtTree) (it : List items.ContItem) →
+        At rows.now number (IsBegunRow rows.now p c a)
         → IsAt rows.now body a → IsContinuation rows.now (reverse cont.old.items) it
         → IsContinuation rows.now (reverse cont.new.items) (either (begin a ∷ begun p c a ∷ it) it holds) }
     ensures room { vec_capacity cont.new ≡ vec_capacity cont.old }
@@ -115,8 +122,10 @@ fn turn(rows: &[StmtRow], cont: &mut Vec<ContItem>, number: u32, body: u32, hold
 // The first part of a `for` before its turns.
 fn begin_for(rows: &[StmtRow], cont: &mut Vec<ContItem>, number: u32, first: Option<u32>)
     requires room { vec_len cont.old + 2 ≤ vec_capacity cont.old }
-    ensures shows { (p : Place) (i : TypedStmtOption) (c : Option TypedExprTree) (u : TypedStmtOption) (a : TypedStmtTree) (it : List items.ContItem)
-        → At rows.now number (IsLoopRow rows.now p c u a) → IsPart rows.now i first → IsContinuation rows.now (reverse cont.old.items) it
+    ensures shows { (p : Place) (i : TypedStmtOption) (c : Option TypedExprTree) (u : TypedStmtOption)
+        (a : TypedStmtTree) (it : List items.ContItem)
+        → At rows.now number (IsLoopRow rows.now p c u a) → IsPart rows.now i first →
+        IsContinuation rows.now (reverse cont.old.items) it
         → IsContinuation rows.now (reverse cont.new.items) (begin_part i (loop p c u a ∷ it)) }
     ensures room { vec_capacity cont.new ≡ vec_capacity cont.old }
 {
@@ -127,8 +136,10 @@ fn begin_for(rows: &[StmtRow], cont: &mut Vec<ContItem>, number: u32, first: Opt
 // A turn of a `for`, or its end.
 fn turn_for(rows: &[StmtRow], cont: &mut Vec<ContItem>, number: u32, body: u32, holds: bool)
     requires room { vec_len cont.old + 3 ≤ vec_capacity cont.old }
-    ensures shows { (p : Place) (c : Option TypedExprTree) (u : TypedStmtOption) (a : TypedStmtTree) (it : List items.ContItem)
-        → At rows.now number (IsLoopRow rows.now p c u a) → At rows.now number (IsNextRow rows.now p u) → IsAt rows.now body a
+    ensures shows { (p : Place) (c : Option TypedExprTree) (u : TypedStmtOption) (a : TypedStmtTree)
+        (it : List items.ContItem)
+        → At rows.now number (IsLoopRow rows.now p c u a) → At rows.now number (IsNextRow rows.now p u) →
+        IsAt rows.now body a
         → IsContinuation rows.now (reverse cont.old.items) it
         → IsContinuation rows.now (reverse cont.new.items) (either (begin a ∷ next p u ∷ loop p c u a ∷ it) it holds) }
     ensures room { vec_capacity cont.new ≡ vec_capacity cont.old }
@@ -151,7 +162,8 @@ fn begin_statement(
 )
     requires stands { slice_get rows.now number ≡ Some row.now }
     requires room { vec_len cont.old + room_for row.now.form ≤ vec_capacity cont.old }
-    ensures shows { (a : TypedStmtTree) (it : List items.ContItem) → IsRow rows.now number a row.now.place row.now.form → IsContinuation rows.now (reverse cont.old.items) it
+    ensures shows { (a : TypedStmtTree) (it : List items.ContItem) →
+        IsRow rows.now number a row.now.place row.now.form → IsContinuation rows.now (reverse cont.old.items) it
         → IsContinuation rows.now (reverse cont.new.items) (after_statement holds a it) }
     ensures room { vec_capacity cont.new ≡ vec_capacity cont.old }
 {
@@ -192,12 +204,14 @@ fn turned(row: &StmtRow) -> Option<u32>
 
 // What a `for` does after a turn, if there is something, and its body.
 fn turned_for(row: &StmtRow) -> Option<(Option<u32>, u32)>
-    ensures body { IfSome result (λ parts. (rows : List StmtRow) (p : Place) (c : Option TypedExprTree) (u : TypedStmtOption) (a : TypedStmtTree)
+    ensures body { IfSome result (λ parts. (rows : List StmtRow) (p : Place) (c : Option TypedExprTree)
+        (u : TypedStmtOption) (a : TypedStmtTree)
         → IsLoopRow rows p c u a row.now.place row.now.form → IsAt rows parts.1 a) }
     ensures next { IfSome result (λ parts. (rows : List StmtRow) (p : Place) (u : TypedStmtOption)
         → IsNextRow rows p u row.now.place row.now.form → IsPart rows u parts.0) }
     ensures number { IfSome result (λ parts. (i : ℕ) → parts.0 ≡ Some i → IsNextForm i row.now.form) }
-    ensures no_body { IfNone result ((rows : List StmtRow) (p : Place) (c : Option TypedExprTree) (u : TypedStmtOption) (a : TypedStmtTree)
+    ensures no_body { IfNone result ((rows : List StmtRow) (p : Place) (c : Option TypedExprTree) (u : TypedStmtOption)
+        (a : TypedStmtTree)
         → ¬ (IsLoopRow rows p c u a row.now.place row.now.form)) }
     ensures no_next { IfNone result ((rows : List StmtRow) (p : Place) (u : TypedStmtOption)
         → ¬ (IsNextRow rows p u row.now.place row.now.form)) }
@@ -210,8 +224,10 @@ fn turned_for(row: &StmtRow) -> Option<(Option<u32>, u32)>
 
 // What is left after the statement of this row.
 fn begin_at(rows: &[StmtRow], cont: &mut Vec<ContItem>, number: u32, holds: bool)
-    requires room { (row : StmtRow) → slice_get rows.now number ≡ Some row → vec_len cont.old + room_for row.form ≤ vec_capacity cont.old }
-    ensures shows { (a : TypedStmtTree) (it : List items.ContItem) → IsAt rows.now number a → IsContinuation rows.now (reverse cont.old.items) it
+    requires room { (row : StmtRow) → slice_get rows.now number ≡ Some row →
+        vec_len cont.old + room_for row.form ≤ vec_capacity cont.old }
+    ensures shows { (a : TypedStmtTree) (it : List items.ContItem) → IsAt rows.now number a →
+        IsContinuation rows.now (reverse cont.old.items) it
         → IsContinuation rows.now (reverse cont.new.items) (after_statement holds a it) }
     ensures room { vec_capacity cont.new ≡ vec_capacity cont.old }
 {
@@ -223,7 +239,8 @@ fn begin_at(rows: &[StmtRow], cont: &mut Vec<ContItem>, number: u32, holds: bool
 // A turn of the `while` or `do` of this row, or its end.
 fn turn_at(rows: &[StmtRow], cont: &mut Vec<ContItem>, number: u32, holds: bool)
     requires room { vec_len cont.old + 2 ≤ vec_capacity cont.old }
-    ensures shows { (p : Place) (c : TypedExprTree) (a : TypedStmtTree) (it : List items.ContItem) → At rows.now number (IsBegunRow rows.now p c a)
+    ensures shows { (p : Place) (c : TypedExprTree) (a : TypedStmtTree) (it : List items.ContItem) →
+        At rows.now number (IsBegunRow rows.now p c a)
         → IsContinuation rows.now (reverse cont.old.items) it
         → IsContinuation rows.now (reverse cont.new.items) (either (begin a ∷ begun p c a ∷ it) it holds) }
     ensures room { vec_capacity cont.new ≡ vec_capacity cont.old }
@@ -238,7 +255,8 @@ fn turn_at(rows: &[StmtRow], cont: &mut Vec<ContItem>, number: u32, holds: bool)
 // A turn of the `for` of this row, or its end.
 fn turn_for_at(rows: &[StmtRow], cont: &mut Vec<ContItem>, number: u32, holds: bool)
     requires room { vec_len cont.old + 3 ≤ vec_capacity cont.old }
-    ensures shows { (p : Place) (c : Option TypedExprTree) (u : TypedStmtOption) (a : TypedStmtTree) (it : List items.ContItem)
+    ensures shows { (p : Place) (c : Option TypedExprTree) (u : TypedStmtOption) (a : TypedStmtTree)
+        (it : List items.ContItem)
         → At rows.now number (IsLoopRow rows.now p c u a) → IsContinuation rows.now (reverse cont.old.items) it
         → IsContinuation rows.now (reverse cont.new.items) (either (begin a ∷ next p u ∷ loop p c u a ∷ it) it holds) }
     ensures room { vec_capacity cont.new ≡ vec_capacity cont.old }
@@ -252,8 +270,10 @@ fn turn_for_at(rows: &[StmtRow], cont: &mut Vec<ContItem>, number: u32, holds: b
 
 // What a `for` does after a turn.
 fn next_at(rows: &[StmtRow], cont: &mut Vec<ContItem>, number: u32, holds: bool)
-    requires room { (row : StmtRow) (i : ℕ) → IsNextAt rows.now number i → slice_get rows.now i ≡ Some row → vec_len cont.old + room_for row.form ≤ vec_capacity cont.old }
-    ensures shows { (p : Place) (u : TypedStmtOption) (it : List items.ContItem) → At rows.now number (IsNextRow rows.now p u) → IsContinuation rows.now (reverse cont.old.items) it
+    requires room { (row : StmtRow) (i : ℕ) → IsNextAt rows.now number i → slice_get rows.now i ≡ Some row →
+        vec_len cont.old + room_for row.form ≤ vec_capacity cont.old }
+    ensures shows { (p : Place) (u : TypedStmtOption) (it : List items.ContItem) →
+        At rows.now number (IsNextRow rows.now p u) → IsContinuation rows.now (reverse cont.old.items) it
         → IsContinuation rows.now (reverse cont.new.items) (after holds (next p u ∷ it)) }
     ensures room { vec_capacity cont.new ≡ vec_capacity cont.old }
 {
@@ -270,7 +290,8 @@ fn next_at(rows: &[StmtRow], cont: &mut Vec<ContItem>, number: u32, holds: bool)
 /// comes to this. It takes no memory.
 pub(crate) fn advance(rows: &[StmtRow], cont: &mut Vec<ContItem>, holds: bool)
     requires room { ∥ HasRoom rows.now (vec_capacity cont.old) (reverse cont.old.items) ∥₁ }
-    ensures shows { (it : List items.ContItem) → IsContinuation rows.now (reverse cont.old.items) it → IsContinuation rows.now (reverse cont.new.items) (after holds it) }
+    ensures shows { (it : List items.ContItem) → IsContinuation rows.now (reverse cont.old.items) it →
+        IsContinuation rows.now (reverse cont.new.items) (after holds it) }
     ensures room { vec_capacity cont.new ≡ vec_capacity cont.old }
 {
     if let Some(item) = cont.pop() {
@@ -285,7 +306,8 @@ pub(crate) fn advance(rows: &[StmtRow], cont: &mut Vec<ContItem>, holds: bool)
 
 /// What the `for` of this row does after a turn, if it is one, and does something.
 pub(crate) fn next_part(rows: &[StmtRow], number: u32) -> Option<Option<u32>>
-    ensures some { IfSome result (λ part. (p : Place) (u : TypedStmtOption) → At rows.now number (IsNextRow rows.now p u) → IsPart rows.now u part) }
+    ensures some { IfSome result (λ part. (p : Place) (u : TypedStmtOption) →
+        At rows.now number (IsNextRow rows.now p u) → IsPart rows.now u part) }
     ensures none { IfNone result ((p : Place) (u : TypedStmtOption) → ¬ (At rows.now number (IsNextRow rows.now p u))) }
 {
     let (next, _) = turned_for(row_at(rows, number)?)?;

@@ -58,7 +58,8 @@ pub(crate) enum First {
 // A value into a cell.
 #[tactic(auto, using(cas_eval::proofs::Answering::answer_gives, cas_eval::proofs::Answering::answer_then))]
 fn into(cell: Cell, value: Value) -> Result<Effect, NoResult>
-    ensures { (r : EvalState) (cont : List items.ContItem) → map_answer (effect_with (λ _. cont)) result ≡ answer r (into_cell (cell_view cell) (value_of value) cont) }
+    ensures { (r : EvalState) (cont : List items.ContItem) →
+        map_answer (effect_with (λ _. cont)) result ≡ answer r (into_cell (cell_view cell) (value_of value) cont) }
 {
     match cell {
         Cell::Object(object, place) => Ok(Effect::Stores(object, place, value)),
@@ -73,8 +74,11 @@ fn assigned(
     target: &TypedTarget,
     expr: &TypedExpr,
 ) -> Result<Effect, NoResult>
-    ensures { (cont : List items.ContItem) → map_answer (effect_with (λ _. cont)) result ≡ answer (eval_state context.now)
-        (and_then (target_of (eval_context (eval_state context.now)) (typed_target_tree target.now)) (λ c. and_then (value_in (eval_context (eval_state context.now)) (typed_expr_tree expr.now)) (λ v. into_cell c v cont))) }
+    ensures { (cont : List items.ContItem) → map_answer (effect_with (λ _. cont)) result ≡ answer
+        (eval_state context.now)
+        (and_then (target_of (eval_context (eval_state context.now)) (typed_target_tree target.now))
+        (λ c. and_then (value_in (eval_context (eval_state context.now)) (typed_expr_tree expr.now))
+        (λ v. into_cell c v cont))) }
 {
     let cell = target_cell(context, target)?;
     into(cell, evaluate(context, expr)?)
@@ -83,7 +87,8 @@ fn assigned(
 // The effect of a condition.
 #[tactic(auto, using(cas_eval::proofs::Answering::answer_gives, cas_eval::proofs::Answering::answer_then))]
 fn tested(context: &EvalContext<'_>, expr: &TypedExpr) -> Result<Effect, NoResult>
-    ensures { (some others : List items.ContItem) → map_answer (effect_with (either some others)) result ≡ answer (eval_state context.now)
+    ensures { (some others : List items.ContItem) →
+        map_answer (effect_with (either some others)) result ≡ answer (eval_state context.now)
         (chooses (eval_context (eval_state context.now)) (Some (typed_expr_tree expr.now)) some others) }
 {
     Ok(Effect::Continues(test(context, expr)?))
@@ -92,7 +97,8 @@ fn tested(context: &EvalContext<'_>, expr: &TypedExpr) -> Result<Effect, NoResul
 // The effect of a condition that may be missing.
 #[tactic(auto, using(cas_eval::proofs::Answering::answer_gives))]
 fn tested_if(context: &EvalContext<'_>, expr: &Option<TypedExpr>) -> Result<Effect, NoResult>
-    ensures { (some others : List items.ContItem) → map_answer (effect_with (either some others)) result ≡ answer (eval_state context.now)
+    ensures { (some others : List items.ContItem) →
+        map_answer (effect_with (either some others)) result ≡ answer (eval_state context.now)
         (chooses (eval_context (eval_state context.now)) (optional_expr_tree expr.now) some others) }
 {
     match expr {
@@ -104,7 +110,8 @@ fn tested_if(context: &EvalContext<'_>, expr: &Option<TypedExpr>) -> Result<Effe
 // The effect of a `return`.
 #[tactic(auto, using(cas_eval::proofs::Answering::answer_gives, cas_eval::proofs::Answering::answer_then))]
 fn returned(context: &EvalContext<'_>, expr: &Option<TypedExpr>) -> Result<Effect, NoResult>
-    ensures { (cont : List items.ContItem) → map_answer (effect_with (λ _. cont)) result ≡ answer (eval_state context.now)
+    ensures { (cont : List items.ContItem) → map_answer (effect_with (λ _. cont)) result ≡ answer
+        (eval_state context.now)
         (returned_effect (eval_context (eval_state context.now)) (optional_expr_tree expr.now)) }
 {
     match expr {
@@ -116,8 +123,10 @@ fn returned(context: &EvalContext<'_>, expr: &Option<TypedExpr>) -> Result<Effec
 // The effect of a `print`.
 #[tactic(auto, using(cas_eval::proofs::Answering::answer_gives, cas_eval::proofs::Answering::answer_then))]
 fn printed(context: &EvalContext<'_>, expr: &TypedExpr) -> Result<Effect, NoResult>
-    ensures { (cont : List items.ContItem) → map_answer (effect_with (λ _. cont)) result ≡ answer (eval_state context.now)
-        (and_then (value_in (eval_context (eval_state context.now)) (typed_expr_tree expr.now)) (λ v. and_then (asks_word v) (λ n. gives (prints n cont)))) }
+    ensures { (cont : List items.ContItem) → map_answer (effect_with (λ _. cont)) result ≡ answer
+        (eval_state context.now)
+        (and_then (value_in (eval_context (eval_state context.now)) (typed_expr_tree expr.now))
+        (λ v. and_then (asks_word v) (λ n. gives (prints n cont)))) }
 {
     Ok(Effect::Prints(word_in(evaluate(context, expr)?)?))
 }
@@ -137,8 +146,10 @@ fn fallen(ret: Ty) -> Effect
 // What comes first in a statement, by its row.
 #[tactic(auto, using(cas_eval::proofs::Answering::answer_gives))]
 fn first_of(context: &EvalContext<'_>, row: &StmtRow) -> Result<First, NoResult>
-    ensures { (rows : List StmtRow) (n : ℕ) (a : TypedStmtTree) (cont : List items.ContItem) → IsRow rows n a row.now.place row.now.form
-        → IsFirst (answer (eval_state context.now) (statement_effect (eval_context (eval_state context.now)) a cont)) (λ is. after_statement is a cont) (IsCall a) (IsJump a) result }
+    ensures { (rows : List StmtRow) (n : ℕ) (a : TypedStmtTree) (cont : List items.ContItem) →
+        IsRow rows n a row.now.place row.now.form
+        → IsFirst (answer (eval_state context.now) (statement_effect (eval_context (eval_state context.now)) a cont))
+        (λ is. after_statement is a cont) (IsCall a) (IsJump a) result }
 {
     match &row.form {
         StmtRowForm::Call(_, _, _, _) => Ok(First::Call),
@@ -181,9 +192,11 @@ fn begun_test(row: &StmtRow) -> Option<&TypedExpr>
 
 // The condition of a `for`, which may be missing.
 fn loop_test(row: &StmtRow) -> Option<&Option<TypedExpr>>
-    ensures some { IfSome result (λ expr. (rows : List StmtRow) (p : Place) (c : Option TypedExprTree) (u : TypedStmtOption) (a : TypedStmtTree)
+    ensures some { IfSome result (λ expr. (rows : List StmtRow) (p : Place) (c : Option TypedExprTree)
+        (u : TypedStmtOption) (a : TypedStmtTree)
         → IsLoopRow rows p c u a row.now.place row.now.form → optional_expr_tree expr.now ≡ c) }
-    ensures none { IfNone result ((rows : List StmtRow) (p : Place) (c : Option TypedExprTree) (u : TypedStmtOption) (a : TypedStmtTree)
+    ensures none { IfNone result ((rows : List StmtRow) (p : Place) (c : Option TypedExprTree) (u : TypedStmtOption)
+        (a : TypedStmtTree)
         → ¬ (IsLoopRow rows p c u a row.now.place row.now.form)) }
 {
     match &row.form {
@@ -195,7 +208,8 @@ fn loop_test(row: &StmtRow) -> Option<&Option<TypedExpr>>
 // What comes first in the statement of the row with this number.
 fn first_at(context: &EvalContext<'_>, rows: &[StmtRow], number: u32) -> Result<First, NoResult>
     ensures { (a : TypedStmtTree) (cont : List items.ContItem) → IsAt rows.now number a
-        → IsFirst (answer (eval_state context.now) (statement_effect (eval_context (eval_state context.now)) a cont)) (λ is. after_statement is a cont) (IsCall a) (IsJump a) result }
+        → IsFirst (answer (eval_state context.now) (statement_effect (eval_context (eval_state context.now)) a cont))
+        (λ is. after_statement is a cont) (IsCall a) (IsJump a) result }
 {
     match row_at(rows, number) {
         Some(row) => first_of(context, row),
@@ -205,8 +219,10 @@ fn first_at(context: &EvalContext<'_>, rows: &[StmtRow], number: u32) -> Result<
 
 // The effect of a `while` or `do` that has begun.
 fn begun_at(context: &EvalContext<'_>, rows: &[StmtRow], number: u32) -> Result<Effect, NoResult>
-    ensures { (p : Place) (c : TypedExprTree) (a : TypedStmtTree) (some others : List items.ContItem) → At rows.now number (IsBegunRow rows.now p c a)
-        → map_answer (effect_with (either some others)) result ≡ answer (eval_state context.now) (chooses (eval_context (eval_state context.now)) (Some c) some others) }
+    ensures { (p : Place) (c : TypedExprTree) (a : TypedStmtTree) (some others : List items.ContItem) →
+        At rows.now number (IsBegunRow rows.now p c a)
+        → map_answer (effect_with (either some others)) result ≡ answer (eval_state context.now)
+        (chooses (eval_context (eval_state context.now)) (Some c) some others) }
 {
     match row_at(rows, number) {
         Some(row) => match begun_test(row) {
@@ -219,8 +235,10 @@ fn begun_at(context: &EvalContext<'_>, rows: &[StmtRow], number: u32) -> Result<
 
 // The effect of a `for` after its first part.
 fn loop_at(context: &EvalContext<'_>, rows: &[StmtRow], number: u32) -> Result<Effect, NoResult>
-    ensures { (p : Place) (c : Option TypedExprTree) (u : TypedStmtOption) (a : TypedStmtTree) (some others : List items.ContItem) → At rows.now number (IsLoopRow rows.now p c u a)
-        → map_answer (effect_with (either some others)) result ≡ answer (eval_state context.now) (chooses (eval_context (eval_state context.now)) c some others) }
+    ensures { (p : Place) (c : Option TypedExprTree) (u : TypedStmtOption) (a : TypedStmtTree)
+        (some others : List items.ContItem) → At rows.now number (IsLoopRow rows.now p c u a)
+        → map_answer (effect_with (either some others)) result ≡ answer (eval_state context.now)
+        (chooses (eval_context (eval_state context.now)) c some others) }
 {
     match row_at(rows, number) {
         Some(row) => match loop_test(row) {
@@ -234,8 +252,10 @@ fn loop_at(context: &EvalContext<'_>, rows: &[StmtRow], number: u32) -> Result<E
 // What comes first in what a `for` does after a turn.
 #[tactic(auto, using(cas_eval::proofs::Answering::answer_gives))]
 fn next_at(context: &EvalContext<'_>, rows: &[StmtRow], number: u32) -> Result<First, NoResult>
-    ensures { (p : Place) (u : TypedStmtOption) (cont : List items.ContItem) (ret : Ty) → At rows.now number (IsNextRow rows.now p u)
-        → IsFirst (answer (eval_state context.now) (effect_of (eval_context (eval_state context.now)) ret (next p u ∷ cont))) (λ is. after is (next p u ∷ cont))
+    ensures { (p : Place) (u : TypedStmtOption) (cont : List items.ContItem) (ret : Ty) →
+        At rows.now number (IsNextRow rows.now p u)
+        → IsFirst (answer (eval_state context.now) (effect_of (eval_context (eval_state context.now)) ret
+        (next p u ∷ cont))) (λ is. after is (next p u ∷ cont))
         (FirstStatementIs IsCall (next p u ∷ cont)) (FirstStatementIs IsJump (next p u ∷ cont)) result }
 {
     match next_part(rows, number) {
@@ -255,7 +275,8 @@ pub(crate) fn first_step(
     cont: &[ContItem],
 ) -> Result<First, NoResult>
     ensures { (it : List items.ContItem) → IsContinuation rows.now (reverse cont.now) it
-        → IsFirst (answer (eval_state context.now) (effect_of (eval_context (eval_state context.now)) ret it)) (λ is. after is it) (FirstStatementIs IsCall it) (FirstStatementIs IsJump it) result }
+        → IsFirst (answer (eval_state context.now) (effect_of (eval_context (eval_state context.now)) ret it))
+        (λ is. after is it) (FirstStatementIs IsCall it) (FirstStatementIs IsJump it) result }
 {
     match first_item(cont) {
         None => Ok(First::Does(fallen(ret))),

@@ -30,11 +30,16 @@ impl Config {
         values: &[Value],
     ) -> Result<Option<Act>, NoMemory>
         requires { ∥ IsAThread modules.now self.old ∥₁ }
-        ensures taken { IfOk result (λ done. (ms : List TypedModuleTree) (h : step.StepContext) (rs : List ℕ) (s : step.Step) (m : TypedModuleTree) (it : TypedFunTree) → AreTyped modules.now ms
-            → AreThread modules.now self.old h.config → h.config.activations ≡ h.newest ∷ h.older → IsAt ms (stands_at at) m it
-            → step_to (env_of ms) h rs act.Quiet (with_call (env_of ms) (doing h (after true h.newest.cont)) h.config.memory h.config.fresh (stands_at at) (map value_of values.now) target) ≡ s
+        ensures taken { IfOk result (λ done. (ms : List TypedModuleTree) (h : step.StepContext) (rs : List ℕ)
+            (s : step.Step) (m : TypedModuleTree) (it : TypedFunTree) → AreTyped modules.now ms
+            → AreThread modules.now self.old h.config → h.config.activations ≡ h.newest ∷ h.older →
+            IsAt ms (stands_at at) m it
+            → step_to (env_of ms) h rs act.Quiet (with_call (env_of ms)
+            (doing h (after true h.newest.cont)) h.config.memory h.config.fresh (stands_at at)
+            (map value_of values.now) target) ≡ s
             → IsTaken modules.now done self.new s) }
-        ensures kept { OnErr result ((c : step.Config) → AreThread modules.now self.old c → AreThread modules.now self.new c) }
+        ensures kept { OnErr result ((c : step.Config) → AreThread modules.now self.old c →
+            AreThread modules.now self.new c) }
     {
         match function_at(modules, at.0, at.1) {
             Some(function) => {

@@ -22,8 +22,10 @@ pub(crate) fn first_item(cont: &[ContItem]) -> Option<ContItem>
 
 // The number of the row of the first item's statement, if it has one.
 fn first_number(rows: &[StmtRow], cont: &[ContItem]) -> Option<u32>
-    ensures some { IfSome result (λ n. (it : List items.ContItem) → IsContinuation rows.now (reverse cont.now) it → FirstStatementIs (IsAt rows.now n) it) }
-    ensures none { IfNone result ((it : List items.ContItem) → IsContinuation rows.now (reverse cont.now) it → ¬ (FirstStatementIs (λ _. ⊤) it)) }
+    ensures some { IfSome result (λ n. (it : List items.ContItem) → IsContinuation rows.now (reverse cont.now) it →
+        FirstStatementIs (IsAt rows.now n) it) }
+    ensures none { IfNone result ((it : List items.ContItem) → IsContinuation rows.now (reverse cont.now) it →
+        ¬ (FirstStatementIs (λ _. ⊤) it)) }
 {
     match first_item(cont)? {
         ContItem::Begin(number) => Some(number),
@@ -36,7 +38,8 @@ fn first_number(rows: &[StmtRow], cont: &[ContItem]) -> Option<u32>
 pub(crate) fn first_row<'a>(rows: &'a [StmtRow], cont: &[ContItem]) -> Option<&'a StmtRow>
     ensures some { IfSome result (λ row. (it : List items.ContItem) → IsContinuation rows.now (reverse cont.now) it
         → FirstStatementIs (λ a. (n : ℕ) × IsRow rows.now n a row.now.place row.now.form) it) }
-    ensures none { IfNone result ((it : List items.ContItem) → IsContinuation rows.now (reverse cont.now) it → ¬ (FirstStatementIs (λ _. ⊤) it)) }
+    ensures none { IfNone result ((it : List items.ContItem) → IsContinuation rows.now (reverse cont.now) it →
+        ¬ (FirstStatementIs (λ _. ⊤) it)) }
 {
     row_at(rows, first_number(rows, cont)?)
 }

@@ -1,11 +1,12 @@
-//! The step of a thread in code. A continuation has the numbers of rows (`continuation`), which change by
-//! the first of them alone (`control`); a thread is its activations with their memory (`config`). A step looks at
-//! what comes first (`first`), and evaluates (`effect`); then it continues, stores, takes or releases a lock, puts a
-//! word out, or returns (`take`), or it calls (`call`, `enter`): `step` is all of it. What is offered: a thread's
-//! start (`starting`), its next step (`thread`), the act of that step without the step (`acting`), its place
-//! (`place`), the lock that it takes (`locking`), and whether it outputs a word (`printing`). Contracts speak of
-//! the definitions of `cas_step`: `specs/Thread` says which thread of the definition one of the code is. It stands
-//! on `cas_base`, `cas_typed`, `cas_step`, `cas_memory`, `cas_eval`, `cas_program` and `cas_whole`.
+//! The step of a thread in code. A thread is its activations with their memory (`config`). A continuation has the
+//! numbers of rows (`continuation`), and `control` computes the continuation after an item. A step takes the first
+//! item (`first`) and evaluates its effect (`effect`); then it carries out the effect (`take`), or calls a function
+//! (`call`, `enter`); `step` puts this together.
+//!
+//! The crate offers a thread's start (`starting`), its next step (`thread`), the act of that step without taking it
+//! (`acting`), the step's place (`place`), the lock that it takes (`locking`), and whether it outputs a word
+//! (`printing`). Contracts speak of the definitions of `cas_step`; `specs/Thread` says which thread one of the code
+//! stands for.
 #![tactic(auto)]
 
 mod acting;

@@ -20,7 +20,8 @@ use cas_whole::Program;
 
 // The item of the lock that a row takes, if it takes one.
 fn locked_in(row: &StmtRow) -> Option<u32>
-    ensures { (rows : List StmtRow) (n : ℕ) (a : TypedStmtTree) → IsRow rows n a row.now.place row.now.form → result ≡ lock_in a }
+    ensures { (rows : List StmtRow) (n : ℕ) (a : TypedStmtTree) → IsRow rows n a row.now.place row.now.form →
+        result ≡ lock_in a }
 {
     match &row.form {
         StmtRowForm::Lock(item) => Some(*item),

@@ -28,7 +28,8 @@ fn place_at(rows: &[StmtRow], number: u32) -> Option<Place>
 // The place of the step of what a `for` does after a turn, if it is one.
 #[tactic(auto, using(crate::proofs::Placing::never_next))]
 fn next_place(rows: &[StmtRow], number: u32) -> Option<Place>
-    ensures { (closing : Place) (rest : List code.ContItem) (it : List items.ContItem) → IsContinuation rows.now (Next number ∷ rest) it → result ≡ Some (place_among closing it) }
+    ensures { (closing : Place) (rest : List code.ContItem) (it : List items.ContItem) →
+        IsContinuation rows.now (Next number ∷ rest) it → result ≡ Some (place_among closing it) }
 {
     match next_part(rows, number)? {
         Some(next) => place_at(rows, next),
@@ -39,7 +40,8 @@ fn next_place(rows: &[StmtRow], number: u32) -> Option<Place>
 // The place of an item's step, if it exists.
 #[tactic(auto, using(crate::proofs::Placing::begin_is, crate::proofs::Placing::begun_is, crate::proofs::Placing::loop_is))]
 fn item_place(rows: &[StmtRow], item: ContItem) -> Option<Place>
-    ensures { (closing : Place) (rest : List code.ContItem) (it : List items.ContItem) → IsContinuation rows.now (item ∷ rest) it → result ≡ Some (place_among closing it) }
+    ensures { (closing : Place) (rest : List code.ContItem) (it : List items.ContItem) →
+        IsContinuation rows.now (item ∷ rest) it → result ≡ Some (place_among closing it) }
 {
     match item {
         ContItem::Begin(number) => place_at(rows, number),
@@ -51,7 +53,8 @@ fn item_place(rows: &[StmtRow], item: ContItem) -> Option<Place>
 
 // The place of the first item's step, or the closing brace.
 fn first_place(rows: &[StmtRow], closing: Place, cont: &[ContItem]) -> Place
-    ensures { (it : List items.ContItem) → IsContinuation rows.now (reverse cont.now) it → result ≡ place_among closing it }
+    ensures { (it : List items.ContItem) → IsContinuation rows.now (reverse cont.now) it →
+        result ≡ place_among closing it }
 {
     match first_item(cont) {
         Some(item) => match item_place(rows, item) {
@@ -66,7 +69,8 @@ fn first_place(rows: &[StmtRow], closing: Place, cont: &[ContItem]) -> Place
 /// text.
 pub fn place_of(program: &Program, config: &Config) -> (u32, Place)
     requires { ∥ IsUnfinished program.now config.now ∥₁ }
-    ensures { (words : List ℕ) → OfNextStep program.now config.now words (λ s. (result.0 ≡ s.unit) × (result.1 ≡ s.place)) }
+    ensures { (words : List ℕ) → OfNextStep program.now config.now words
+        (λ s. (result.0 ≡ s.unit) × (result.1 ≡ s.place)) }
 {
     match newest(config) {
         Some(frame) => match program.function(frame.unit, frame.place) {

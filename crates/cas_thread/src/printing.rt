@@ -23,7 +23,8 @@ use cas_whole::Program;
 
 // Whether a row outputs a word.
 fn prints_in(row: &StmtRow) -> bool
-    ensures { (rows : List StmtRow) (n : ℕ) (a : TypedStmtTree) → IsRow rows n a row.now.place row.now.form → result ≡ is_print a }
+    ensures { (rows : List StmtRow) (n : ℕ) (a : TypedStmtTree) → IsRow rows n a row.now.place row.now.form →
+        result ≡ is_print a }
 {
     match &row.form {
         StmtRowForm::Print(_) => true,
@@ -40,10 +41,12 @@ fn first_prints(rows: &[StmtRow], cont: &[ContItem]) -> bool
 
 /// Whether the next step of a thread outputs a word, if it isn't Bad. It evaluates nothing.
 pub fn next_prints(program: &Program, config: &Config) -> bool
-    ensures first { (ms : List TypedModuleTree) (names : List (List ℕ)) (c : step.Config) (a : step.Activation) (older : List step.Activation) → IsProgramOf program.now ms names → IsThread program.now config.now c
+    ensures first { (ms : List TypedModuleTree) (names : List (List ℕ)) (c : step.Config) (a : step.Activation)
+        (older : List step.Activation) → IsProgramOf program.now ms names → IsThread program.now config.now c
         → c.activations ≡ a ∷ older → result ≡ prints_first a.cont }
     ensures none { (c : step.Config) → IsThread program.now config.now c → c.activations ≡ [] → result ≡ false }
-    ensures other { OnFalse result ((words : List ℕ) → OfNextStep program.now config.now words (λ s. (n : ℕ) → s.act ≢ act.Out n)) }
+    ensures other { OnFalse result ((words : List ℕ) →
+        OfNextStep program.now config.now words (λ s. (n : ℕ) → s.act ≢ act.Out n)) }
 {
     match newest(config) {
         Some(frame) => {

@@ -35,7 +35,8 @@ fn started_at(
     function: &TypedFun,
     thread: u32,
 ) -> Result<Config, NoMemory>
-    ensures { IfOk result (λ config. (ts : List Typed) (ms : List TypedModuleTree) → AreTyped ts ms → typed_at ts at.0 at.1 ≡ Some function.now
+    ensures { IfOk result (λ config. (ts : List Typed) (ms : List TypedModuleTree) → AreTyped ts ms →
+        typed_at ts at.0 at.1 ≡ Some function.now
         → AreThread ts config (started (env_of ms) (stands_at at) (word thread ∷ []))) }
 {
     let frame = new_frame(alloc, 0, at, None, function)?;

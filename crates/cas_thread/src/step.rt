@@ -30,7 +30,8 @@ pub(crate) fn context_in<'a>(
     words: &'a [u32],
     frame: &Frame,
 ) -> EvalContext<'a>
-    ensures items { (ms : List TypedModuleTree) (names : List (List ℕ)) (item : ℕ) → IsProgramOf program.now ms names → entity_if (slice_get result.items.now item) ≡ (env_of ms).entity frame.now.unit item }
+    ensures items { (ms : List TypedModuleTree) (names : List (List ℕ)) (item : ℕ) → IsProgramOf program.now ms names →
+        entity_if (slice_get result.items.now item) ≡ (env_of ms).entity frame.now.unit item }
     ensures words { result.words.now ≡ words.now }
     ensures memory { result.memory.now ≡ config.now.memory }
     ensures serial { result.serial ≡ frame.now.serial }
@@ -54,7 +55,9 @@ pub(crate) fn newest(config: &Config) -> Option<&Frame>
 
 /// The first item of the newest call: its effect, or that it is a call or a jump, or why it has no effect.
 pub(crate) fn first(program: &Program, config: &Config, words: &[u32]) -> Result<First, NoResult>
-    ensures { AtStep program.now config.now words.now (λ ms h. IsFirst (evaluated_effect ms h) (λ is. after is h.newest.cont) (FirstStatementIs IsCall h.newest.cont) (FirstStatementIs IsJump h.newest.cont) result) }
+    ensures { AtStep program.now config.now words.now
+        (λ ms h. IsFirst (evaluated_effect ms h) (λ is. after is h.newest.cont) (FirstStatementIs IsCall h.newest.cont)
+        (FirstStatementIs IsJump h.newest.cont) result) }
 {
     match newest(config) {
         Some(frame) => match program.function(frame.unit, frame.place) {
@@ -81,7 +84,8 @@ pub(crate) fn items_of<'a>(program: &'a Program, config: &Config) -> &'a [Option
 
 // The call that comes first, with its arguments.
 fn ready(program: &Program, config: &Config, words: &[u32]) -> Result<Ready, NoArguments>
-    ensures { AtCall program.now config.now words.now (λ ms h. IsReady (evaluated_effect ms h) (after true h.newest.cont) result) }
+    ensures { AtCall program.now config.now words.now
+        (λ ms h. IsReady (evaluated_effect ms h) (after true h.newest.cont) result) }
 {
     match newest(config) {
         Some(frame) => {
@@ -127,7 +131,8 @@ fn call_without_room(
     config: &Config,
     words: &[u32],
 ) -> Result<Option<Act>, NoMemory>
-    ensures taken { IfOk result (λ done. AtCall program.now config.now words.now (OfStep (IsStep program.now.modules done config.now words.now))) }
+    ensures taken { IfOk result (λ done. AtCall program.now config.now words.now
+        (OfStep (IsStep program.now.modules done config.now words.now))) }
     ensures quiet { OnErr result (AtCall program.now config.now words.now (OfStep (λ s. s.act ≡ act.Quiet))) }
 {
     match arguments_of(program, config, words) {
@@ -139,9 +144,12 @@ fn call_without_room(
 
 // The step of a call.
 fn call(program: &Program, config: &mut Config, words: &[u32]) -> Result<Option<Act>, NoMemory>
-    requires { ∥ ((ms : List TypedModuleTree) × (names : List (List ℕ)) × (c : step.Config) × IsProgramOf program.now ms names × AreThread program.now.modules config.old c) ∥₁ }
-    ensures taken { IfOk result (λ done. AtCall program.now config.old words.now (OfStep (IsStep program.now.modules done config.new words.now))) }
-    ensures kept { OnErr result ((c : step.Config) → AreThread program.now.modules config.old c → AreThread program.now.modules config.new c) }
+    requires { ∥ ((ms : List TypedModuleTree) × (names : List (List ℕ)) × (c : step.Config) ×
+        IsProgramOf program.now ms names × AreThread program.now.modules config.old c) ∥₁ }
+    ensures taken { IfOk result (λ done. AtCall program.now config.old words.now
+        (OfStep (IsStep program.now.modules done config.new words.now))) }
+    ensures kept { OnErr result ((c : step.Config) → AreThread program.now.modules config.old c →
+        AreThread program.now.modules config.new c) }
     ensures quiet { OnErr result (AtCall program.now config.old words.now (OfStep (λ s. s.act ≡ act.Quiet))) }
 {
     declarations_agree();
@@ -170,11 +178,15 @@ pub(crate) fn step_in(
     config: &mut Config,
     words: &mut [u32],
 ) -> Result<Option<Act>, NoMemory>
-    requires { ∥ ((ms : List TypedModuleTree) × (names : List (List ℕ)) × (c : step.Config) × IsProgramOf program.now ms names × AreThread program.now.modules config.old c) ∥₁ }
-    ensures taken { IfOk result (λ act. AtStep program.now config.old words.old (OfStep (IsStep program.now.modules act config.new words.new))) }
-    ensures kept { OnErr result ((c : step.Config) → AreThread program.now.modules config.old c → AreThread program.now.modules config.new c) }
+    requires { ∥ ((ms : List TypedModuleTree) × (names : List (List ℕ)) × (c : step.Config) ×
+        IsProgramOf program.now ms names × AreThread program.now.modules config.old c) ∥₁ }
+    ensures taken { IfOk result (λ act. AtStep program.now config.old words.old
+        (OfStep (IsStep program.now.modules act config.new words.new))) }
+    ensures kept { OnErr result ((c : step.Config) → AreThread program.now.modules config.old c →
+        AreThread program.now.modules config.new c) }
     ensures words { OnErr result (words.new ≡ words.old) }
-    ensures calls { OnErr result (AtStep program.now config.old words.old (λ _ h. FirstStatementIs IsCall h.newest.cont)) }
+    ensures calls { OnErr result (AtStep program.now config.old words.old
+        (λ _ h. FirstStatementIs IsCall h.newest.cont)) }
     ensures quiet { OnErr result (AtStep program.now config.old words.old (OfStep (λ s. s.act ≡ act.Quiet))) }
 {
     let modules = program.modules();

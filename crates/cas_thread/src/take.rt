@@ -59,7 +59,8 @@ impl Config {
         word: u32,
     ) -> Option<Act>
         requires { ∥ IsAThread modules.now self.old ∥₁ }
-        ensures { (e : Env) (h : step.StepContext) (rs : List ℕ) (s : step.Step) → IsStepContext modules.now items.now self.old words.old e h
+        ensures { (e : Env) (h : step.StepContext) (rs : List ℕ) (s : step.Step) →
+            IsStepContext modules.now items.now self.old words.old e h
             → step.global_step e h rs (step.entity_in e h target.0) target.1 word (after true h.newest.cont) ≡ Some s
             → IsStep modules.now result self.new words.new s }
     {
@@ -78,10 +79,12 @@ impl Config {
         takes: bool,
     ) -> Option<Act>
         requires { ∥ IsAThread modules.now self.old ∥₁ }
-        ensures takes { (e : Env) (h : step.StepContext) (rs : List ℕ) (s : step.Step) (words : List ℕ) → takes ≡ true → IsStepContext modules.now items.now self.old words e h
+        ensures takes { (e : Env) (h : step.StepContext) (rs : List ℕ) (s : step.Step) (words : List ℕ) →
+            takes ≡ true → IsStepContext modules.now items.now self.old words e h
             → step.lock_step e h rs (step.entity_in e h item) act.Lock (after true h.newest.cont) ≡ Some s
             → IsStep modules.now result self.new words s }
-        ensures gives { (e : Env) (h : step.StepContext) (rs : List ℕ) (s : step.Step) (words : List ℕ) → takes ≡ false → IsStepContext modules.now items.now self.old words e h
+        ensures gives { (e : Env) (h : step.StepContext) (rs : List ℕ) (s : step.Step) (words : List ℕ) →
+            takes ≡ false → IsStepContext modules.now items.now self.old words e h
             → step.lock_step e h rs (step.entity_in e h item) act.Unlock (after true h.newest.cont) ≡ Some s
             → IsStep modules.now result self.new words s }
     {
@@ -103,7 +106,8 @@ impl Config {
         effect: Effect,
     ) -> Option<Act>
         requires { ∥ IsAThread modules.now self.old ∥₁ }
-        ensures { (e : Env) (h : step.StepContext) (rs : List ℕ) (s : step.Step) → IsStepContext modules.now items.now self.old words.old e h
+        ensures { (e : Env) (h : step.StepContext) (rs : List ℕ) (s : step.Step) →
+            IsStepContext modules.now items.now self.old words.old e h
             → step_with_effect e h (got rs (effect_with (λ is. after is h.newest.cont) effect)) ≡ Some s
             → IsStep modules.now result self.new words.new s }
     {

@@ -29,10 +29,14 @@ pub fn thread_step(
     shared: &mut Shared,
 ) -> Result<Act, NoMemory>
     requires { ∥ CanStep program.now config.old shared.old.words.items ∥₁ }
-    ensures taken { IfOk result (λ done. OfNextStep program.now config.old shared.old.words.items (λ s. (done ≡ s.act) × IsThread program.now config.new s.next × (shared.new.words.items ≡ s.words))) }
-    ensures same_config { OnErr result ((c : step.Config) → IsThread program.now config.old c → IsThread program.now config.new c) }
+    ensures taken { IfOk result (λ done. OfNextStep program.now config.old shared.old.words.items
+        (λ s. (done ≡ s.act) × IsThread program.now config.new s.next × (shared.new.words.items ≡ s.words))) }
+    ensures same_config { OnErr result ((c : step.Config) → IsThread program.now config.old c →
+        IsThread program.now config.new c) }
     ensures same_words { OnErr result (shared.new.words.items ≡ shared.old.words.items) }
-    ensures calls { OnErr result ((ms : List TypedModuleTree) (names : List (List ℕ)) (c : step.Config) (a : step.Activation) (older : List step.Activation) → IsProgramOf program.now ms names → IsThread program.now config.old c → c.activations ≡ a ∷ older → FirstStatementIs IsCall a.cont) }
+    ensures calls { OnErr result ((ms : List TypedModuleTree) (names : List (List ℕ)) (c : step.Config)
+        (a : step.Activation) (older : List step.Activation) → IsProgramOf program.now ms names →
+        IsThread program.now config.old c → c.activations ≡ a ∷ older → FirstStatementIs IsCall a.cont) }
     ensures quiet { OnErr result (OfNextStep program.now config.old shared.old.words.items (λ s. s.act ≡ act.Quiet)) }
 {
     progress_and_preservation();

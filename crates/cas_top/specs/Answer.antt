@@ -8,15 +8,15 @@ use Rattle.cas_top.specs.Printed.{line_of}
 use Rattle.cas_command.specs.Words.{Command, Wanted, wanted_texts}
 use Rattle.cas_top.specs.Status.{faulty_status, memory_status, printed_status, too_long_status, unlinked_status, unread_status, unwritten_status, usage_status}
 
--- the texts that a shelf has, where it tells them
+-- the texts of a shelf, if it reports them
 abbrev pub Told : Type 0
 Told = Option Texts
 
--- the bytes that a sink has taken, where it tells them
+-- the bytes that a sink has taken, if it reports them
 abbrev pub Taken : Type 0
 Taken = Option (List ℕ)
 
--- this is the wanted text as far as the shelf tells, and within its limit
+-- this is the wanted text as far as the shelf reports it, and within its limit
 pub record IsRead (told : Told) (wanted : Wanted) (text : List ℕ) : Type 0 where
   pub tells : Tells told wanted.name text
   pub within : length text ≤ wanted.limit
@@ -34,7 +34,7 @@ IsFirstLong told (w ∷ ws) long =
     ((long ≡ w.name) × TellsLonger told w.name w.limit)
     ⊎ ((text : List ℕ) × IsRead told w text × IsFirstLong told ws long)
 
--- the command comes to printing lines with this status, and this is their text
+-- the command prints lines with this status, and this is their text
 pub record IsText (told : Told) (c : Command) (status : ℕ) (text : List ℕ) : Type 0 where
   pub texts : List (List ℕ)
   pub read : AreRead told (wanted_texts c) texts
@@ -42,18 +42,18 @@ pub record IsText (told : Told) (c : Command) (status : ℕ) (text : List ℕ) :
   pub plan : Plans c texts (prints status lines)
   pub whole : text ≡ concat lines
 
--- the command comes to a refusal with this status, and this is its line
+-- the command is refused with this status, and this is the line of the refusal
 pub record IsRefusal (told : Told) (c : Command) (status : ℕ) (line : List ℕ) : Type 0 where
   pub texts : List (List ℕ)
   pub read : AreRead told (wanted_texts c) texts
   pub plan : Plans c texts (refuses status line)
 
--- `out` took all that the command comes to printing with this status
+-- `out` took all that the command prints with this status
 abbrev pub IsPrinted : Told → Option Command → (status : ℕ) → (old new : Taken) → Type 0
 IsPrinted told None status old new = ⊥
 IsPrinted told (Some c) status old new = (text : List ℕ) × IsText told c status text × TakesAll old text new
 
--- `out` took a first part of the text that the command comes to printing
+-- `out` took a first part of the text that the command prints
 abbrev pub IsPartly : Told → Option Command → (old new : Taken) → Type 0
 IsPartly told None old new = ⊥
 IsPartly told (Some c) old new = (status : ℕ) × (text : List ℕ) × IsText told c status text × TakesPrefix old text new
@@ -62,7 +62,7 @@ IsPartly told (Some c) old new = (status : ℕ) × (text : List ℕ) × IsText t
 abbrev pub IsCut : Told → Option Command → (old new : Taken) → Type 0
 IsCut told c old new = (new ≡ old) ⊎ IsPartly told c old new
 
--- the command comes to a refusal with this status, and `err` took its line
+-- the command is refused with this status, and `err` took the line of the refusal
 abbrev pub IsRefused : Told → Option Command → (status : ℕ) → (old new : Taken) → Type 0
 IsRefused told None status old new = ⊥
 IsRefused told (Some c) status old new = (line : List ℕ) × IsRefusal told c status line × TakesAll old line new
@@ -76,7 +76,8 @@ IsMisused (Some c) old new = ⊥
 abbrev pub IsTooLong : Told → Option Command → (old new : Taken) → Type 0
 IsTooLong told None old new = ⊥
 IsTooLong told (Some c) old new =
-    (name : List ℕ) × IsFirstLong told (wanted_texts c) name × TakesAll old (line_of (codes "cascc: too long " ++ name)) new
+    (name : List ℕ) × IsFirstLong told (wanted_texts c) name ×
+    TakesAll old (line_of (codes "cascc: too long " ++ name)) new
 
 -- a wanted text has this name, and those before it are read
 abbrev pub IsFirstUnread : Told → List Wanted → (unread : List ℕ) → Type 0
@@ -93,7 +94,8 @@ pub record IsFailed (told : Told) (c : Command) (before after : List (List ℕ))
 abbrev pub IsUnread : Told → Option Command → (before after : List (List ℕ)) → (old new : Taken) → Type 0
 IsUnread told None before after old new = ⊥
 IsUnread told (Some c) before after old new =
-    (name : List ℕ) × IsFailed told c before after name × TakesAll old (line_of (codes "cascc: cannot read " ++ name)) new
+    (name : List ℕ) × IsFailed told c before after name ×
+    TakesAll old (line_of (codes "cascc: cannot read " ++ name)) new
 
 -- the list of failed names is as before; or it grew by one name of the command, and the status says that a read
 -- failed, that a put failed, or that it ran out of memory
@@ -101,16 +103,18 @@ abbrev pub GrowsBy : Told → Option Command → (before after : List (List ℕ)
 GrowsBy told None before after status = after ≡ before
 GrowsBy told (Some c) before after status =
     (after ≡ before)
-    ⊎ ((name : List ℕ) × IsFailed told c before after name × ((status ≡ unread_status) ⊎ (status ≡ unwritten_status) ⊎ (status ≡ memory_status)))
+    ⊎ ((name : List ℕ) × IsFailed told c before after name ×
+    ((status ≡ unread_status) ⊎ (status ≡ unwritten_status) ⊎ (status ≡ memory_status)))
 
--- the line of a refusal of which `err` is told
+-- the line of a refusal that is put on `err`
 pub data IsLine (told : Told) (before after : List (List ℕ)) : Option Command → List ℕ → Type 0 where
   usage : IsLine told before after None (line_of (codes "cascc: usage"))
   cannot_read : (c : Command) (name : List ℕ) → IsFailed told c before after name →
       IsLine told before after (Some c) (line_of (codes "cascc: cannot read " ++ name))
   too_long : (c : Command) (name : List ℕ) → IsFirstLong told (wanted_texts c) name →
       IsLine told before after (Some c) (line_of (codes "cascc: too long " ++ name))
-  refused : (c : Command) (status : ℕ) (line : List ℕ) → IsRefusal told c status line → IsLine told before after (Some c) line
+  refused : (c : Command) (status : ℕ) (line : List ℕ) → IsRefusal told c status line →
+      IsLine told before after (Some c) line
 
 -- how a line was tried: it was taken; or the put failed, which is counted, and a first part was taken; or there was
 -- no memory for it
@@ -121,7 +125,8 @@ IsTried line count now old new =
     ⊎ ((now ≡ count) × (new ≡ old))
 
 -- the put of a refusal's line failed, which is counted, and a first part was taken
-abbrev pub IsUntold : Told → Option Command → (before after : List (List ℕ)) → (count now : ℕ) → (old new : Taken) → Type 0
+abbrev pub IsUntold : Told → Option Command → (before after : List (List ℕ)) → (count now : ℕ) → (old new : Taken) →
+    Type 0
 IsUntold told c before after count now old new =
     (count < now) × (line : List ℕ) × IsLine told before after c line × TakesPrefix old line new
 
@@ -133,9 +138,10 @@ IsPrinting status = status ≡ printed_status
 abbrev pub IsRefusing : ℕ → Type 0
 IsRefusing status = (status ≡ faulty_status) ⊎ (status ≡ unlinked_status)
 
--- the statuses of a refusal of which `err` was told
+-- the statuses of a refusal whose line `err` took
 abbrev pub IsRefusalStatus : ℕ → Type 0
-IsRefusalStatus status = IsRefusing status ⊎ (status ≡ usage_status) ⊎ (status ≡ unread_status) ⊎ (status ≡ too_long_status)
+IsRefusalStatus status = IsRefusing status ⊎ (status ≡ usage_status) ⊎ (status ≡ unread_status) ⊎
+    (status ≡ too_long_status)
 
 -- all statuses
 abbrev pub IsStatus : ℕ → Type 0

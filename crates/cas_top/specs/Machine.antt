@@ -19,7 +19,7 @@ pub record State : Type 0 where
   pub end : Option End
   pub out : List (ℕ × ℕ)
 
--- the state after the instruction at the thread's place, or where the code has no such place
+-- the state after the instruction at the thread's place; it is Bad if the code has no such place
 abbrev pub executed : Option Instr → State → State
 executed (Some (MovEax i)) s = record s { place = s.place + 1; eax = i }
 executed (Some (AddEax i)) s = record s { place = s.place + 1; eax = word_add s.eax i }
@@ -44,7 +44,8 @@ pub record Report : Type 0 where
 -- a run of thread 0 alone ends, and this is its report
 abbrev pub RunsTo : List Instr → Report → Type 0
 RunsTo code report =
-    (s : State) × Runs code (start 0) s × (e : End) × (s.end ≡ Some e) × (report ≡ record { out = s.out; ends = e ∷ [] })
+    (s : State) × Runs code (start 0) s × (e : End) × (s.end ≡ Some e) ×
+    (report ≡ record { out = s.out; ends = e ∷ [] })
 
 -- this code leaves the value of the expression, a sum of literals of `int`, in the register
 pub data IsExprCode : ExprTree → List Instr → Type 0 where
@@ -54,7 +55,8 @@ pub data IsExprCode : ExprTree → List Instr → Type 0 where
 
 -- this is the code of a body that prints one sum
 abbrev pub IsBodyCode : StmtList → List Instr → Type 0
-IsBodyCode (one_more (print at a) no_more) code = (sum : List Instr) × IsExprCode a sum × (code ≡ sum ++ OutEax ∷ Ret ∷ [])
+IsBodyCode (one_more (print at a) no_more) code =
+    (sum : List Instr) × IsExprCode a sum × (code ≡ sum ++ OutEax ∷ Ret ∷ [])
 IsBodyCode _ code = ⊥
 
 -- this is the code of a module of one function that prints one sum

@@ -1,4 +1,4 @@
--- What a command comes to on the texts of its names: a refusal, or lines to print.
+-- The plan of a command on the texts of its names: a refusal, or lines to print.
 use Rattle.std.specs.Prelude.{◌≡◌, ◌⊎◌, ◌↔◌, ℕ, false, List, [], ◌∷◌, map, Some, slice_get}
 use Rattle.cas_base.specs.declared.place.Place.{Place}
 use Rattle.cas_command.specs.Words.{Command, Run, run, check, world}
@@ -23,7 +23,7 @@ use Rattle.cas_top.specs.declared.machine.End.TheVariants.{Done}
 use Rattle.cas_top.specs.declared.machine.Instr.{Instr}
 use Rattle.cas_top.specs.Status.{faulty_status, printed_status, unlinked_status}
 
--- a refusal, with its status and its line on `err`; or the lines for `out`, with the status behind them
+-- a refusal, with its status and its line on `err`; or the lines for `out`, with the status after them
 pub data Plan : Type 0 where
   refuses : (status : ℕ) → (line : List ℕ) → Plan
   prints : (status : ℕ) → (lines : List (List ℕ)) → Plan
@@ -64,15 +64,18 @@ PrintsLines text thread lines =
 -- that it is read as; or of the first fault of ownership of that module, typed.
 pub data RefusesText (name text : List ℕ) : (line : List ℕ) → Type 0 where
   misread : (code : ReadCode) (p : Place) → HasReadFault text code p → RefusesText name text (fault_line name code p)
-  untyped : (m : ModuleTree) (f : Fault) → IsReadAs text m → HasTypeFault m f → RefusesText name text (type_fault_line name f)
-  unowned : (m : ModuleTree) (resolved : TypedModuleTree) (f : OwnFaultTree) → IsReadAs text m → IsTyped m resolved → HasOwnFault resolved f →
+  untyped : (m : ModuleTree) (f : Fault) → IsReadAs text m → HasTypeFault m f →
+      RefusesText name text (type_fault_line name f)
+  unowned : (m : ModuleTree) (resolved : TypedModuleTree) (f : OwnFaultTree) → IsReadAs text m → IsTyped m resolved →
+      HasOwnFault resolved f →
       RefusesText name text (own_fault_line name f)
 
 -- The line that refuses to run a module text: that of its first fault, or `R0` of a checked module that isn't of the
 -- first form.
 pub data RefusesRun (r : Run) (text : List ℕ) : (line : List ℕ) → Type 0 where
   faulty : (line : List ℕ) → RefusesText r.source text line → RefusesRun r text line
-  formless : (resolved : TypedModuleTree) → IsCheckedModule text resolved → is_first_form r.thread resolved.module_tree ≡ false →
+  formless : (resolved : TypedModuleTree) → IsCheckedModule text resolved →
+      is_first_form r.thread resolved.module_tree ≡ false →
       RefusesRun r text (form_line r.source)
 
 -- each of these texts is that of a checked module
@@ -86,13 +89,15 @@ RefusesFirst (name ∷ names) (text ∷ texts) line =
     RefusesText name text line ⊎ (IsCheckedText text × RefusesFirst names texts line)
 RefusesFirst names texts line = ⊥
 
--- what a command comes to, where these are the texts of its names in their order
+-- the plan of a command on the texts of its names, in their order
 abbrev pub Plans : Command → (texts : List (List ℕ)) → Plan → Type 0
 Plans (run r) (source ∷ lock ∷ []) (prints status lines) = (status ≡ printed_status) × PrintsLines source r.thread lines
 Plans (run r) (source ∷ lock ∷ []) (refuses status line) = (status ≡ faulty_status) × RefusesRun r source line
-Plans (check names) texts (prints status lines) = (status ≡ printed_status) × AreChecked texts × (lines ≡ map ok_line names)
+Plans (check names) texts (prints status lines) =
+    (status ≡ printed_status) × AreChecked texts × (lines ≡ map ok_line names)
 Plans (check names) texts (refuses status line) = (status ≡ faulty_status) × RefusesFirst names texts line
 Plans (world w) texts (prints status lines) = (status ≡ printed_status) × PrintsWorld w texts lines
 Plans (world w) texts (refuses status line) =
-    ((status ≡ faulty_status) × RefusesFirst w.names texts line) ⊎ ((status ≡ unlinked_status) × RefusesProgram w texts line)
+    ((status ≡ faulty_status) × RefusesFirst w.names texts line) ⊎
+    ((status ≡ unlinked_status) × RefusesProgram w texts line)
 Plans c texts plan = ⊥

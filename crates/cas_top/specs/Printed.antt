@@ -45,7 +45,8 @@ report_lines r = map out_line r.out ++ end_lines 0 r.ends
 
 -- `NAME:LINE:COL: REST`
 abbrev pub place_line : (name : List ℕ) → Place → (rest : List ℕ) → List ℕ
-place_line name p rest = line_of (name ++ codes ":" ++ decimal p.line ++ codes ":" ++ decimal p.col ++ codes ": " ++ rest)
+place_line name p rest = line_of (name ++ codes ":" ++ decimal p.line ++ codes ":" ++ decimal p.col ++ codes ": " ++
+    rest)
 
 -- the code of a text's fault, in letters
 abbrev pub code_letters : ReadCode → List ℕ
@@ -80,7 +81,7 @@ count_word Nodes = codes "nodes"
 count_word Functions = codes "functions"
 count_word Words = codes "words"
 
--- the name that is kept, if there is one, behind a space
+-- the name that is kept, if there is one, after a space
 abbrev pub kept_name : Option (List ℕ) → List ℕ
 kept_name None = []
 kept_name (Some name) = codes " " ++ name
@@ -90,7 +91,7 @@ abbrev pub type_fault_words : Fault → List ℕ
 type_fault_words (fault code p kept) = type_letters code ++ kept_name kept
 type_fault_words (limit p what n) = codes "T8 " ++ count_word what ++ codes " " ++ decimal n
 
--- where it stands
+-- its place
 abbrev pub type_fault_place : Fault → Place
 type_fault_place (fault code p kept) = p
 type_fault_place (limit p what n) = p

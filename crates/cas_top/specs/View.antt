@@ -33,7 +33,8 @@ use Rattle.cas_top.specs.declared.machine.Instr.{Instr}
 use Rattle.cas_top.specs.declared.machine.Instr.TheVariants.{OutEax, Ret}
 use Rattle.cas_top.specs.Plan.{IsFinished, PrintsLines, RefusesText, RefusesRun, RefusesFirst, AreChecked}
 use Rattle.cas_syntax.specs.Reading.{IsReadAs}
-use Rattle.cas_syntax.specs.Tree.{ExprTree, ModuleTree}
+use Rattle.cas_syntax.specs.Tree.{ExprTree, ModuleTree, module_tree}
+use Rattle.cas_syntax.specs.declared.tree.Module.{Module}
 use Rattle.cas_typed.specs.Faults as type
 use Rattle.cas_typed.specs.Modules.{IsTyped}
 use Rattle.cas_typed.specs.Resolved.{TypedModuleTree}
@@ -53,7 +54,8 @@ texts_of sources = map (λ s. s.text.items) sources
 abbrev pub IsFetched : Told → words.Wanted → (before after : List (List ℕ)) → Result (Vec ℕ Global) Refusal → Type 0
 IsFetched told w before after (Ok text) = IsRead told w text.items × (after ≡ before)
 IsFetched told w before after (Err (refusal.Unread n)) = (n.now ≡ w.name) × (after ≡ before ++ w.name ∷ [])
-IsFetched told w before after (Err (refusal.TooLong n)) = (n.now ≡ w.name) × TellsLonger told w.name w.limit × (after ≡ before)
+IsFetched told w before after (Err (refusal.TooLong n)) =
+    (n.now ≡ w.name) × TellsLonger told w.name w.limit × (after ≡ before)
 IsFetched told w before after (Err refusal.Memory) = after ≡ before
 IsFetched told w before after (Err r) = ⊥
 
@@ -68,9 +70,11 @@ IsSource told name before after (Err refusal.Memory) = after ≡ before
 IsSource told name before after (Err r) = ⊥
 
 -- the texts of these names were read, or this is why not
-abbrev pub AreSources : Told → (names : List (List ℕ)) → (before after : List (List ℕ)) → Result (Vec Source Global) Refusal → Type 0
+abbrev pub AreSources : Told → (names : List (List ℕ)) → (before after : List (List ℕ)) →
+    Result (Vec Source Global) Refusal → Type 0
 AreSources told names before after (Ok sources) =
-    (names_of sources.items ≡ names) × AreRead told (map words.source_text names) (texts_of sources.items) × (after ≡ before)
+    (names_of sources.items ≡ names) × AreRead told (map words.source_text names) (texts_of sources.items) ×
+    (after ≡ before)
 AreSources told names before after (Err (refusal.Unread n)) =
     IsFirstUnread told (map words.source_text names) n.now × (after ≡ before ++ n.now ∷ [])
 AreSources told names before after (Err (refusal.TooLong n)) =
@@ -93,9 +97,17 @@ module_line name (fault.Excessive p what counted) = type_fault_line name (type.l
 module_line name (fault.Unowned code p lock) = own_fault_line name (record { code = code; place = p; lock = lock })
 module_line name fault.Formless = form_line name
 
+-- the module that the text of this name is read as, or why there is none
+abbrev pub IsReadText : (name text : List ℕ) → Result Module Refusal → Type 0
+IsReadText name text (Ok m) = IsReadAs text (module_tree m)
+IsReadText name text (Err (refusal.Faulty n f)) = RefusesText name text (module_line n.now f)
+IsReadText name text (Err refusal.Memory) = Unit {0}
+IsReadText name text (Err other) = ⊥
+
 -- the typed module that the text of this name is read as, or why there is none
 abbrev pub IsTypedText : (name text : List ℕ) → Result Typed Refusal → Type 0
-IsTypedText name text (Ok typed) = (m : ModuleTree) × (t : TypedModuleTree) × IsReadAs text m × IsTypedAs typed t × IsTyped m t
+IsTypedText name text (Ok typed) = (m : ModuleTree) × (t : TypedModuleTree) × IsReadAs text m × IsTypedAs typed t ×
+    IsTyped m t
 IsTypedText name text (Err (refusal.Faulty n f)) = RefusesText name text (module_line n.now f)
 IsTypedText name text (Err refusal.Memory) = Unit {0}
 IsTypedText name text (Err other) = ⊥
@@ -115,15 +127,16 @@ IsShown r text (Err (refusal.Faulty n f)) = RefusesRun r text (module_line n.now
 IsShown r text (Err refusal.Memory) = Unit {0}
 IsShown r text (Err other) = ⊥
 
--- the code of a sum, where the expression is one
+-- the code of a sum, if the expression is one
 abbrev pub IsSumCode : ExprTree → Option (Vec Instr Global) → Type 0
 IsSumCode a None = is_sum a ≡ false
 IsSumCode a (Some code) = (is_sum a ≡ true) × IsExprCode a code.items
 
--- the code that outputs the value of an expression and ends, where it is a sum
+-- the code that outputs the value of an expression and ends, if it is a sum
 abbrev pub IsPrintCode : ExprTree → Option (Vec Instr Global) → Type 0
 IsPrintCode a None = is_sum a ≡ false
-IsPrintCode a (Some code) = (is_sum a ≡ true) × (sum : List Instr) × IsExprCode a sum × (code.items ≡ sum ++ OutEax ∷ Ret ∷ [])
+IsPrintCode a (Some code) = (is_sum a ≡ true) × (sum : List Instr) × IsExprCode a sum ×
+    (code.items ≡ sum ++ OutEax ∷ Ret ∷ [])
 
 -- the module is of the first form, and these are the lines of a finished run of it on one thread of this function
 abbrev pub IsRun : TypedModuleTree → (thread : List ℕ) → (lines : List (List ℕ)) → Type 0
@@ -166,7 +179,8 @@ IsGiven (words.world w) = IsWithin w
 
 -- the checked modules that all texts of these names are read as, or why there are none
 abbrev pub AreModules : (names texts : List (List ℕ)) → Result (Vec Checked Global) Refusal → Type 0
-AreModules names texts (Ok modules) = (ms : List TypedModuleTree) × AreCheckedModules texts ms × AreTyped (typed_of modules.items) ms
+AreModules names texts (Ok modules) = (ms : List TypedModuleTree) × AreCheckedModules texts ms ×
+    AreTyped (typed_of modules.items) ms
 AreModules names texts (Err (refusal.Faulty n f)) = RefusesFirst names texts (module_line n.now f)
 AreModules names texts (Err refusal.Memory) = ⊤
 AreModules names texts (Err other) = ⊥
@@ -207,11 +221,12 @@ IsCause told c before after old new refusal.Unwritten = IsPartly told (Some c) o
 IsCause told c before after old new refusal.Memory = IsCut told (Some c) old new × (after ≡ before)
 
 -- how the work of a command ended: all was printed, or a refusal with its cause
-abbrev pub IsEnd : Told → words.Command → (before after : List (List ℕ)) → (old new : Taken) → Result (Unit {0}) Refusal → Type 0
+abbrev pub IsEnd : Told → words.Command → (before after : List (List ℕ)) → (old new : Taken) →
+    Result (Unit {0}) Refusal → Type 0
 IsEnd told c before after old new (Ok done) = IsPrinted told (Some c) 0 old new × (after ≡ before)
 IsEnd told c before after old new (Err r) = IsCause told c before after old new r
 
--- the count of faults of `out` rises where a put failed, and else stays
+-- the count of faults of `out` rises if a put failed, and else stays
 abbrev pub Counts : (before now : ℕ) → Result (Unit {0}) Refusal → Type 0
 Counts before now (Ok done) = now ≡ before
 Counts before now (Err refusal.Unwritten) = before < now
@@ -238,10 +253,14 @@ IsTold status line before now old new answer =
 -- `err` was told this refusal. The lines for a put of `out` that failed and for running out of memory are tried once,
 -- whatever becomes of them
 abbrev pub IsSaid : Refusal → (before now : ℕ) → (old new : Taken) → (answer : ℕ) → Type 0
-IsSaid refusal.Unwritten before now old new answer = (answer ≡ unwritten_status) × IsTried (line_of (codes "cascc: cannot write")) before now old new
-IsSaid refusal.Memory before now old new answer = (answer ≡ memory_status) × IsTried (line_of (codes "cascc: memory")) before now old new
+IsSaid refusal.Unwritten before now old new answer =
+    (answer ≡ unwritten_status) × IsTried (line_of (codes "cascc: cannot write")) before now old new
+IsSaid refusal.Memory before now old new answer =
+    (answer ≡ memory_status) × IsTried (line_of (codes "cascc: memory")) before now old new
 IsSaid refusal.Usage before now old new answer = IsTold 2 (line_of (codes "cascc: usage")) before now old new answer
-IsSaid (refusal.Unread name) before now old new answer = IsTold 3 (line_of (codes "cascc: cannot read " ++ name.now)) before now old new answer
-IsSaid (refusal.TooLong name) before now old new answer = IsTold 12 (line_of (codes "cascc: too long " ++ name.now)) before now old new answer
+IsSaid (refusal.Unread name) before now old new answer =
+    IsTold 3 (line_of (codes "cascc: cannot read " ++ name.now)) before now old new answer
+IsSaid (refusal.TooLong name) before now old new answer =
+    IsTold 12 (line_of (codes "cascc: too long " ++ name.now)) before now old new answer
 IsSaid (refusal.Faulty name f) before now old new answer = IsTold 1 (module_line name.now f) before now old new answer
 IsSaid (refusal.Unlinked line) before now old new answer = IsTold 5 line before now old new answer

@@ -1,5 +1,4 @@
--- What `world` comes to: a refusal of the modules and threads, which are no program; or the lines of the world that
--- turns come to.
+-- The plan of `world`: a refusal of modules and threads that are no program; or the lines of the world after the turns.
 use Rattle.std.specs.Prelude.{◌≡◌, ℕ, ◌==◌, ◌&&◌, List, [], ◌++◌, length, map, replicate, Option, Some, None, slice_get, codes}
 use Rattle.std.specs.Fmt.{decimal}
 use Rattle.std.specs.List.{find, flat_map}
@@ -31,7 +30,8 @@ use Rattle.cas_top.specs.Printed.{line_of, out_line}
 abbrev pub link_words : LinkFault → Option (List ℕ)
 link_words (fault.NotDefined name) = Some (codes "L1 " ++ name)
 link_words (fault.Twice name) = Some (codes "L2 " ++ name)
-link_words (fault.Differ name defined declared) = Some (codes "L3 " ++ name ++ codes ": " ++ decl_text defined ++ codes " | " ++ decl_text declared)
+link_words (fault.Differ name defined declared) =
+    Some (codes "L3 " ++ name ++ codes ": " ++ decl_text defined ++ codes " | " ++ decl_text declared)
 link_words (fault.Entry name found) = Some (codes "L4 " ++ name ++ codes ": " ++ decl_text found)
 link_words (fault.Limit what counted) = Some (codes "L5 " ++ count_text what ++ codes " " ++ decimal counted)
 link_words fault.Memory = None
@@ -65,9 +65,11 @@ module_name names n = option_map_or (λ name. name) (slice_get names n) unknown_
 abbrev pub state_words : (names : List (List ℕ)) → List CellRow → ThreadState → List ℕ
 state_words names cells stands.Running = codes "running"
 state_words names cells stands.Ended = codes "ended"
-state_words names cells (stands.Waits l holder) = codes "waits " ++ lock_name cells l ++ codes " holder " ++ decimal holder
+state_words names cells (stands.Waits l holder) =
+    codes "waits " ++ lock_name cells l ++ codes " holder " ++ decimal holder
 state_words names cells (stands.Bad w unit p) =
-    codes "bad " ++ why_words w ++ codes " " ++ module_name names unit ++ codes ":" ++ decimal p.line ++ codes ":" ++ decimal p.col
+    codes "bad " ++ why_words w ++ codes " " ++ module_name names unit ++ codes ":" ++ decimal p.line ++ codes ":" ++
+    decimal p.col
 
 -- `thread K STATE`
 abbrev pub state_line : (names : List (List ℕ)) → List CellRow → (thread : ℕ) → ThreadState → List ℕ
@@ -75,17 +77,19 @@ state_line names cells i s = line_of (codes "thread " ++ decimal i ++ codes " " 
 
 -- the line of a thread of a world of these modules
 abbrev pub thread_line : (names : List (List ℕ)) → List TypedModuleTree → World → (thread : ℕ) → List ℕ
-thread_line names modules w i = state_line names (cells_of (units_of modules)) i (state_shown (state_of (env_of modules) w i))
+thread_line names modules w i = state_line names (cells_of (units_of modules)) i
+    (state_shown (state_of (env_of modules) w i))
 
 -- the lines of a world: its outputs in order, and then a line for each thread
 abbrev pub world_lines : (names : List (List ℕ)) → List TypedModuleTree → World → List (List ℕ)
-world_lines names modules w = map out_line w.out ++ map (thread_line names modules w) (threads_from 0 (length w.threads))
+world_lines names modules w = map out_line w.out ++ map (thread_line names modules w)
+    (threads_from 0 (length w.threads))
 
 -- the turns of a schedule one by one: those of an item are as many of its thread as it says
 abbrev pub turns_of : (items : List (ℕ × ℕ)) → List ℕ
 turns_of items = flat_map (λ item. replicate item.1 item.0) items
 
--- the world that the turns of a command come to from this one
+-- the world after the turns of a command, from this one on
 abbrev pub turned : Env → Turns → World → World
 turned e (words.schedule items) w = turns e w (turns_of items)
 turned e (words.rounds count) w = rounds e w count
@@ -97,7 +101,8 @@ pub record PrintsWorld (w : words.World) (texts : List (List ℕ)) (lines : List
   pub read : AreCheckedModules texts modules
   pub program : IsProgram modules w.threads
   pub race_free : IsRaceFree (env_of modules) (program_world modules w.threads)
-  pub reached : Reaches (env_of modules) (program_world modules w.threads) (turned (env_of modules) w.turns (program_world modules w.threads))
+  pub reached : Reaches (env_of modules) (program_world modules w.threads)
+      (turned (env_of modules) w.turns (program_world modules w.threads))
   pub whole : lines ≡ world_lines w.names modules (turned (env_of modules) w.turns (program_world modules w.threads))
 
 -- The texts are checked but no program, and this is the line of what is first refused.

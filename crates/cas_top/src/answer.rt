@@ -26,7 +26,8 @@ pub(crate) fn perform<'a, S: Shelf, O: Sink>(
     out: &mut O,
 ) -> Result<(), Refusal<'a>>
     requires { IsGiven (command_view command) }
-    ensures end { IsEnd (S.texts shelf.old) (command_view command.entry) (S.failed shelf.old) (S.failed shelf.new) (O.taken out.old) (O.taken out.new) result }
+    ensures end { IsEnd (S.texts shelf.old) (command_view command.entry) (S.failed shelf.old) (S.failed shelf.new)
+        (O.taken out.old) (O.taken out.new) result }
     ensures counted { Counts (O.faults out.old) (O.faults out.new) result }
     ensures same_texts { S.texts shelf.new ≡ S.texts shelf.old }
 {
@@ -44,7 +45,8 @@ fn perform_check<'a, S: Shelf, O: Sink>(
     shelf: &mut S,
     out: &mut O,
 ) -> Result<(), Refusal<'a>>
-    ensures end { IsEnd (S.texts shelf.old) (check (texts names.now)) (S.failed shelf.old) (S.failed shelf.new) (O.taken out.old) (O.taken out.new) result }
+    ensures end { IsEnd (S.texts shelf.old) (check (texts names.now)) (S.failed shelf.old) (S.failed shelf.new)
+        (O.taken out.old) (O.taken out.new) result }
     ensures counted { Counts (O.faults out.old) (O.faults out.new) result }
     ensures same_texts { S.texts shelf.new ≡ S.texts shelf.old }
 {
@@ -61,7 +63,8 @@ fn perform_world<'a, S: Shelf, O: Sink>(
     out: &mut O,
 ) -> Result<(), Refusal<'a>>
     requires { IsWithin (world_view given) }
-    ensures end { IsEnd (S.texts shelf.old) (world (world_view given.entry)) (S.failed shelf.old) (S.failed shelf.new) (O.taken out.old) (O.taken out.new) result }
+    ensures end { IsEnd (S.texts shelf.old) (world (world_view given.entry)) (S.failed shelf.old) (S.failed shelf.new)
+        (O.taken out.old) (O.taken out.new) result }
     ensures counted { Counts (O.faults out.old) (O.faults out.new) result }
     ensures same_texts { S.texts shelf.new ≡ S.texts shelf.old }
 {
@@ -78,7 +81,8 @@ fn perform_run<'a, S: Shelf, O: Sink>(
     shelf: &mut S,
     out: &mut O,
 ) -> Result<(), Refusal<'a>>
-    ensures end { IsEnd (S.texts shelf.old) (run (run_view given.entry)) (S.failed shelf.old) (S.failed shelf.new) (O.taken out.old) (O.taken out.new) result }
+    ensures end { IsEnd (S.texts shelf.old) (run (run_view given.entry)) (S.failed shelf.old) (S.failed shelf.new)
+        (O.taken out.old) (O.taken out.new) result }
     ensures counted { Counts (O.faults out.old) (O.faults out.new) result }
     ensures same_texts { S.texts shelf.new ≡ S.texts shelf.old }
 {

@@ -20,8 +20,10 @@ pub(crate) fn generate(
     tree: &Module,
     name: &str,
 ) -> Result<Option<Vec<Instr>>, NoMemory>
-    ensures form { IfOk result (λ o. IfSome o (λ code. form.is_first_form name.now (syntax.module_tree tree.now) ≡ true)) }
-    ensures generated { IfOk result (λ o. IfSome o (λ code. IsItemsCode (syntax.module_tree tree.now).items code.items)) }
+    ensures form { IfOk result (λ o. IfSome o (λ code.
+        form.is_first_form name.now (syntax.module_tree tree.now) ≡ true)) }
+    ensures generated { IfOk result (λ o. IfSome o
+        (λ code. IsItemsCode (syntax.module_tree tree.now).items code.items)) }
     ensures others { IfOk result (λ o. IfNone o (form.is_first_form name.now (syntax.module_tree tree.now) ≡ false)) }
 {
     let Some(fun) = only_function(tree.items.as_slice()) else {
@@ -40,7 +42,8 @@ pub(crate) fn generate(
 #[tactic(auto, using(crate::proofs::Form_laws::two_items, crate::proofs::Form_laws::no_function))]
 fn only_function(items: &[Item]) -> Option<&Fun>
     ensures found { IfSome result (λ f. map syntax.item_tree items.now ≡ syntax.define (syntax.fun_tree f.now) ∷ []) }
-    ensures others { IfNone result ((name : List ℕ) → form.is_first_form_of name (map syntax.item_tree items.now) ≡ false) }
+    ensures others { IfNone result ((name : List ℕ) →
+        form.is_first_form_of name (map syntax.item_tree items.now) ≡ false) }
 {
     let (first, others) = items.split_first()?;
     if let Some(_) = others.split_first() {
@@ -62,7 +65,8 @@ fn is_entry_named(fun: &Fun, name: &str) -> bool
 // The expression that a body prints, where it does nothing else.
 #[tactic(auto, using(crate::proofs::Form_laws::two_statements, crate::proofs::Form_laws::not_printing))]
 fn only_printed(body: &[Stmt]) -> Option<&Expr>
-    ensures found { IfSome result (λ a. (p : Place) × (syntax.stmt_trees body.now ≡ syntax.one_more (syntax.print p (syntax.expr_tree a.now)) syntax.no_more)) }
+    ensures found { IfSome result (λ a. (p : Place) ×
+        (syntax.stmt_trees body.now ≡ syntax.one_more (syntax.print p (syntax.expr_tree a.now)) syntax.no_more)) }
     ensures others { IfNone result (form.prints_sum (syntax.stmt_trees body.now) ≡ false) }
 {
     let (statement, others) = body.split_first()?;
@@ -103,7 +107,8 @@ fn sum_code(alloc: Global, expr: &Expr) -> Result<Option<Vec<Instr>>, NoMemory>
 
 // The code of the sum and a further literal.
 fn with_literal(code: Option<Vec<Instr>>, value: u32) -> Result<Option<Vec<Instr>>, NoMemory>
-    ensures { (a : syntax.ExprTree) → IsSumCode a code → IfOk result (λ o. IsSumCode (syntax.binary operator.Add a (syntax.literal value kind.I32)) o) }
+    ensures { (a : syntax.ExprTree) → IsSumCode a code →
+        IfOk result (λ o. IsSumCode (syntax.binary operator.Add a (syntax.literal value kind.I32)) o) }
 {
     let Some(mut code) = code else {
         return Ok(None);

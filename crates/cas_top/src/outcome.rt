@@ -21,7 +21,8 @@ pub(crate) fn lines_of(
     typed: &Typed,
     thread: &str,
 ) -> Result<Option<Vec<Text>>, NoMemory>
-    ensures printed { IfOk result (λ o. IfSome o (λ lines. (r : TypedModuleTree) → IsTypedAs typed.now r → IsChecked r → IsRun r thread.now lines.items)) }
+    ensures printed { IfOk result (λ o. IfSome o (λ lines. (r : TypedModuleTree) → IsTypedAs typed.now r →
+        IsChecked r → IsRun r thread.now lines.items)) }
     ensures others { IfOk result (λ o. IfNone o (is_first_form thread.now (module_tree typed.now.filled) ≡ false)) }
 {
     cas_world::laws::races_absent();

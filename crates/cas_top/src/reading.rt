@@ -18,7 +18,8 @@ pub(crate) fn fetch<'a, S: Shelf>(
     wanted: Wanted<'a>,
 ) -> Result<Vec<u8>, Refusal<'a>>
     ensures same { S.texts shelf.new ≡ S.texts shelf.old }
-    ensures fetched { IsFetched (S.texts shelf.old) (wanted_view wanted.entry) (S.failed shelf.old) (S.failed shelf.new) result }
+    ensures fetched { IsFetched (S.texts shelf.old) (wanted_view wanted.entry) (S.failed shelf.old)
+        (S.failed shelf.new) result }
 {
     match shelf.read(alloc, wanted.name, wanted.limit) {
         Ok(text) => Ok(text),
@@ -48,7 +49,8 @@ pub(crate) fn fetch_all<'a, S: Shelf>(
     names: &[&'a str],
 ) -> Result<Vec<Source<'a>>, Refusal<'a>>
     ensures same { S.texts shelf.new ≡ S.texts shelf.old }
-    ensures fetched { AreSources (S.texts shelf.old) (texts names.now) (S.failed shelf.old) (S.failed shelf.new) result }
+    ensures fetched { AreSources (S.texts shelf.old) (texts names.now) (S.failed shelf.old)
+        (S.failed shelf.new) result }
 {
     let mut sources = Vec::new(alloc);
     for name in names {

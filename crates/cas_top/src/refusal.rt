@@ -122,7 +122,8 @@ pub(crate) fn refuse<E: Sink>(alloc: Global, err: &mut E, refusal: Refusal) -> u
 
 // Puts the line of a refusal with this status.
 fn say<E: Sink>(err: &mut E, line: &[u8], status: Status) -> u8
-    ensures { IsTold (status_number status) line.now (E.faults err.old) (E.faults err.new) (E.taken err.old) (E.taken err.new) result }
+    ensures { IsTold (status_number status) line.now (E.faults err.old) (E.faults err.new) (E.taken err.old)
+        (E.taken err.new) result }
 {
     match err.put(line) {
         Ok(()) => status.number(),
@@ -133,7 +134,8 @@ fn say<E: Sink>(err: &mut E, line: &[u8], status: Status) -> u8
 
 // Puts the line of a refusal with this status, with a name after these words.
 fn say_name<E: Sink>(alloc: Global, err: &mut E, words: &str, name: &str, status: Status) -> u8
-    ensures { IsTold (status_number status) (line_of (words.now ++ name.now)) (E.faults err.old) (E.faults err.new) (E.taken err.old) (E.taken err.new) result }
+    ensures { IsTold (status_number status) (line_of (words.now ++ name.now)) (E.faults err.old) (E.faults err.new)
+        (E.taken err.old) (E.taken err.new) result }
 {
     match line(alloc, words, name) {
         Ok(line) => say(err, line.as_bytes(), status),
@@ -143,7 +145,8 @@ fn say_name<E: Sink>(alloc: Global, err: &mut E, words: &str, name: &str, status
 
 // Puts the line of a module's fault.
 fn say_fault<E: Sink>(alloc: Global, err: &mut E, name: &str, fault: ModuleFault) -> u8
-    ensures { IsTold 1 (module_line name.now fault) (E.faults err.old) (E.faults err.new) (E.taken err.old) (E.taken err.new) result }
+    ensures { IsTold 1 (module_line name.now fault) (E.faults err.old) (E.faults err.new) (E.taken err.old)
+        (E.taken err.new) result }
 {
     match module_line(alloc, name, fault) {
         Ok(line) => say(err, line.as_str().as_bytes(), Status::Faulty),
@@ -154,7 +157,8 @@ fn say_fault<E: Sink>(alloc: Global, err: &mut E, name: &str, fault: ModuleFault
 // Puts the line for running out of memory, whatever becomes of it.
 fn say_memory<E: Sink>(err: &mut E) -> u8
     ensures status { result ≡ 9 }
-    ensures tried { IsTried (line_of (codes "cascc: memory")) (E.faults err.old) (E.faults err.new) (E.taken err.old) (E.taken err.new) }
+    ensures tried { IsTried (line_of (codes "cascc: memory")) (E.faults err.old) (E.faults err.new) (E.taken err.old)
+        (E.taken err.new) }
 {
     try_line(err, b"cascc: memory\n", Status::Memory)
 }

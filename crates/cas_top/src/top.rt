@@ -65,11 +65,13 @@ pub fn cascc<R: Threads + Sync, S: Shelf, O: Sink, E: Sink, G: Gate>(
     ensures out_failed { O.faults out.old < O.faults out.new →
         (result ≡ unwritten_status)
         × IsPartly (S.texts shelf.old) (command_of words.now) (O.taken out.old) (O.taken out.new)
-        × IsTried (line_of (codes "cascc: cannot write")) (E.faults err.old) (E.faults err.new) (E.taken err.old) (E.taken err.new) }
+        × IsTried (line_of (codes "cascc: cannot write")) (E.faults err.old) (E.faults err.new) (E.taken err.old)
+        (E.taken err.new) }
     ensures unwritten { result ≡ unwritten_status →
         (O.faults out.old < O.faults out.new)
         ⊎ ((O.taken out.new ≡ O.taken out.old) × (O.faults out.new ≡ O.faults out.old)
-        × IsUntold (S.texts shelf.old) (command_of words.now) (S.failed shelf.old) (S.failed shelf.new) (E.faults err.old) (E.faults err.new) (E.taken err.old) (E.taken err.new)) }
+        × IsUntold (S.texts shelf.old) (command_of words.now) (S.failed shelf.old) (S.failed shelf.new)
+        (E.faults err.old) (E.faults err.new) (E.taken err.old) (E.taken err.new)) }
 
     // Out of memory.
     ensures out_of_memory { result ≡ memory_status →
@@ -84,7 +86,8 @@ pub fn cascc<R: Threads + Sync, S: Shelf, O: Sink, E: Sink, G: Gate>(
     ensures err_faults { IsPrinting result ⊎ IsRefusalStatus result → E.faults err.new ≡ E.faults err.old }
     ensures unread_puts_nothing { (S.failed shelf.new ≡ S.failed shelf.old)
         ⊎ ((O.taken out.new ≡ O.taken out.old) × (O.faults out.new ≡ O.faults out.old)) }
-    ensures failed_names { GrowsBy (S.texts shelf.old) (command_of words.now) (S.failed shelf.old) (S.failed shelf.new) result }
+    ensures failed_names { GrowsBy (S.texts shelf.old) (command_of words.now) (S.failed shelf.old)
+        (S.failed shelf.new) result }
     ensures same_texts { S.texts shelf.new ≡ S.texts shelf.old }
 
     ensures known { IsStatus result }

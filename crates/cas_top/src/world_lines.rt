@@ -65,7 +65,8 @@ fn differ_words(
     defined: &Decl,
     declared: &Decl,
 ) -> Result<Text, NoMemory>
-    ensures { IfOk result (λ words. words ≡ codes "L3 " ++ name.now ++ codes ": " ++ decl_text defined.now ++ codes " | " ++ decl_text declared.now) }
+    ensures { IfOk result (λ words. words ≡ codes "L3 " ++ name.now ++ codes ": " ++ decl_text defined.now ++
+        codes " | " ++ decl_text declared.now) }
 {
     let name = name.as_str();
     let text = format!(in alloc; "L3 {name}: {defined} | {declared}")?;
@@ -191,7 +192,9 @@ fn put_states(
     world: &World,
     lines: &mut Vec<Text>,
 ) -> Result<(), NoMemory>
-    ensures { OnOk result ((ms : List TypedModuleTree) (entries : List (List ℕ)) (w : definition.World) → IsWorldOf world.now ms entries w → lines.new.items ≡ lines.old.items ++ map (thread_line (texts names.now) ms w) (threads_from 0 (length w.threads))) }
+    ensures { OnOk result ((ms : List TypedModuleTree) (entries : List (List ℕ)) (w : definition.World) →
+        IsWorldOf world.now ms entries w → lines.new.items ≡ lines.old.items ++ map
+        (thread_line (texts names.now) ms w) (threads_from 0 (length w.threads))) }
 {
     for thread in 0..world.threads() {
         let cells = world.program().cells();
@@ -207,7 +210,8 @@ pub(crate) fn world_lines(
     names: &[&str],
     world: &World,
 ) -> Result<Vec<Text>, NoMemory>
-    ensures { IfOk result (λ lines. (ms : List TypedModuleTree) (entries : List (List ℕ)) (w : definition.World) → IsWorldOf world.now ms entries w → lines.items ≡ world_lines (texts names.now) ms w) }
+    ensures { IfOk result (λ lines. (ms : List TypedModuleTree) (entries : List (List ℕ)) (w : definition.World) →
+        IsWorldOf world.now ms entries w → lines.items ≡ world_lines (texts names.now) ms w) }
 {
     let mut lines = output_lines(alloc, world.out())?;
     put_states(alloc, names, world, &mut lines)?;

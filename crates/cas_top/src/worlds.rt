@@ -85,7 +85,8 @@ fn joined<'a>(
     requires few_modules { length modules.items < 2 ^ 32 }
     requires few_threads { length threads.now < 2 ^ 32 }
     requires named { list_all is_name (texts threads.now) ≡ true }
-    ensures { (ms : List TypedModuleTree) → AreTyped (typed_of modules.items) ms → IsJoined ms (texts threads.now) result }
+    ensures { (ms : List TypedModuleTree) → AreTyped (typed_of modules.items) ms →
+        IsJoined ms (texts threads.now) result }
 {
     let entries = entry_names(alloc, threads)?;
     match cas_turn::join(alloc, modules, entries.as_slice()) {
@@ -110,7 +111,9 @@ fn turn_items(alloc: Global, items: &[Item]) -> Result<Vec<cas_turn::Item>, NoMe
 
 // The turns of a schedule.
 fn schedule(alloc: Global, world: &mut World, items: &[Item]) -> Result<(), NoMemory>
-    ensures { OnOk result ((ms : List TypedModuleTree) (names : List (List ℕ)) (w : definition.World) → IsWorldOf world.old ms names w → IsWorldOf world.new ms names (turns (env_of ms) w (turns_of (map item_view items.now)))) }
+    ensures { OnOk result ((ms : List TypedModuleTree) (names : List (List ℕ)) (w : definition.World) →
+        IsWorldOf world.old ms names w → IsWorldOf world.new ms names
+        (turns (env_of ms) w (turns_of (map item_view items.now)))) }
 {
     let items = turn_items(alloc, items)?;
     world.schedule(items.as_slice())
@@ -118,7 +121,8 @@ fn schedule(alloc: Global, world: &mut World, items: &[Item]) -> Result<(), NoMe
 
 // The turns of a command.
 fn take_turns(alloc: Global, world: &mut World, turns: &Turns) -> Result<(), NoMemory>
-    ensures { OnOk result ((ms : List TypedModuleTree) (names : List (List ℕ)) (w : definition.World) → IsWorldOf world.old ms names w → IsWorldOf world.new ms names (turned (env_of ms) (turns_view turns.now) w)) }
+    ensures { OnOk result ((ms : List TypedModuleTree) (names : List (List ℕ)) (w : definition.World) →
+        IsWorldOf world.old ms names w → IsWorldOf world.new ms names (turned (env_of ms) (turns_view turns.now) w)) }
 {
     match turns {
         Turns::Schedule(items) => schedule(alloc, world, items.as_slice()),
@@ -128,7 +132,9 @@ fn take_turns(alloc: Global, world: &mut World, turns: &Turns) -> Result<(), NoM
 
 // The world after the turns of a program, from its first world on.
 fn turned(alloc: Global, program: Program, turns: &Turns) -> Result<World, NoMemory>
-    ensures { IfOk result (λ world. (ms : List TypedModuleTree) (names : List (List ℕ)) → IsProgramOf program ms names → IsWorldOf world ms names (turned (env_of ms) (turns_view turns.now) (program_world ms names))) }
+    ensures { IfOk result (λ world. (ms : List TypedModuleTree) (names : List (List ℕ)) →
+        IsProgramOf program ms names → IsWorldOf world ms names
+        (turned (env_of ms) (turns_view turns.now) (program_world ms names))) }
 {
     let mut world = World::start(alloc, program)?;
     take_turns(alloc, &mut world, turns)?;

@@ -35,7 +35,7 @@ abbrev pub MayWantMemory : List Activation → State → Type 0
 MayWantMemory activations (running s) = BeginsCall activations ⊎ ((n : ℕ) × (s.act ≡ act.Out n))
 MayWantMemory activations _ = ⊥
 
--- the answer is the state of the thread, or that the turn ran out of memory, where that is possible
+-- the answer is the state of the thread, or that the turn ran out of memory, if that is possible
 abbrev pub Answers : List Activation → State → WorldAnswer → Type 0
 Answers activations state answer.Memory = MayWantMemory activations state
 Answers activations state (answer.Waits l holder) = state ≡ waits l holder

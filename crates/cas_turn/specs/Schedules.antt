@@ -18,7 +18,8 @@ NextMayWant e w (i ∷ left) = MayWantMemory (activations_of w i) (state_of e w 
 
 -- this holds of the world after the first few of these turns, and the next turn may run out of memory
 abbrev pub AfterSome : Env → World → (schedule : List ℕ) → (World → Type 0) → Type 0
-AfterSome e w schedule P = (done left : List ℕ) × (done ++ left ≡ schedule) × P (turns e w done) × NextMayWant e (turns e w done) left
+AfterSome e w schedule P = (done left : List ℕ) × (done ++ left ≡ schedule) × P (turns e w done) ×
+    NextMayWant e (turns e w done) left
 
 -- this holds of the world after some whole rounds, fewer than the count, and the first few turns of the next round
 abbrev pub AfterSomeRounds : Env → World → (count : ℕ) → (World → Type 0) → Type 0

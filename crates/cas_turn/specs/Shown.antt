@@ -16,7 +16,8 @@ AreThreads p _ _ = ⊥
 
 -- These threads, words, holders and this output of the code are this world of the program with these modules and
 -- entries.
-pub record AreWorldOf (p : Program) (threads : List Config) (words : List ℕ) (holders : List (Option ℕ)) (out : List (ℕ × ℕ))
+pub record AreWorldOf (p : Program) (threads : List Config) (words : List ℕ) (holders : List (Option ℕ))
+    (out : List (ℕ × ℕ))
     (modules : List TypedModuleTree) (names : List (List ℕ)) (w : World) : Type 0 where
   pub program : IsProgramOf p modules names
   pub threads_are : AreThreads p threads w.threads

@@ -24,15 +24,19 @@ pub record IsThere (p : Program) (k : Config) : Type 0 where
 
 -- A thread of a sound world: it is sound, the store is well-typed, the thread has a step if it hasn't ended, and a
 -- lock that its step takes exists.
-pub record MayTurn (words : List ℕ) (holders : List (Option ℕ)) (modules : List TypedModuleTree) (c : step.Config) : Type 0 where
+pub record MayTurn (words : List ℕ) (holders : List (Option ℕ)) (modules : List TypedModuleTree)
+    (c : step.Config) : Type 0 where
   pub sound : IsSound modules (env_of modules) c
   pub words_fit : IsWellTypedStore (env_of modules) words
-  pub steps : (a : Activation) (older : List Activation) → c.activations ≡ a ∷ older → (s : Step) × (step.step (env_of modules) words c ≡ Some s)
-  pub locks : (l : ℕ) (s : Step) → step.step (env_of modules) words c ≡ Some s → s.act ≡ act.Lock l → (holder : Option ℕ) × (slice_get holders l ≡ Some holder)
+  pub steps : (a : Activation) (older : List Activation) → c.activations ≡ a ∷ older → (s : Step) ×
+      (step.step (env_of modules) words c ≡ Some s)
+  pub locks : (l : ℕ) (s : Step) → step.step (env_of modules) words c ≡ Some s → s.act ≡ act.Lock l →
+      (holder : Option ℕ) × (slice_get holders l ≡ Some holder)
 
 -- this holds of the program's modules and of the thread that the thread of the code stands for
 abbrev pub ForThread : Program → Config → (List TypedModuleTree → step.Config → Type 0) → Type 0
-ForThread p k P = (modules : List TypedModuleTree) (names : List (List ℕ)) (c : step.Config) → IsProgramOf p modules names → IsThread p k c → P modules c
+ForThread p k P = (modules : List TypedModuleTree) (names : List (List ℕ)) (c : step.Config) →
+    IsProgramOf p modules names → IsThread p k c → P modules c
 
 -- its state
 abbrev pub state_in : (words : List ℕ) → (holders : List (Option ℕ)) → List TypedModuleTree → step.Config → State

@@ -23,7 +23,9 @@ pub(crate) fn no_holders(alloc: Global, words: usize) -> Result<Vec<Option<u32>>
 /// The threads of a program, each at its entry.
 pub(crate) fn first_threads(alloc: Global, program: &Program) -> Result<Vec<Config>, NoMemory>
     ensures numbered { IfOk result (λ threads. vec_len threads < 2 ^ 32) }
-    ensures threads { IfOk result (λ threads. (ms : List TypedModuleTree) (names : List (List ℕ)) → IsProgramOf program.now ms names → AreThreads program.now threads.items (started (env_of ms) 0 (entries_of ms names))) }
+    ensures threads { IfOk result (λ threads. (ms : List TypedModuleTree) (names : List (List ℕ)) →
+        IsProgramOf program.now ms names → AreThreads program.now threads.items
+        (started (env_of ms) 0 (entries_of ms names))) }
 {
     cas_program::laws::entries_are_entered();
     let count = program.entries().len() as u32;

@@ -35,11 +35,15 @@ fn typed_modules(alloc: Global, modules: Vec<Checked>) -> Result<Vec<Typed>, NoM
 pub fn join(alloc: Global, modules: Vec<Checked>, entries: &[Name]) -> Result<Program, LinkFault>
     requires few_modules { vec_len modules < 2 ^ 32 }
     requires few_entries { length entries.now < 2 ^ 32 }
-    ensures refused { (ms : List TypedModuleTree) → AreTyped (typed_of modules.items) ms → IsRefusedBy result (first_refusal (units_of ms) entries.now) }
+    ensures refused { (ms : List TypedModuleTree) → AreTyped (typed_of modules.items) ms →
+        IsRefusedBy result (first_refusal (units_of ms) entries.now) }
     ensures modules { IfOk result (λ made. made.modules ≡ typed_of modules.items) }
-    ensures made { IfOk result (λ made. (ms : List TypedModuleTree) → AreTyped (typed_of modules.items) ms → IsProgramOf made ms entries.now) }
-    ensures checked { IfOk result (λ made. (ms : List TypedModuleTree) (names : List (List ℕ)) → IsProgramOf made ms names → All IsChecked ms) }
-    ensures race_free { IfOk result (λ made. (ms : List TypedModuleTree) (names : List (List ℕ)) → IsProgramOf made ms names → IsRaceFree (env_of ms) (program_world ms names)) }
+    ensures made { IfOk result (λ made. (ms : List TypedModuleTree) → AreTyped (typed_of modules.items) ms →
+        IsProgramOf made ms entries.now) }
+    ensures checked { IfOk result (λ made. (ms : List TypedModuleTree) (names : List (List ℕ)) →
+        IsProgramOf made ms names → All IsChecked ms) }
+    ensures race_free { IfOk result (λ made. (ms : List TypedModuleTree) (names : List (List ℕ)) →
+        IsProgramOf made ms names → IsRaceFree (env_of ms) (program_world ms names)) }
 {
     cas_typed::laws::typed_modules_are_one();
     cas_world::laws::races_absent();

@@ -23,10 +23,15 @@ impl World {
     fn takes_turn(&mut self, thread: u32) -> Result<bool, NoMemory>
         ensures program { self.new.program ≡ self.old.program }
         ensures threads { vec_len self.new.threads ≡ vec_len self.old.threads }
-        ensures turn { OnOk result ((ms : List TypedModuleTree) (names : List (List ℕ)) (w : AWorld) → IsWorldOf self.old ms names w → IsWorldOf self.new ms names (definition.turn (env_of ms) w thread)) }
-        ensures still { IfOk result (λ moved. OnFalse moved ((ms : List TypedModuleTree) (names : List (List ℕ)) (w : AWorld) → IsWorldOf self.old ms names w → definition.turn (env_of ms) w thread ≡ w)) }
-        ensures cut { OnErr result ((ms : List TypedModuleTree) (names : List (List ℕ)) (w : AWorld) → IsWorldOf self.old ms names w → IsWorldOf self.new ms names w) }
-        ensures wants { OnErr result ((ms : List TypedModuleTree) (names : List (List ℕ)) (w : AWorld) → IsWorldOf self.old ms names w → MayWantMemory (activations_of w thread) (state_of (env_of ms) w thread)) }
+        ensures turn { OnOk result ((ms : List TypedModuleTree) (names : List (List ℕ)) (w : AWorld) →
+            IsWorldOf self.old ms names w → IsWorldOf self.new ms names (definition.turn (env_of ms) w thread)) }
+        ensures still { IfOk result (λ moved. OnFalse moved
+            ((ms : List TypedModuleTree) (names : List (List ℕ)) (w : AWorld) → IsWorldOf self.old ms names w →
+            definition.turn (env_of ms) w thread ≡ w)) }
+        ensures cut { OnErr result ((ms : List TypedModuleTree) (names : List (List ℕ)) (w : AWorld) →
+            IsWorldOf self.old ms names w → IsWorldOf self.new ms names w) }
+        ensures wants { OnErr result ((ms : List TypedModuleTree) (names : List (List ℕ)) (w : AWorld) →
+            IsWorldOf self.old ms names w → MayWantMemory (activations_of w thread) (state_of (env_of ms) w thread)) }
     {
         if thread >= self.threads() {
             return Ok(false);
@@ -43,8 +48,12 @@ impl World {
     // This many turns of a thread; one that changes nothing is the last.
     fn repeat(&mut self, thread: u32, count: u32) -> Result<(), NoMemory>
         ensures program { self.new.program ≡ self.old.program }
-        ensures turns { OnOk result ((ms : List TypedModuleTree) (names : List (List ℕ)) (w : AWorld) → IsWorldOf self.old ms names w → IsWorldOf self.new ms names (turns (env_of ms) w (replicate count thread))) }
-        ensures cut { OnErr result ((ms : List TypedModuleTree) (names : List (List ℕ)) (w : AWorld) → IsWorldOf self.old ms names w → AfterSome (env_of ms) w (replicate count thread) (IsWorldOf self.new ms names)) }
+        ensures turns { OnOk result ((ms : List TypedModuleTree) (names : List (List ℕ)) (w : AWorld) →
+            IsWorldOf self.old ms names w → IsWorldOf self.new ms names
+            (turns (env_of ms) w (replicate count thread))) }
+        ensures cut { OnErr result ((ms : List TypedModuleTree) (names : List (List ℕ)) (w : AWorld) →
+            IsWorldOf self.old ms names w → AfterSome (env_of ms) w (replicate count thread)
+            (IsWorldOf self.new ms names)) }
     {
         for _turn in 0..count {
             if !self.takes_turn(thread)? {
@@ -59,8 +68,11 @@ impl World {
     /// or outputs a word.
     pub fn schedule(&mut self, items: &[Item]) -> Result<(), NoMemory>
         ensures program { self.new.program ≡ self.old.program }
-        ensures turns { OnOk result ((ms : List TypedModuleTree) (names : List (List ℕ)) (w : AWorld) → IsWorldOf self.old ms names w → IsWorldOf self.new ms names (turns (env_of ms) w (unrolled items.now))) }
-        ensures cut { OnErr result ((ms : List TypedModuleTree) (names : List (List ℕ)) (w : AWorld) → IsWorldOf self.old ms names w → AfterSome (env_of ms) w (unrolled items.now) (IsWorldOf self.new ms names)) }
+        ensures turns { OnOk result ((ms : List TypedModuleTree) (names : List (List ℕ)) (w : AWorld) →
+            IsWorldOf self.old ms names w → IsWorldOf self.new ms names (turns (env_of ms) w (unrolled items.now))) }
+        ensures cut { OnErr result ((ms : List TypedModuleTree) (names : List (List ℕ)) (w : AWorld) →
+            IsWorldOf self.old ms names w → AfterSome (env_of ms) w (unrolled items.now)
+            (IsWorldOf self.new ms names)) }
     {
         let mut rest = items;
         'items: while let Some((item, others)) = rest.split_first() {
@@ -73,9 +85,14 @@ impl World {
     // A round over all threads in order, and whether any took a step.
     fn round(&mut self) -> Result<bool, NoMemory>
         ensures program { self.new.program ≡ self.old.program }
-        ensures round { OnOk result ((ms : List TypedModuleTree) (names : List (List ℕ)) (w : AWorld) → IsWorldOf self.old ms names w → IsWorldOf self.new ms names (definition.round (env_of ms) w)) }
-        ensures still { IfOk result (λ moved. OnFalse moved ((ms : List TypedModuleTree) (names : List (List ℕ)) (w : AWorld) → IsWorldOf self.old ms names w → definition.round (env_of ms) w ≡ w)) }
-        ensures cut { OnErr result ((ms : List TypedModuleTree) (names : List (List ℕ)) (w : AWorld) → IsWorldOf self.old ms names w → AfterSome (env_of ms) w (threads_from 0 (length w.threads)) (IsWorldOf self.new ms names)) }
+        ensures round { OnOk result ((ms : List TypedModuleTree) (names : List (List ℕ)) (w : AWorld) →
+            IsWorldOf self.old ms names w → IsWorldOf self.new ms names (definition.round (env_of ms) w)) }
+        ensures still { IfOk result (λ moved. OnFalse moved
+            ((ms : List TypedModuleTree) (names : List (List ℕ)) (w : AWorld) → IsWorldOf self.old ms names w →
+            definition.round (env_of ms) w ≡ w)) }
+        ensures cut { OnErr result ((ms : List TypedModuleTree) (names : List (List ℕ)) (w : AWorld) →
+            IsWorldOf self.old ms names w → AfterSome (env_of ms) w (threads_from 0 (length w.threads))
+            (IsWorldOf self.new ms names)) }
     {
         let count = self.threads();
         let mut moved = false;
@@ -90,8 +107,10 @@ impl World {
     /// thread may take its step, which begins a call or outputs a word.
     pub fn rounds(&mut self, count: u32) -> Result<(), NoMemory>
         ensures program { self.new.program ≡ self.old.program }
-        ensures rounds { OnOk result ((ms : List TypedModuleTree) (names : List (List ℕ)) (w : AWorld) → IsWorldOf self.old ms names w → IsWorldOf self.new ms names (definition.rounds (env_of ms) w count)) }
-        ensures cut { OnErr result ((ms : List TypedModuleTree) (names : List (List ℕ)) (w : AWorld) → IsWorldOf self.old ms names w → AfterSomeRounds (env_of ms) w count (IsWorldOf self.new ms names)) }
+        ensures rounds { OnOk result ((ms : List TypedModuleTree) (names : List (List ℕ)) (w : AWorld) →
+            IsWorldOf self.old ms names w → IsWorldOf self.new ms names (definition.rounds (env_of ms) w count)) }
+        ensures cut { OnErr result ((ms : List TypedModuleTree) (names : List (List ℕ)) (w : AWorld) →
+            IsWorldOf self.old ms names w → AfterSomeRounds (env_of ms) w count (IsWorldOf self.new ms names)) }
     {
         for _round in 0..count {
             if !self.round()? {

@@ -27,8 +27,12 @@ pub(crate) fn wait_of(
     holders: &[Option<u32>],
 ) -> Option<(u32, u32)>
     requires { ∥ IsUnfinished program.now config.now ∥₁ }
-    ensures waits { IfSome result (λ wait. (words : List ℕ) → OfNextStep program.now config.now words (λ s. (s.act ≡ Act.Lock wait.0) × (slice_get holders.now wait.0 ≡ Some (Some wait.1)))) }
-    ensures free { IfNone result ((words : List ℕ) → OfNextStep program.now config.now words (λ s. (l : ℕ) → s.act ≡ Act.Lock l → holder_in (slice_get holders.now l) ≡ None)) }
+    ensures waits { IfSome result (λ wait. (words : List ℕ) →
+        OfNextStep program.now config.now words (λ s. (s.act ≡ Act.Lock wait.0) ×
+        (slice_get holders.now wait.0 ≡ Some (Some wait.1)))) }
+    ensures free { IfNone result ((words : List ℕ) →
+        OfNextStep program.now config.now words (λ s. (l : ℕ) → s.act ≡ Act.Lock l →
+        holder_in (slice_get holders.now l) ≡ None)) }
 {
     match next_lock(program, config) {
         Some(lock) => match holder_of(holders, lock) {
@@ -63,7 +67,8 @@ pub(crate) fn state_at(
 ) -> ThreadState
     requires there { ∥ IsThere program.now config.now ∥₁ }
     requires may { ForThread program.now config.now (λ ms c. ∥ MayTurn shared.now.words.items holders.now ms c ∥₁) }
-    ensures { ForThread program.now config.now (λ ms c. result ≡ state_shown (state_in shared.now.words.items holders.now ms c)) }
+    ensures { ForThread program.now config.now (λ ms c.
+        result ≡ state_shown (state_in shared.now.words.items holders.now ms c)) }
 {
     if config.has_ended() {
         return ThreadState::Ended;

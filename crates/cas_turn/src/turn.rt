@@ -33,8 +33,10 @@ fn puts_out(act: Act) -> bool
 fn has_room(program: &Program, config: &Config, shared: &Shared, out: &mut Vec<(u32, u32)>) -> bool
     requires { ∥ CanStep program.now config.now shared.now.words.items ∥₁ }
     ensures same { out.new.items ≡ out.old.items }
-    ensures room { OnTrue result (OfNextStep program.now config.now shared.now.words.items (λ s. (n : ℕ) → s.act ≡ Act.Out n → vec_len out.new < vec_capacity out.new)) }
-    ensures full { OnFalse result (OfNextStep program.now config.now shared.now.words.items (λ s. (n : ℕ) × (s.act ≡ Act.Out n))) }
+    ensures room { OnTrue result (OfNextStep program.now config.now shared.now.words.items
+        (λ s. (n : ℕ) → s.act ≡ Act.Out n → vec_len out.new < vec_capacity out.new)) }
+    ensures full { OnFalse result (OfNextStep program.now config.now shared.now.words.items
+        (λ s. (n : ℕ) × (s.act ≡ Act.Out n))) }
 {
     if out.len() < out.capacity() {
         return true;
@@ -51,7 +53,8 @@ fn has_room(program: &Program, config: &Config, shared: &Shared, out: &mut Vec<(
 // The answer of a thread whose next step is Bad.
 fn bad_at(program: &Program, config: &Config, why: Why) -> WorldAnswer
     requires { ∥ IsUnfinished program.now config.now ∥₁ }
-    ensures { (words : List ℕ) → OfNextStep program.now config.now words (λ s. result ≡ WorldAnswer.Bad why s.unit s.place) }
+    ensures { (words : List ℕ) → OfNextStep program.now config.now words
+        (λ s. result ≡ WorldAnswer.Bad why s.unit s.place) }
 {
     let (module, place) = place_of(program, config);
     WorldAnswer::Bad { why, module, place }
@@ -69,11 +72,14 @@ fn run(
     requires stands { ∥ CanStep program.now config.old shared.old.words.items ∥₁ }
     requires may { ForThread program.now config.old (λ ms c. ∥ MayTurn shared.old.words.items holders.old ms c ∥₁) }
     requires goes_on { ForThread program.now config.old (λ ms c. c.activations ≢ []) }
-    requires free { OfNextStep program.now config.old shared.old.words.items (λ s. (l : ℕ) → s.act ≡ Act.Lock l → holder_in (slice_get holders.old l) ≡ None) }
-    ensures taken { OnOk result (ForThread program.now config.old (λ ms c. IsRunning (state_in shared.old.words.items holders.old ms c)
+    requires free { OfNextStep program.now config.old shared.old.words.items
+        (λ s. (l : ℕ) → s.act ≡ Act.Lock l → holder_in (slice_get holders.old l) ≡ None) }
+    ensures taken { OnOk result (ForThread program.now config.old
+        (λ ms c. IsRunning (state_in shared.old.words.items holders.old ms c)
         (λ s. IsAfter program.now thread holders.old out.old.items s config.new shared.new.words.items holders.new out.new.items))) }
     ensures unmoved { OnErr result (ForThread program.now config.old (λ _ c. IsUnmoved program.now c shared.old.words.items holders.old out.old.items config.new shared.new.words.items holders.new out.new.items)) }
-    ensures answer { IfErr result (λ answer. ForThread program.now config.old (λ ms c. Answers c.activations (state_in shared.old.words.items holders.old ms c) answer)) }
+    ensures answer { IfErr result (λ answer. ForThread program.now config.old
+        (λ ms c. Answers c.activations (state_in shared.old.words.items holders.old ms c) answer)) }
 {
     if !has_room(program, config, shared, out) {
         return Err(WorldAnswer::Memory);
@@ -101,10 +107,12 @@ pub(crate) fn turn(
 ) -> Result<(), WorldAnswer>
     requires there { ∥ IsThere program.now config.old ∥₁ }
     requires may { ForThread program.now config.old (λ ms c. ∥ MayTurn shared.old.words.items holders.old ms c ∥₁) }
-    ensures taken { OnOk result (ForThread program.now config.old (λ ms c. IsRunning (state_in shared.old.words.items holders.old ms c)
+    ensures taken { OnOk result (ForThread program.now config.old
+        (λ ms c. IsRunning (state_in shared.old.words.items holders.old ms c)
         (λ s. IsAfter program.now thread holders.old out.old.items s config.new shared.new.words.items holders.new out.new.items))) }
     ensures unmoved { OnErr result (ForThread program.now config.old (λ _ c. IsUnmoved program.now c shared.old.words.items holders.old out.old.items config.new shared.new.words.items holders.new out.new.items)) }
-    ensures answer { IfErr result (λ answer. ForThread program.now config.old (λ ms c. Answers c.activations (state_in shared.old.words.items holders.old ms c) answer)) }
+    ensures answer { IfErr result (λ answer. ForThread program.now config.old
+        (λ ms c. Answers c.activations (state_in shared.old.words.items holders.old ms c) answer)) }
 {
     if config.has_ended() {
         return Err(WorldAnswer::Ended);

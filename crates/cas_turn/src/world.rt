@@ -31,7 +31,9 @@ pub struct World {
     holders: Vec<Option<u32>>,
     /// The words that were output, each after its thread's number.
     out: Vec<(u32, u32)>,
-    pub ghost reached: { ∥ ((ms : List TypedModuleTree) × (names : List (List ℕ)) × (w : definition.World) × AreWorldOf program threads.items shared.words.items holders.items out.items ms names w × Reaches (env_of ms) (program_world ms names) w) ∥₁ },
+    pub ghost reached: { ∥ ((ms : List TypedModuleTree) × (names : List (List ℕ)) × (w : definition.World) ×
+        AreWorldOf program threads.items shared.words.items holders.items out.items ms names w ×
+        Reaches (env_of ms) (program_world ms names) w) ∥₁ },
     ghost numbered: { vec_len threads < 2 ^ 32 },
 }
 
@@ -41,7 +43,8 @@ impl World {
     /// The first world of a program: all threads at their entries, the initial words, no lock held, no output.
     pub fn start(alloc: Global, program: Program) -> Result<World, NoMemory>
         ensures program { IfOk result (λ world. world.program ≡ program) }
-        ensures first { IfOk result (λ world. (ms : List TypedModuleTree) (names : List (List ℕ)) → IsProgramOf program ms names → IsWorldOf world ms names (program_world ms names)) }
+        ensures first { IfOk result (λ world. (ms : List TypedModuleTree) (names : List (List ℕ)) →
+            IsProgramOf program ms names → IsWorldOf world ms names (program_world ms names)) }
     {
         let words = initial_words(alloc, &program)?;
         let holders = no_holders(alloc, words.len())?;
@@ -71,14 +74,16 @@ impl World {
 
     /// The output so far: the words that were output, each after its thread's number, the first one first.
     pub fn out(&self) -> &[(u32, u32)]
-        ensures { (ms : List TypedModuleTree) (names : List (List ℕ)) (w : definition.World) → IsWorldOf self.now ms names w → result.now ≡ w.out }
+        ensures { (ms : List TypedModuleTree) (names : List (List ℕ)) (w : definition.World) →
+            IsWorldOf self.now ms names w → result.now ≡ w.out }
     {
         self.out.as_slice()
     }
 
     /// The state of a thread. A thread that isn't there has ended.
     pub fn state(&self, thread: u32) -> ThreadState
-        ensures { (ms : List TypedModuleTree) (names : List (List ℕ)) (w : definition.World) → IsWorldOf self.now ms names w → result ≡ state_shown (state_of (env_of ms) w thread) }
+        ensures { (ms : List TypedModuleTree) (names : List (List ℕ)) (w : definition.World) →
+            IsWorldOf self.now ms names w → result ≡ state_shown (state_of (env_of ms) w thread) }
     {
         cas_whole::laws::programs_are_one();
         cas_thread::laws::threads_are_one();
@@ -96,9 +101,14 @@ impl World {
         requires { thread < vec_len self.old.threads }
         ensures program { self.new.program ≡ self.old.program }
         ensures threads { vec_len self.new.threads ≡ vec_len self.old.threads }
-        ensures taken { OnOk result ((ms : List TypedModuleTree) (names : List (List ℕ)) (w : definition.World) → IsWorldOf self.old ms names w → IsRunning (state_of (env_of ms) w thread) (λ s. IsWorldOf self.new ms names (world_after w thread s))) }
-        ensures unmoved { OnErr result ((ms : List TypedModuleTree) (names : List (List ℕ)) (w : definition.World) → IsWorldOf self.old ms names w → IsWorldOf self.new ms names w) }
-        ensures answer { IfErr result (λ answer. (ms : List TypedModuleTree) (names : List (List ℕ)) (w : definition.World) → IsWorldOf self.old ms names w → Answers (activations_of w thread) (state_of (env_of ms) w thread) answer) }
+        ensures taken { OnOk result ((ms : List TypedModuleTree) (names : List (List ℕ)) (w : definition.World) →
+            IsWorldOf self.old ms names w → IsRunning (state_of (env_of ms) w thread)
+            (λ s. IsWorldOf self.new ms names (world_after w thread s))) }
+        ensures unmoved { OnErr result ((ms : List TypedModuleTree) (names : List (List ℕ)) (w : definition.World) →
+            IsWorldOf self.old ms names w → IsWorldOf self.new ms names w) }
+        ensures answer { IfErr result (λ answer. (ms : List TypedModuleTree) (names : List (List ℕ))
+            (w : definition.World) → IsWorldOf self.old ms names w →
+            Answers (activations_of w thread) (state_of (env_of ms) w thread) answer) }
     {
         cas_whole::laws::programs_are_one();
         cas_thread::laws::threads_are_one();

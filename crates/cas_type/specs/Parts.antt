@@ -1,4 +1,4 @@
--- Items by their parts, counts that stand still, and the locals whose pointers are made.
+-- Items by their parts, capped counts, and the locals whose pointers are made.
 use Rattle.std.specs.Prelude.{ℕ, zero, suc, ◌+◌, ◌-◌, ◌^◌, ◌==◌, Bool, ◌||◌, nat_le, min, List, [], ◌∷◌, ◌++◌, length, if◌then◌else◌, Option, Some, None}
 use Rattle.std.specs.List.{list_any}
 use Rattle.cas_base.specs.declared.decl.Decl.{Decl}
@@ -22,11 +22,11 @@ use Rattle.cas_typed.specs.Scopes.{item_named}
 use Rattle.cas_typed.specs.Types.{variable_type}
 use Rattle.cas_typed.specs.Walk.{at_found}
 
--- a count, or the greatest `u64` where it is greater
+-- a count, or the greatest `u64` if it is greater
 abbrev pub capped : ℕ → ℕ
 capped n = min n (2 ^ 64 - 1)
 
--- a name where a text has it
+-- a name with its place in a text
 abbrev pub ident_of : Named → Ident
 ident_of x = record { name = x.name.now; place = x.place }
 
@@ -133,8 +133,9 @@ abbrev pub marked : (further number : ℕ) → List Bool → List Bool
 marked m n [] = []
 marked m n (b ∷ bs) = (b || (m == n)) ∷ marked m (n + 1) bs
 
--- locals of these types, behind so many cells, each with its mark
+-- locals of these types, after this many cells, each with its mark
 abbrev pub marked_locals : (marks : List Bool) → (first : ℕ) → List Ty → List Local
 marked_locals [] first tys = []
 marked_locals (b ∷ bs) first [] = []
-marked_locals (b ∷ bs) first (ty ∷ tys) = record { ty = ty; first = first; addressed = b } ∷ marked_locals bs (first + words_of_ty ty) tys
+marked_locals (b ∷ bs) first (ty ∷ tys) = record { ty = ty; first = first; addressed = b } ∷ marked_locals bs
+    (first + words_of_ty ty) tys

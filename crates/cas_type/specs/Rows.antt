@@ -23,17 +23,20 @@ Adds old new count = (length new ≡ length old + count) × ((i : ℕ) → i < l
 -- a statement that is walked through has the row with this number, the first after those before; or its fault is
 -- answered
 abbrev pub StmtWalks : (old new : List StmtRow) → Result ℕ TypeFault → Result TypedStmtTree Fault → Type 0
-StmtWalks old new (Ok n) walked = (a : TypedStmtTree) × (walked ≡ Ok a) × IsPartRow new (length old) (present a) (Some n) × Adds old new (size_of a)
+StmtWalks old new (Ok n) walked = (a : TypedStmtTree) × (walked ≡ Ok a) ×
+    IsPartRow new (length old) (present a) (Some n) × Adds old new (size_of a)
 StmtWalks old new (Err f) walked = Fails f walked
 
 -- the same of a part that may be missing
 abbrev pub PartWalks : (old new : List StmtRow) → Result (Option ℕ) TypeFault → Result TypedStmtOption Fault → Type 0
-PartWalks old new (Ok j) walked = (o : TypedStmtOption) × (walked ≡ Ok o) × IsPartRow new (length old) o j × Adds old new (size_of_option o)
+PartWalks old new (Ok j) walked = (o : TypedStmtOption) × (walked ≡ Ok o) × IsPartRow new (length old) o j ×
+    Adds old new (size_of_option o)
 PartWalks old new (Err f) walked = Fails f walked
 
 -- the same of statements one after another
 abbrev pub ListWalks : (old new : List StmtRow) → Result (List ℕ) TypeFault → Result TypedStmtList Fault → Type 0
-ListWalks old new (Ok ns) walked = (bs : TypedStmtList) × (walked ≡ Ok bs) × AreRows new (length old) bs ns × Adds old new (size_of_list bs)
+ListWalks old new (Ok ns) walked = (bs : TypedStmtList) × (walked ≡ Ok bs) × AreRows new (length old) bs ns ×
+    Adds old new (size_of_list bs)
 ListWalks old new (Err f) walked = Fails f walked
 
 -- the statement that a row without parts stands for
@@ -67,7 +70,7 @@ IsPlain (tree.unlock p x) = ⊤
 IsPlain (tree.print p a) = ⊤
 IsPlain _ = ⊥
 
--- behind statements of a block
+-- the scope after statements of a block
 abbrev pub after_list : Scope → StmtList → Scope
 after_list s no_more = s
 after_list s (one_more a bs) = after_list (after s a) bs
@@ -79,5 +82,6 @@ part_tree (Some s) = tree.present (stmt_tree s.value)
 
 -- a body that is walked through has rows of its own from 0 on, or its fault is answered
 abbrev pub BodyWalks : Result Walked TypeFault → Result TypedStmtList Fault → Type 0
-BodyWalks (Ok b) walked = (bs : TypedStmtList) × (walked ≡ Ok bs) × AreRows b.rows 0 bs b.body × (length b.rows ≡ size_of_list bs)
+BodyWalks (Ok b) walked = (bs : TypedStmtList) × (walked ≡ Ok bs) × AreRows b.rows 0 bs b.body ×
+    (length b.rows ≡ size_of_list bs)
 BodyWalks (Err f) walked = Fails f walked

@@ -56,7 +56,7 @@ meaning_of (Item n form) = s.item n form.now
 abbrev pub bound_of : Visible → s.Bound
 bound_of v = record { name = v.name.now; number = v.number; ty = v.ty }
 
--- the index of the newest local of a name, among locals of which the newest one stands first
+-- the index of the newest local of a name, among locals with the newest one first
 abbrev pub newest_of : List s.Bound → List ℕ → Option ℕ
 newest_of [] name = None
 newest_of (v ∷ vs) name = if bytes_eq v.name name then Some (length vs) else newest_of vs name
@@ -103,7 +103,7 @@ extended done (Some es) = Some (done ++ es)
 abbrev pub called_tree : Place → (at : Place) → Called → TypedStmtTree
 called_tree p at c = call p c.kept c.item at (map typed_expr_tree c.args)
 
--- out of a block: around it stand the oldest so many locals again
+-- the scope after a block: the oldest locals, this many, are again those around it
 abbrev pub outside : ℕ → s.Scope → s.Scope
 outside n s = record s { block = take (length s.around - n) s.around; around = drop (length s.around - n) s.around }
 

@@ -28,7 +28,8 @@ pub fn statement<'a>(
     within: Within,
     stmt: &'a Stmt,
 ) -> Result<u32, TypeFault>
-    ensures rows { StmtWalks made.old.rows.items made.new.rows.items result (w.walk within.ret within.in_loop scopes.old (stmt_tree stmt.now)) }
+    ensures rows { StmtWalks made.old.rows.items made.new.rows.items result
+        (w.walk within.ret within.in_loop scopes.old (stmt_tree stmt.now)) }
     ensures locals { OnOk result (made.new.locals.items ≡ made.old.locals.items ++ s.locals_of (stmt_tree stmt.now)) }
     ensures scope { OnOk result (scopes.new ≡ s.after scopes.old (stmt_tree stmt.now)) }
 {
@@ -65,7 +66,8 @@ fn local<'a>(
     ident: &'a Ident,
     init: &Init,
 ) -> Result<u32, TypeFault>
-    ensures rows { StmtWalks made.old.rows.items made.new.rows.items result (w.walk_declare scopes.old place ty ident.now (init_tree init.now)) }
+    ensures rows { StmtWalks made.old.rows.items made.new.rows.items result
+        (w.walk_declare scopes.old place ty ident.now (init_tree init.now)) }
     ensures locals { OnOk result (made.new.locals.items ≡ made.old.locals.items ++ ty ∷ []) }
     ensures scope { OnOk result (scopes.new ≡ s.declaring scopes.old ty ident.now) }
 {
@@ -83,7 +85,8 @@ fn part<'a>(
     within: Within,
     stmt: &'a Stmt,
 ) -> Result<u32, TypeFault>
-    ensures rows { StmtWalks made.old.rows.items made.new.rows.items result (w.walk within.ret within.in_loop scopes.old (stmt_tree stmt.now)) }
+    ensures rows { StmtWalks made.old.rows.items made.new.rows.items result
+        (w.walk within.ret within.in_loop scopes.old (stmt_tree stmt.now)) }
     ensures locals { OnOk result (made.new.locals.items ≡ made.old.locals.items ++ s.locals_of (stmt_tree stmt.now)) }
     ensures scope { OnOk result (scopes.new ≡ s.past scopes.old (stmt_tree stmt.now)) }
 {
@@ -101,8 +104,10 @@ fn first_part<'a>(
     within: Within,
     stmt: &'a Option<Box<Stmt>>,
 ) -> Result<Option<u32>, TypeFault>
-    ensures rows { PartWalks made.old.rows.items made.new.rows.items result (w.walk_part within.ret within.in_loop scopes.old (part_tree stmt.now)) }
-    ensures locals { OnOk result (made.new.locals.items ≡ made.old.locals.items ++ s.locals_of_option (part_tree stmt.now)) }
+    ensures rows { PartWalks made.old.rows.items made.new.rows.items result
+        (w.walk_part within.ret within.in_loop scopes.old (part_tree stmt.now)) }
+    ensures locals { OnOk result (made.new.locals.items ≡ made.old.locals.items ++ s.locals_of_option
+        (part_tree stmt.now)) }
     ensures scope { OnOk result (scopes.new ≡ s.after_option scopes.old (part_tree stmt.now)) }
 {
     match stmt {
@@ -119,8 +124,10 @@ fn optional_part<'a>(
     within: Within,
     stmt: &'a Option<Box<Stmt>>,
 ) -> Result<Option<u32>, TypeFault>
-    ensures rows { PartWalks made.old.rows.items made.new.rows.items result (w.walk_part within.ret within.in_loop scopes.old (part_tree stmt.now)) }
-    ensures locals { OnOk result (made.new.locals.items ≡ made.old.locals.items ++ s.locals_of_option (part_tree stmt.now)) }
+    ensures rows { PartWalks made.old.rows.items made.new.rows.items result
+        (w.walk_part within.ret within.in_loop scopes.old (part_tree stmt.now)) }
+    ensures locals { OnOk result (made.new.locals.items ≡ made.old.locals.items ++ s.locals_of_option
+        (part_tree stmt.now)) }
     ensures scope { OnOk result (scopes.new ≡ s.past_option scopes.old (part_tree stmt.now)) }
 {
     match stmt {
@@ -137,8 +144,10 @@ fn list<'a>(
     within: Within,
     stmts: &'a [Stmt],
 ) -> Result<Seq<u32>, TypeFault>
-    ensures rows { ListWalks made.old.rows.items made.new.rows.items result (w.walk_list within.ret within.in_loop scopes.old (stmt_trees stmts.now)) }
-    ensures locals { OnOk result (made.new.locals.items ≡ made.old.locals.items ++ s.locals_of_list (stmt_trees stmts.now)) }
+    ensures rows { ListWalks made.old.rows.items made.new.rows.items result
+        (w.walk_list within.ret within.in_loop scopes.old (stmt_trees stmts.now)) }
+    ensures locals { OnOk result (made.new.locals.items ≡ made.old.locals.items ++ s.locals_of_list
+        (stmt_trees stmts.now)) }
     ensures scope { OnOk result (scopes.new ≡ after_list scopes.old (stmt_trees stmts.now)) }
 {
     let mut numbers = Vec::new(made.alloc);
@@ -160,7 +169,8 @@ fn block<'a>(
 ) -> Result<u32, TypeFault>
     ensures rows { StmtWalks made.old.rows.items made.new.rows.items result
         (w.walk within.ret within.in_loop scopes.old (tree.block place (stmt_trees stmts.now))) }
-    ensures locals { OnOk result (made.new.locals.items ≡ made.old.locals.items ++ s.locals_of (tree.block place (stmt_trees stmts.now))) }
+    ensures locals { OnOk result (made.new.locals.items ≡ made.old.locals.items ++ s.locals_of
+        (tree.block place (stmt_trees stmts.now))) }
     ensures scope { OnOk result (scopes.new ≡ s.past scopes.old (tree.block place (stmt_trees stmts.now))) }
 {
     let number = made.begin(place)?;
@@ -183,7 +193,8 @@ fn branches<'a>(
     second: &'a Option<Box<Stmt>>,
 ) -> Result<u32, TypeFault>
     ensures rows { StmtWalks made.old.rows.items made.new.rows.items result
-        (w.walk within.ret within.in_loop scopes.old (tree.if_ place (expr_tree test.now) (stmt_tree first.now) (part_tree second.now))) }
+        (w.walk within.ret within.in_loop scopes.old (tree.if_ place (expr_tree test.now) (stmt_tree first.now)
+        (part_tree second.now))) }
     ensures locals { OnOk result (made.new.locals.items
         ≡ made.old.locals.items ++ s.locals_of (tree.if_ place (expr_tree test.now) (stmt_tree first.now) (part_tree second.now))) }
     ensures scope { OnOk result (scopes.new
@@ -212,7 +223,8 @@ fn while_loop<'a>(
         (w.walk within.ret within.in_loop scopes.old (tree.while_ place (expr_tree test.now) (stmt_tree body.now))) }
     ensures locals { OnOk result (made.new.locals.items
         ≡ made.old.locals.items ++ s.locals_of (tree.while_ place (expr_tree test.now) (stmt_tree body.now))) }
-    ensures scope { OnOk result (scopes.new ≡ s.past scopes.old (tree.while_ place (expr_tree test.now) (stmt_tree body.now))) }
+    ensures scope { OnOk result (scopes.new ≡ s.past scopes.old
+        (tree.while_ place (expr_tree test.now) (stmt_tree body.now))) }
 {
     let number = made.begin(place)?;
     let test = values::test(made.alloc, scopes, place, test)?;
@@ -236,7 +248,8 @@ fn do_loop<'a>(
         (w.walk within.ret within.in_loop scopes.old (tree.do_ place (stmt_tree body.now) (expr_tree test.now))) }
     ensures locals { OnOk result (made.new.locals.items
         ≡ made.old.locals.items ++ s.locals_of (tree.do_ place (stmt_tree body.now) (expr_tree test.now))) }
-    ensures scope { OnOk result (scopes.new ≡ s.past scopes.old (tree.do_ place (stmt_tree body.now) (expr_tree test.now))) }
+    ensures scope { OnOk result (scopes.new ≡ s.past scopes.old
+        (tree.do_ place (stmt_tree body.now) (expr_tree test.now))) }
 {
     // The condition stands outside of the body's scope, and its fault comes after the body's.
     let number = made.begin(place)?;

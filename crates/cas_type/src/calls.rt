@@ -112,7 +112,8 @@ fn add_arguments(
     args: &[Expr],
     tys: &[Ty],
 ) -> Result<bool, NoMemory>
-    ensures { IfOk result (λ all. values_if all values.new.items ≡ extended (map typed_expr_tree values.old.items) (r.values_of scopes.now (map expr_tree args.now) tys.now)) }
+    ensures { IfOk result (λ all. values_if all values.new.items ≡ extended (map typed_expr_tree values.old.items)
+        (r.values_of scopes.now (map expr_tree args.now) tys.now)) }
 {
     let mut rest = args;
     let mut types = tys;
@@ -160,7 +161,8 @@ fn callee(
     args: &[Expr],
     meaning: Meaning<'_>,
 ) -> Result<Called, TypeFault>
-    ensures { Answers (called_tree place ident.now.place) result (w.walk_callee scopes.now place kept ident.now (map expr_tree args.now) (meaning_of meaning.entry)) }
+    ensures { Answers (called_tree place ident.now.place) result
+        (w.walk_callee scopes.now place kept ident.now (map expr_tree args.now) (meaning_of meaning.entry)) }
 {
     match meaning {
         Meaning::Item(item, form) => match form {
@@ -195,7 +197,8 @@ pub fn call(
     ident: &Ident,
     args: &[Expr],
 ) -> Result<Called, TypeFault>
-    ensures { Answers (called_tree place ident.now.place) result (w.walk_call scopes.now place (option_copied keeper.entry) ident.now (map expr_tree args.now)) }
+    ensures { Answers (called_tree place ident.now.place) result
+        (w.walk_call scopes.now place (option_copied keeper.entry) ident.now (map expr_tree args.now)) }
 {
     check_keeper(alloc, scopes, keeper)?;
     check_declared(alloc, ident, scopes.meaning(ident))?;

@@ -195,7 +195,8 @@ pub fn choice(
     left: Found,
     right: Found,
 ) -> Result<Found, NoMemory>
-    ensures { IfOk result (λ whole. found_of whole ≡ r.choice (boxed_tree test) left_null right_null (found_of left) (found_of right)) }
+    ensures { IfOk result (λ whole. found_of whole ≡ r.choice (boxed_tree test) left_null right_null (found_of left)
+        (found_of right)) }
 {
     match pair(left, right) {
         Some(operands) => match test {
@@ -220,7 +221,8 @@ fn chosen(
     right_null: bool,
     operands: Operands,
 ) -> Result<Found, NoMemory>
-    ensures { IfOk result (λ whole. found_of whole ≡ r.choice (Some (typed_expr_tree test.value)) left_null right_null (left_of operands) (right_of operands)) }
+    ensures { IfOk result (λ whole. found_of whole ≡ r.choice (Some (typed_expr_tree test.value)) left_null right_null
+        (left_of operands) (right_of operands)) }
 {
     match operands {
         Operands::Words(a, j, b, k) => {

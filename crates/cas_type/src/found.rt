@@ -80,7 +80,8 @@ pub fn both_ok<T: Drop>(
 
 /// Both operands, where both fit.
 pub fn pair(left: Found, right: Found) -> Option<Operands>
-    ensures { MatchOption result ((found_of left ≡ r.unfit) ⊎ (found_of right ≡ r.unfit)) (λ o. (left_of o ≡ found_of left) × (right_of o ≡ found_of right)) }
+    ensures { MatchOption result ((found_of left ≡ r.unfit) ⊎ (found_of right ≡ r.unfit))
+        (λ o. (left_of o ≡ found_of left) × (right_of o ≡ found_of right)) }
 {
     match left {
         Found::Unfit => None,

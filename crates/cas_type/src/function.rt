@@ -29,7 +29,8 @@ use std::alloc::Global;
 // The counts of a function that has locals of these types.
 fn check_sizes(fun: &Fun, tys: &[Ty]) -> Result<(), TypeFault>
     requires { tys.now ≡ c.local_types (fun_tree fun.now) }
-    ensures counts { Passes result (sooner (above c.most_cells fun.now.place Cells (c.cells_of (fun_tree fun.now))) (above c.most_nodes fun.now.place Nodes (c.nodes_of (fun_tree fun.now)))) }
+    ensures counts { Passes result (sooner (above c.most_cells fun.now.place Cells (c.cells_of (fun_tree fun.now)))
+        (above c.most_nodes fun.now.place Nodes (c.nodes_of (fun_tree fun.now)))) }
     ensures few { OnOk result (sum (map words_of_ty tys.now) ≤ c.most_cells) }
 {
     check_count(MOST_CELLS, fun.place, TypeCount::Cells, count_cells(0, tys))?;
@@ -56,7 +57,8 @@ fn locals_of(alloc: Global, rows: &[StmtRow], tys: &[Ty]) -> Result<Seq<Local>, 
 fn finished(alloc: Global, item: u32, fun: &Fun, walked: Walked) -> Result<TypedFun, TypeFault>
     requires { walked.locals ≡ s.locals_of_list (fun_tree fun.now).body }
     ensures { (bs : TypedStmtList) → AreRows walked.rows 0 bs walked.body → length walked.rows ≡ size_of_list bs
-        → GivesFunction result (unless (sooner (above c.most_cells fun.now.place Cells (c.cells_of (fun_tree fun.now))) (above c.most_nodes fun.now.place Nodes (c.nodes_of (fun_tree fun.now))))
+        → GivesFunction result (unless (sooner (above c.most_cells fun.now.place Cells (c.cells_of (fun_tree fun.now)))
+        (above c.most_nodes fun.now.place Nodes (c.nodes_of (fun_tree fun.now))))
         (Ok (record { item = item; locals = m.locals_in bs 0 0 (c.local_types (fun_tree fun.now)); body = bs }))) }
 {
     let tys = all_types(

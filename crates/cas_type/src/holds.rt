@@ -67,7 +67,8 @@ impl<'a> Seen<'a> {
 
 // A name that isn't declared.
 fn check_declared(alloc: Global, symbols: &Symbols<'_>, named: &Named<'_>) -> Result<(), TypeFault>
-    ensures { Passes result (if list_any (is_named named.now.name.now) symbols.now then None else Some (fault T1 named.now.place (Some named.now.name.now))) }
+    ensures { Passes result (if list_any (is_named named.now.name.now) symbols.now then None else Some
+        (fault T1 named.now.place (Some named.now.name.now))) }
 {
     if symbols.is_declared(named.name) {
         Ok(())
@@ -92,7 +93,8 @@ pub fn check_held(
 
 // A name that was met before; if it wasn't, it is met now.
 fn check_new<'a>(alloc: Global, seen: &mut Seen<'a>, named: &Named<'a>) -> Result<(), TypeFault>
-    ensures fault { Passes result (if list_any (bytes_eq named.now.name.now) seen.old then Some (fault T2 named.now.place (Some named.now.name.now)) else None) }
+    ensures fault { Passes result (if list_any (bytes_eq named.now.name.now) seen.old then Some
+        (fault T2 named.now.place (Some named.now.name.now)) else None) }
     ensures seen { OnOk result (seen.new ≡ named.now.name.now ∷ seen.old) }
 {
     if seen.has(named.name) {

@@ -120,7 +120,8 @@ fn check_defined_once(
     decl: &Decl,
     place: Place,
 ) -> Result<(), TypeFault>
-    ensures { Passes result (if m.is_defined_again symbols.now decl.now then Some (fault T2 place (Some decl.now.name)) else None) }
+    ensures { Passes result (if m.is_defined_again symbols.now decl.now then Some
+        (fault T2 place (Some decl.now.name)) else None) }
 {
     if is_defined_again(symbols, decl) {
         Err(refusal_of(alloc, TypeCode::T2, &decl.name, place))
@@ -131,7 +132,8 @@ fn check_defined_once(
 
 // The counts that an item's declaration may pass, with the totals of the declarations before it.
 fn check_counts(decl: &Decl, place: Place, totals: Totals) -> Result<(), TypeFault>
-    ensures { (before : List Decl) → totals.functions ≡ capped (c.function_count before) → totals.words ≡ capped (c.word_count before)
+    ensures { (before : List Decl) → totals.functions ≡ capped (c.function_count before) →
+        totals.words ≡ capped (c.word_count before)
         → Passes result (p.counts_fault before decl.now place) }
 {
     let parameters = parameter_types(&decl.form).len() as u64;
@@ -157,7 +159,8 @@ fn check_fit(
 ) -> Result<(), TypeFault>
     requires functions { totals.functions ≡ capped (c.function_count symbols.now) }
     requires words { totals.words ≡ capped (c.word_count symbols.now) }
-    ensures { Passes result (p.fit_fault symbols.now parts.entry.decl.now parts.entry.values.now (map ident_of held.now) parts.entry.place) }
+    ensures { Passes result (p.fit_fault symbols.now parts.entry.decl.now parts.entry.values.now
+        (map ident_of held.now) parts.entry.place) }
 {
     let decl = parts.decl;
     let place = parts.place;
@@ -190,7 +193,9 @@ fn check_holding(
 ) -> Result<(), TypeFault>
     requires functions { totals.functions ≡ capped (c.function_count symbols.now) }
     requires words { totals.words ≡ capped (c.word_count symbols.now) }
-    ensures { Passes result (p.parts_fault symbols.now parts.entry.decl.now parts.entry.values.now parts.entry.params.now (map ident_of held.now) parts.entry.place) }
+    ensures { Passes result
+        (p.parts_fault symbols.now parts.entry.decl.now parts.entry.values.now parts.entry.params.now
+        (map ident_of held.now) parts.entry.place) }
 {
     check_held(alloc, symbols, held)?;
     check_defined_once(alloc, symbols, parts.decl, parts.place)?;
@@ -208,7 +213,8 @@ fn check_parts(
 ) -> Result<(), TypeFault>
     requires functions { totals.functions ≡ capped (c.function_count symbols.now) }
     requires words { totals.words ≡ capped (c.word_count symbols.now) }
-    ensures { Passes result (p.parts_fault symbols.now parts.entry.decl.now parts.entry.values.now parts.entry.params.now
+    ensures { Passes result
+        (p.parts_fault symbols.now parts.entry.decl.now parts.entry.values.now parts.entry.params.now
         (m.placed parts.entry.place (m.held_by parts.entry.decl.now.form) parts.entry.held.now) parts.entry.place) }
 {
     let names = held_by(&parts.decl.form);

@@ -1,13 +1,15 @@
-//! The typer: what modules are resolved to, or their first faults. Each function stands for one of `cas_typed`'s
-//! walk and has one equation to it: kinds (`kinds`), what is found of expressions by their operators and forms
-//! (`found`, `operators`, `forms`), what names mean (`scope`, `locals`) and their faults (`names`), expressions
-//! (`resolve`), targets (`targets`), conditions, values and assignments (`values`), calls (`calls`), statements
-//! without parts (`plain`, `declare`), bodies (`body`), whose statements stand in rows (`rows`), the names of an
-//! item (`named`, `holds`), counts (`counts`), items (`item`), the locals of functions and whose pointers are made
-//! (`marks`, `pointers`), functions (`function`) and modules (`module`). `specs/View`, `specs/Parts` and
-//! `specs/Rows` say what the typer's values stand for, `specs/Answer` and `specs/Whole_walk` what its answers say of
-//! the walk: a fault that is answered is the walk's, and running out of memory says nothing. It depends on `cas_base`,
-//! `cas_syntax`, `cas_typed` and `indexmap`.
+//! The typer: it resolves a module, or reports the module's first fault. `type_module` is the only call. Each function
+//! computes one function of the walk in `cas_typed`, and its contract says so.
+//!
+//! - Expressions: `kinds`, `found`, `operators` and `forms` combine what is found of operands; `scope` and `locals` say
+//!   what names mean, and `names` reports their faults; `resolve` and `targets` resolve expressions and targets.
+//! - Statements: `values`, `calls`, `plain` and `declare` type statements without parts, `body` types bodies; `rows`
+//!   holds the rows of statements.
+//! - Items: `named` and `holds` check names, `counts` the limits, `item` the items; `marks` and `pointers` find the
+//!   locals whose addresses are taken; `function` and `module` type functions and modules.
+//!
+//! `specs/View`, `Parts` and `Rows` say what the typer's values stand for; `Answer` and `Whole_walk` relate its
+//! answers to the walk: an answered fault is the walk's, and running out of memory says nothing.
 #![tactic(auto)]
 
 mod body;

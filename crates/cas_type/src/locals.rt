@@ -52,7 +52,9 @@ impl<'a> Model for Locals<'a> {
 // A name that is in the table goes back to the local with this index, or out of the table.
 fn give_back<'a>(newest: &mut IndexMap<&'a str, usize>, name: &str, hidden: Option<usize>)
     requires { IsSome (lookup (λ key. bytes_eq name.now key.now) newest.now.entries) }
-    ensures { (other : List ℕ) → lookup (λ key. bytes_eq other key.now) newest.new.entries ≡ if bytes_eq name.now other then hidden else lookup (λ key. bytes_eq other key.now) newest.old.entries }
+    ensures { (other : List ℕ) →
+        lookup (λ key. bytes_eq other key.now) newest.new.entries ≡ if bytes_eq name.now other then hidden else lookup
+        (λ key. bytes_eq other key.now) newest.old.entries }
 {
     match hidden {
         Some(hidden) => {
@@ -86,7 +88,8 @@ impl<'a> Locals<'a> {
 
     /// One more.
     pub fn push(&mut self, ident: &'a Ident, number: u32, ty: Ty) -> Result<(), NoMemory>
-        ensures pushed { OnOk result (self.new ≡ record { name = ident.now.name; number = number; ty = ty } ∷ self.old) }
+        ensures pushed { OnOk result (self.new ≡ record { name = ident.now.name; number = number; ty = ty } ∷
+            self.old) }
         ensures kept { OnErr result (self.new ≡ self.old) }
     {
         let index = self.stack.len();

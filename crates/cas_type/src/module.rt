@@ -176,7 +176,8 @@ fn filled_module(alloc: Global, module: Module) -> Result<Module, NoMemory>
 /// `Memory`.
 pub fn type_module(alloc: Global, module: Module) -> Result<Typed, TypeFault>
     requires formed { IsFormed (module_tree «module») }
-    ensures typed { IfOk result (λ typed. (r : TypedModuleTree) × IsTypedAs typed r × m.IsTyped (module_tree «module») r) }
+    ensures typed { IfOk result (λ typed. (r : TypedModuleTree) × IsTypedAs typed r ×
+        m.IsTyped (module_tree «module») r) }
     ensures fault { IfErr result (λ fault. HasFault (module_tree «module») fault) }
 {
     let functions = walk(alloc, module.items.as_slice())?;

@@ -114,7 +114,8 @@ fn compared(
     left: Box<TypedExpr>,
     right: Box<TypedExpr>,
 ) -> Result<Found, NoMemory>
-    ensures { IfOk result (λ found. found_of found ≡ r.fits (compare operator (typed_expr_tree left.value) (typed_expr_tree right.value)) (Int I32)) }
+    ensures { IfOk result (λ found. found_of found ≡ r.fits
+        (compare operator (typed_expr_tree left.value) (typed_expr_tree right.value)) (Int I32)) }
 {
     word(alloc, TypedExpr::Compare(operator, left, right), Kind::I32)
 }
@@ -127,7 +128,8 @@ pub fn equality(
     right_null: bool,
     operands: Operands,
 ) -> Result<Found, NoMemory>
-    ensures { IfOk result (λ found. found_of found ≡ r.equality operator left_null right_null (left_of operands) (right_of operands)) }
+    ensures { IfOk result (λ found. found_of found ≡ r.equality operator left_null right_null (left_of operands)
+        (right_of operands)) }
 {
     match operands {
         Operands::PointerAndWord(p, _, _, _) => {
@@ -155,7 +157,8 @@ pub fn binary(
     left: Found,
     right: Found,
 ) -> Result<Found, NoMemory>
-    ensures { IfOk result (λ found. found_of found ≡ r.binary_found operator left_null right_null (found_of left) (found_of right)) }
+    ensures { IfOk result (λ found. found_of found ≡ r.binary_found operator left_null right_null (found_of left)
+        (found_of right)) }
 {
     match pair(left, right) {
         Some(operands) => operate(alloc, operator, left_null, right_null, operands),
@@ -171,7 +174,8 @@ fn operate(
     right_null: bool,
     operands: Operands,
 ) -> Result<Found, NoMemory>
-    ensures { IfOk result (λ found. found_of found ≡ r.binary_found operator left_null right_null (left_of operands) (right_of operands)) }
+    ensures { IfOk result (λ found. found_of found ≡ r.binary_found operator left_null right_null (left_of operands)
+        (right_of operands)) }
 {
     match operator {
         BinaryOperator::Add => sum(alloc, operands),

@@ -44,7 +44,8 @@ fn type_assign(
     operator: Option<BinaryOperator>,
     expr: &Expr,
 ) -> Result<StmtRowForm, TypeFault>
-    ensures { AnswersPlain place result (w.walk_assign scopes.now place (target_tree target.now) operator (expr_tree expr.now)) }
+    ensures { AnswersPlain place result (w.walk_assign scopes.now place (target_tree target.now) operator
+        (expr_tree expr.now)) }
 {
     let assignment = assigned(alloc, scopes, place, target, operator, expr)?;
     Ok(assign_form(assignment))
@@ -83,7 +84,8 @@ pub fn type_call(
     ident: &Ident,
     args: &[Expr],
 ) -> Result<StmtRowForm, TypeFault>
-    ensures { AnswersPlain place result (w.walk_call scopes.now place (option_copied keeper.entry) ident.now (map expr_tree args.now)) }
+    ensures { AnswersPlain place result (w.walk_call scopes.now place (option_copied keeper.entry) ident.now
+        (map expr_tree args.now)) }
 {
     let called = call(alloc, scopes, place, keeper, ident, args)?;
     Ok(StmtRowForm::Call(called.kept, called.item, ident.place, called.args))
@@ -132,7 +134,8 @@ fn type_print(
     place: Place,
     expr: &Expr,
 ) -> Result<StmtRowForm, TypeFault>
-    ensures { AnswersPlain place result (then_ (w.walk_value scopes.now place (expr_tree expr.now) (Int I32)) (λ e. Ok (t.print place e))) }
+    ensures { AnswersPlain place result (then_ (w.walk_value scopes.now place (expr_tree expr.now) (Int I32))
+        (λ e. Ok (t.print place e))) }
 {
     let value = value(alloc, scopes, place, expr, Ty::Int(Kind::I32))?;
     Ok(StmtRowForm::Print(Box::into_inner(value)))
@@ -145,7 +148,8 @@ fn type_lock(
     place: Place,
     ident: &Ident,
 ) -> Result<StmtRowForm, TypeFault>
-    ensures { AnswersPlain place result (then_ (w.walk_lock place ident.now (s.meaning scopes.now ident.now)) (λ g. Ok (t.lock place g))) }
+    ensures { AnswersPlain place result (then_ (w.walk_lock place ident.now (s.meaning scopes.now ident.now))
+        (λ g. Ok (t.lock place g))) }
 {
     let item = lock(alloc, scopes, place, ident)?;
     Ok(StmtRowForm::Lock(item))
@@ -158,7 +162,8 @@ fn type_unlock(
     place: Place,
     ident: &Ident,
 ) -> Result<StmtRowForm, TypeFault>
-    ensures { AnswersPlain place result (then_ (w.walk_lock place ident.now (s.meaning scopes.now ident.now)) (λ g. Ok (t.unlock place g))) }
+    ensures { AnswersPlain place result (then_ (w.walk_lock place ident.now (s.meaning scopes.now ident.now))
+        (λ g. Ok (t.unlock place g))) }
 {
     let item = lock(alloc, scopes, place, ident)?;
     Ok(StmtRowForm::Unlock(item))
@@ -214,7 +219,8 @@ pub fn plain(
     stmt: &Stmt,
 ) -> Result<u32, TypeFault>
     requires { IsPlain (stmt_tree stmt.now) }
-    ensures rows { StmtWalks made.old.rows.items made.new.rows.items result (w.walk within.ret within.in_loop scopes.now (stmt_tree stmt.now)) }
+    ensures rows { StmtWalks made.old.rows.items made.new.rows.items result
+        (w.walk within.ret within.in_loop scopes.now (stmt_tree stmt.now)) }
     ensures locals { OnOk result (made.new.locals.items ≡ made.old.locals.items ++ s.locals_of (stmt_tree stmt.now)) }
     ensures scope { scopes.now ≡ s.after scopes.now (stmt_tree stmt.now) }
 {

@@ -57,7 +57,8 @@ impl Made {
     /// number.
     pub fn begin(&mut self, place: Place) -> Result<u32, NoMemory>
         ensures number { IfOk result (λ number. number ≡ length self.old.rows.items) }
-        ensures rows { OnOk result (self.new.rows.items ≡ self.old.rows.items ++ record { place = place; form = Skip } ∷ []) }
+        ensures rows { OnOk result (self.new.rows.items ≡ self.old.rows.items ++
+            record { place = place; form = Skip } ∷ []) }
         ensures locals { self.new.locals.items ≡ self.old.locals.items }
     {
         let number = self.reserve()?;
@@ -71,7 +72,8 @@ impl Made {
     // Adds a row of this form after the others; and its number.
     fn push(&mut self, place: Place, form: StmtRowForm) -> Result<u32, NoMemory>
         ensures number { IfOk result (λ number. number ≡ length self.old.rows.items) }
-        ensures rows { OnOk result (self.new.rows.items ≡ self.old.rows.items ++ record { place = place; form = form } ∷ []) }
+        ensures rows { OnOk result (self.new.rows.items ≡ self.old.rows.items ++
+            record { place = place; form = form } ∷ []) }
         ensures locals { self.new.locals.items ≡ self.old.locals.items }
     {
         match self.reserve() {
@@ -89,7 +91,8 @@ impl Made {
     /// The row with this number becomes so.
     pub fn set(&mut self, number: u32, place: Place, form: StmtRowForm)
         requires { number < length self.old.rows.items }
-        ensures rows { self.new.rows.items ≡ slice_set self.old.rows.items number (record { place = place; form = form }) }
+        ensures rows { self.new.rows.items ≡ slice_set self.old.rows.items number
+            (record { place = place; form = form }) }
         ensures locals { self.new.locals.items ≡ self.old.locals.items }
     {
         let row = StmtRow { place, form };

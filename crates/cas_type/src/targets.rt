@@ -80,7 +80,8 @@ pub fn write_named(
 
 // The cell of this kind behind a pointer.
 fn cell_at(alloc: Global, kind: Kind, pointer: Box<TypedExpr>) -> Result<Option<Written>, NoMemory>
-    ensures { IfOk result (λ whole. written_of whole ≡ r.written (t.to_behind kind (typed_expr_tree pointer.value)) (Int kind)) }
+    ensures { IfOk result (λ whole. written_of whole ≡ r.written (t.to_behind kind (typed_expr_tree pointer.value))
+        (Int kind)) }
 {
     let target = TypedTarget::Behind(kind, Box::into_inner(pointer));
     writable(alloc, target, Ty::Int(kind))
@@ -123,7 +124,8 @@ pub fn write_indexed(
     meaning: Meaning<'_>,
     index: Found,
 ) -> Result<Option<Written>, NoMemory>
-    ensures { IfOk result (λ whole. written_of whole ≡ r.write_indexed ident.now (meaning_of meaning.entry) (found_of index)) }
+    ensures { IfOk result (λ whole. written_of whole ≡ r.write_indexed ident.now (meaning_of meaning.entry)
+        (found_of index)) }
 {
     match meaning {
         Meaning::Item(g, form) => match form {
@@ -188,7 +190,8 @@ pub fn assigned_value(
     expr: &Expr,
     ty: Ty,
 ) -> Result<Option<Box<TypedExpr>>, NoMemory>
-    ensures { IfOk result (λ value. boxed_tree value ≡ r.value_of scopes.now (assigned (target_tree target.now) operator (expr_tree expr.now)) ty) }
+    ensures { IfOk result (λ value. boxed_tree value ≡ r.value_of scopes.now
+        (assigned (target_tree target.now) operator (expr_tree expr.now)) ty) }
 {
     match operator {
         None => value_of(alloc, scopes, expr, ty),

@@ -55,7 +55,8 @@ pub fn value(
     expr: &Expr,
     ty: Ty,
 ) -> Result<Box<TypedExpr>, TypeFault>
-    ensures { Answers (λ value. typed_expr_tree value.value) result (w.walk_value scopes.now place (expr_tree expr.now) ty) }
+    ensures { Answers (λ value. typed_expr_tree value.value) result
+        (w.walk_value scopes.now place (expr_tree expr.now) ty) }
 {
     check_names(alloc, scopes, expr)?;
     match value_of(alloc, scopes, expr, ty)? {
@@ -91,7 +92,8 @@ pub fn begun(
     ident: &Ident,
     expr: &Expr,
 ) -> Result<Assignment, TypeFault>
-    ensures { Answers (assignment_tree place) result (w.walk_assign scopes.now place (to_name ident.now) None (expr_tree expr.now)) }
+    ensures { Answers (assignment_tree place) result
+        (w.walk_assign scopes.now place (to_name ident.now) None (expr_tree expr.now)) }
 {
     check_alone(alloc, ident, scopes.meaning(ident))?;
     check_names(alloc, scopes, expr)?;
@@ -117,7 +119,8 @@ pub fn assigned(
     operator: Option<BinaryOperator>,
     expr: &Expr,
 ) -> Result<Assignment, TypeFault>
-    ensures { Answers (assignment_tree place) result (w.walk_assign scopes.now place (target_tree target.now) operator (expr_tree expr.now)) }
+    ensures { Answers (assignment_tree place) result
+        (w.walk_assign scopes.now place (target_tree target.now) operator (expr_tree expr.now)) }
 {
     check_target(alloc, scopes, target)?;
     check_names(alloc, scopes, expr)?;
@@ -157,7 +160,8 @@ pub fn returned(
     ret: Ty,
     expr: &Option<Expr>,
 ) -> Result<Option<Box<TypedExpr>>, TypeFault>
-    ensures { Answers (λ value. t.return_ place (boxed_tree value)) result (w.walk_return scopes.now place ret (optional_tree expr.now)) }
+    ensures { Answers (λ value. t.return_ place (boxed_tree value)) result
+        (w.walk_return scopes.now place ret (optional_tree expr.now)) }
 {
     match expr {
         Some(expr) => match value(alloc, scopes, place, expr, ret) {

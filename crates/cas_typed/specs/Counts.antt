@@ -70,7 +70,8 @@ abbrev mutual
   nodes_of_stmt (if_ p c a b) = 1 + (nodes_of_expr c + (nodes_of_stmt a + nodes_of_option b))
   nodes_of_stmt (while_ p c a) = 1 + (nodes_of_expr c + nodes_of_stmt a)
   nodes_of_stmt (do_ p a c) = 1 + (nodes_of_stmt a + nodes_of_expr c)
-  nodes_of_stmt (for_ p i c u a) = 1 + (nodes_of_option i + (nodes_of_optional c + (nodes_of_option u + nodes_of_stmt a)))
+  nodes_of_stmt (for_ p i c u a) = 1 + (nodes_of_option i +
+      (nodes_of_optional c + (nodes_of_option u + nodes_of_stmt a)))
   nodes_of_stmt (break_ p) = 1
   nodes_of_stmt (continue_ p) = 1
   nodes_of_stmt (return_ p a) = 1 + nodes_of_optional a

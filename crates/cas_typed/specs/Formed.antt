@@ -131,7 +131,8 @@ abbrev pub ItemIsFormed : ItemTree → Type 0
 ItemIsFormed (global d vs p) = IsGlobal d.form vs × ((d.defined ≡ true) ⊎ (vs ≡ []))
 ItemIsFormed (prototype d held p) = IsFunctionForm d.form × (d.defined ≡ false)
 ItemIsFormed (define f) =
-    IsFunctionForm f.decl.form × (f.decl.defined ≡ true) × (length f.params ≡ length (parameter_types f.decl.form)) × BodyIsFormed f.body
+    IsFunctionForm f.decl.form × (f.decl.defined ≡ true) × (length f.params ≡ length (parameter_types f.decl.form)) ×
+    BodyIsFormed f.body
 
 abbrev pub ItemsAreFormed : List ItemTree → Type 0
 ItemsAreFormed [] = ⊤
@@ -143,5 +144,6 @@ IsFormed m = ItemsAreFormed m.items
 
 -- each variable that is defined has as many initial values as elements
 abbrev pub IsFilled : ModuleTree → Type 0
-IsFilled m = (n : ℕ) (d : Decl) (vs : List ℕ) (p : Place) → slice_get m.items n ≡ Some (global d vs p) → d.defined ≡ true →
+IsFilled m = (n : ℕ) (d : Decl) (vs : List ℕ) (p : Place) → slice_get m.items n ≡ Some (global d vs p) →
+    d.defined ≡ true →
     length vs ≡ elements_of (variable_type d.form)

@@ -46,7 +46,8 @@ abbrev mutual
   StatementHasWords (if_ p c a otherwise) = HasWords c × StatementHasWords a × PartHasWords otherwise
   StatementHasWords (while_ p c a) = HasWords c × StatementHasWords a
   StatementHasWords (do_ p a c) = StatementHasWords a × HasWords c
-  StatementHasWords (for_ p first c after a) = PartHasWords first × OptionHasWords c × PartHasWords after × StatementHasWords a
+  StatementHasWords (for_ p first c after a) = PartHasWords first × OptionHasWords c × PartHasWords after ×
+      StatementHasWords a
   StatementHasWords (break_ p) = ⊤
   StatementHasWords (continue_ p) = ⊤
   StatementHasWords (return_ p a) = OptionHasWords a

@@ -128,7 +128,8 @@ pub record IsItem (before : List Decl) (a : ItemTree) : Type 0 where
 abbrev pub locals_in : TypedStmtList → (number first : ℕ) → List Ty → List Local
 locals_in body n first [] = []
 locals_in body n first (ty ∷ tys) =
-    record { ty = ty; first = first; addressed = list_makes_pointer n body } ∷ locals_in body (n + 1) (first + words_of_ty ty) tys
+    record { ty = ty; first = first; addressed = list_makes_pointer n body } ∷ locals_in body (n + 1)
+    (first + words_of_ty ty) tys
 
 -- the scope at the beginning of a function's body, which has the function's own name too
 abbrev pub scope_in : List Decl → FunTree → Scope
@@ -147,10 +148,13 @@ pub data AreItems : (before : List Decl) → List ItemTree → List TypedFunTree
   no_item : (before : List Decl) → AreItems before [] []
   a_global : (before : List Decl) (d : Decl) (vs : List ℕ) (p : Place) (rest : List ItemTree) (rs : List TypedFunTree) →
       IsItem before (global d vs p) → AreItems (before ++ d ∷ []) rest rs → AreItems before (global d vs p ∷ rest) rs
-  a_prototype : (before : List Decl) (d : Decl) (hs : List Place) (p : Place) (rest : List ItemTree) (rs : List TypedFunTree) →
-      IsItem before (prototype d hs p) → AreItems (before ++ d ∷ []) rest rs → AreItems before (prototype d hs p ∷ rest) rs
+  a_prototype : (before : List Decl) (d : Decl) (hs : List Place) (p : Place) (rest : List ItemTree)
+      (rs : List TypedFunTree) →
+      IsItem before (prototype d hs p) → AreItems (before ++ d ∷ []) rest rs →
+      AreItems before (prototype d hs p ∷ rest) rs
   a_function : (before : List Decl) (f : FunTree) (rest : List ItemTree) (r : TypedFunTree) (rs : List TypedFunTree) →
-      IsItem before (define f) → IsFunction before f r → AreItems (before ++ f.decl ∷ []) rest rs → AreItems before (define f ∷ rest) (r ∷ rs)
+      IsItem before (define f) → IsFunction before f r → AreItems (before ++ f.decl ∷ []) rest rs →
+      AreItems before (define f ∷ rest) (r ∷ rs)
 
 -- the values of a variable that is defined, filled up with zeros to its elements
 abbrev pub filled : Decl → List ℕ → List ℕ

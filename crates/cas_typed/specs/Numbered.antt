@@ -47,16 +47,21 @@ abbrev mutual
   -- the row with this number, at this place and of this form, stands for the statement
   pub IsRow : List StmtRow → (number : ℕ) → TypedStmtTree → Place → StmtRowForm → Type 0
   IsRow rows n (skip p) q row.Skip = q ≡ p
-  IsRow rows n (assign p target a) q (row.Assign target' a') = (q ≡ p) × (typed_target_tree target' ≡ target) × (typed_expr_tree a' ≡ a)
+  IsRow rows n (assign p target a) q (row.Assign target' a') =
+      (q ≡ p) × (typed_target_tree target' ≡ target) × (typed_expr_tree a' ≡ a)
   IsRow rows n (call p kept g at args) q (row.Call kept' g' at' args') =
       (q ≡ p) × (kept' ≡ kept) × (g' ≡ g) × (at' ≡ at) × (map typed_expr_tree args' ≡ args)
   IsRow rows n (block p bs) q (row.Block ns) = (q ≡ p) × AreRows rows (n + 1) bs ns
   IsRow rows n (if_ p c a o) q (row.If c' i j) =
-      (q ≡ p) × (typed_expr_tree c' ≡ c) × (i ≡ n + 1) × At rows i (IsRow rows i a) × IsPartRow rows (n + 1 + size_of a) o j
-  IsRow rows n (while_ p c a) q (row.While c' i) = (q ≡ p) × (typed_expr_tree c' ≡ c) × (i ≡ n + 1) × At rows i (IsRow rows i a)
-  IsRow rows n (do_ p a c) q (row.Do i c') = (q ≡ p) × (i ≡ n + 1) × At rows i (IsRow rows i a) × (typed_expr_tree c' ≡ c)
+      (q ≡ p) × (typed_expr_tree c' ≡ c) × (i ≡ n + 1) × At rows i (IsRow rows i a) ×
+      IsPartRow rows (n + 1 + size_of a) o j
+  IsRow rows n (while_ p c a) q (row.While c' i) =
+      (q ≡ p) × (typed_expr_tree c' ≡ c) × (i ≡ n + 1) × At rows i (IsRow rows i a)
+  IsRow rows n (do_ p a c) q (row.Do i c') = (q ≡ p) × (i ≡ n + 1) × At rows i (IsRow rows i a) ×
+      (typed_expr_tree c' ≡ c)
   IsRow rows n (for_ p i c u a) q (row.For h c' j k) =
-      (q ≡ p) × IsPartRow rows (n + 1) i h × (optional_expr_tree c' ≡ c) × IsPartRow rows (n + 1 + size_of_option i) u j ×
+      (q ≡ p) × IsPartRow rows (n + 1) i h × (optional_expr_tree c' ≡ c) ×
+      IsPartRow rows (n + 1 + size_of_option i) u j ×
       (k ≡ n + 1 + size_of_option i + size_of_option u) × At rows k (IsRow rows k a)
   IsRow rows n (break_ p) q row.Break = q ≡ p
   IsRow rows n (continue_ p) q row.Continue = q ≡ p

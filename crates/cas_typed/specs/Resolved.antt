@@ -53,7 +53,8 @@ mutual
     if_ : Place → TypedExprTree → TypedStmtTree → (otherwise : TypedStmtOption) → TypedStmtTree
     while_ : Place → TypedExprTree → TypedStmtTree → TypedStmtTree
     do_ : Place → TypedStmtTree → TypedExprTree → TypedStmtTree
-    for_ : Place → (first : TypedStmtOption) → Option TypedExprTree → (after : TypedStmtOption) → TypedStmtTree → TypedStmtTree
+    for_ : Place → (first : TypedStmtOption) → Option TypedExprTree → (after : TypedStmtOption) → TypedStmtTree →
+        TypedStmtTree
     break_ : Place → TypedStmtTree
     continue_ : Place → TypedStmtTree
     return_ : Place → Option TypedExprTree → TypedStmtTree

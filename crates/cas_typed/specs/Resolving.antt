@@ -96,7 +96,8 @@ sum a b = arithmetic bin.Add a b
 
 abbrev pub difference : Found → Found → Found
 difference (fits p (Ptr k)) (fits e (Int j)) = fits (t.pointer_minus (reading j) p e) (Ptr k)
-difference (fits p (Ptr j)) (fits q (Ptr k)) = if same_kind j k then fits (t.pointer_difference p q) (Int I32) else unfit
+difference (fits p (Ptr j)) (fits q (Ptr k)) =
+    if same_kind j k then fits (t.pointer_difference p q) (Int I32) else unfit
 difference a b = arithmetic bin.Sub a b
 
 abbrev pub shift : BinaryOperator → Found → Found → Found
@@ -200,7 +201,8 @@ write_element x g k (fits e (Int j)) = written (t.to_element g x.place (reading 
 write_element x g k _ = unwritable
 
 abbrev pub write_element_behind : Found → Found → Written
-write_element_behind (fits p (Ptr k)) (fits e (Int j)) = written (t.to_behind k (t.pointer_plus (reading j) p e)) (Int k)
+write_element_behind (fits p (Ptr k)) (fits e (Int j)) =
+    written (t.to_behind k (t.pointer_plus (reading j) p e)) (Int k)
 write_element_behind _ _ = unwritable
 
 abbrev pub write_indexed : Ident → Meaning → Found → Written

@@ -37,7 +37,8 @@ item_named n (d ∷ ds) name = if is_named name d then item n d.form else item_n
 -- the meaning of a name among locals, or else another
 abbrev pub local_named : List Bound → List ℕ → Meaning → Meaning
 local_named [] name otherwise = otherwise
-local_named (v ∷ vs) name otherwise = if bytes_eq v.name name then variable v.number v.ty else local_named vs name otherwise
+local_named (v ∷ vs) name otherwise =
+    if bytes_eq v.name name then variable v.number v.ty else local_named vs name otherwise
 
 -- the meaning of a name: an inner name hides an outer one
 abbrev pub meaning : Scope → Ident → Meaning
@@ -49,7 +50,11 @@ is_in_block s x = list_any (λ v. bytes_eq v.name x.name) s.block
 
 -- after the declaration of a local
 abbrev pub declaring : Scope → Ty → Ident → Scope
-declaring s ty x = record s { block = record { name = x.name; number = s.count; ty = ty } ∷ s.block; count = s.count + 1 }
+declaring s ty x = record s {
+  block = record { name = x.name; number = s.count; ty = ty } ∷ s.block;
+  count = s.count +
+      1;
+}
 
 -- inside a further block
 abbrev pub inside : Scope → Scope

@@ -44,7 +44,8 @@ HasSort vs ds (pointer_plus s p e) (pointer k) = HasSort vs ds p (pointer k) × 
 HasSort vs ds (plus_pointer s e p) (pointer k) = HasSort vs ds e word × HasSort vs ds p (pointer k)
 HasSort vs ds (pointer_minus s p e) (pointer k) = HasSort vs ds p (pointer k) × HasSort vs ds e word
 HasSort vs ds (pointer_difference p q) word = (k : Kind) × HasSort vs ds p (pointer k) × HasSort vs ds q (pointer k)
-HasSort vs ds (compare op p q) word = (IsEquality op ⊎ IsOrder op) × (k : Kind) × HasSort vs ds p (pointer k) × HasSort vs ds q (pointer k)
+HasSort vs ds (compare op p q) word = (IsEquality op ⊎ IsOrder op) × (k : Kind) × HasSort vs ds p (pointer k) ×
+    HasSort vs ds q (pointer k)
 HasSort vs ds (unary op a) word = HasSort vs ds a word
 HasSort vs ds (binary op s a b) word = HasSort vs ds a word × HasSort vs ds b word
 HasSort vs ds (narrow k a) word = HasSort vs ds a word
@@ -68,7 +69,8 @@ AreValues vs ds _ _ = ⊥
 abbrev pub IsCell : List Ty → List Decl → TypedTargetTree → Ty → Type 0
 IsCell vs ds (to_local n) ty = IsLocal vs n ty
 IsCell vs ds (to_global g at) (Int k) = (guard : List ℕ) × IsDeclared ds g (Shared (Int k) guard)
-IsCell vs ds (to_element g at s a) (Int k) = (guard : List ℕ) × (n : ℕ) × IsDeclared ds g (Shared (Array k n) guard) × HasSort vs ds a word
+IsCell vs ds (to_element g at s a) (Int k) = (guard : List ℕ) × (n : ℕ) × IsDeclared ds g (Shared (Array k n) guard) ×
+    HasSort vs ds a word
 IsCell vs ds (to_behind j p) (Int k) = (j ≡ k) × HasSort vs ds p (pointer k)
 IsCell vs ds _ _ = ⊥
 
@@ -95,12 +97,14 @@ abbrev mutual
   IsSorted vs ds ret l (skip p) = ⊤
   IsSorted vs ds ret l (assign p target a) = (ty : Ty) × IsCell vs ds target ty × IsValue vs ds ty a
   IsSorted vs ds ret l (call p kept g at args) =
-      (gives : Ty) × (tys : List Ty) × (holds : List (List ℕ)) × IsDeclared ds g (Function gives tys holds) × MayKeep vs kept gives × AreValues vs ds tys args
+      (gives : Ty) × (tys : List Ty) × (holds : List (List ℕ)) × IsDeclared ds g (Function gives tys holds) ×
+      MayKeep vs kept gives × AreValues vs ds tys args
   IsSorted vs ds ret l (block p bs) = AreSorted vs ds ret l bs
   IsSorted vs ds ret l (if_ p c a o) = HasSort vs ds c word × IsSorted vs ds ret l a × IsSortedPart vs ds ret l o
   IsSorted vs ds ret l (while_ p c a) = HasSort vs ds c word × IsSorted vs ds ret true a
   IsSorted vs ds ret l (do_ p a c) = IsSorted vs ds ret true a × HasSort vs ds c word
-  IsSorted vs ds ret l (for_ p i c u a) = IsSortedPart vs ds ret l i × IsTest vs ds c × IsSortedPart vs ds ret l u × IsSorted vs ds ret true a
+  IsSorted vs ds ret l (for_ p i c u a) = IsSortedPart vs ds ret l i × IsTest vs ds c × IsSortedPart vs ds ret l u ×
+      IsSorted vs ds ret true a
   IsSorted vs ds ret l (break_ p) = l ≡ true
   IsSorted vs ds ret l (continue_ p) = l ≡ true
   IsSorted vs ds ret l (return_ p a) = MayReturn vs ds ret a
@@ -118,7 +122,8 @@ abbrev mutual
 
 -- in a module with these declarations the function is well sorted
 abbrev pub IsSortedFunction : List Decl → TypedFunTree → Type 0
-IsSortedFunction ds f = (d : Decl) × (slice_get ds f.item ≡ Some d) × AreSorted (map (λ v. v.ty) f.locals) ds (return_type d.form) false f.body
+IsSortedFunction ds f = (d : Decl) × (slice_get ds f.item ≡ Some d) ×
+    AreSorted (map (λ v. v.ty) f.locals) ds (return_type d.form) false f.body
 
 -- each function of the module is well sorted
 abbrev pub IsSortedModule : TypedModuleTree → Type 0

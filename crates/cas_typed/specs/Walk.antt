@@ -125,7 +125,8 @@ takes None ret = true
 takes (Some d) ret = takes_at d.ty ret
 
 -- a call of what the name means
-abbrev pub walk_callee : Scope → Place → Option Destination → Ident → List ExprTree → Meaning → Result TypedStmtTree Fault
+abbrev pub walk_callee : Scope → Place → Option Destination → Ident → List ExprTree → Meaning →
+    Result TypedStmtTree Fault
 walk_callee s p kept f args (item g (Function ret tys holds)) =
     unless (if length args == length tys then None else at_name T4 f)
     (unless (if takes kept ret then None else Some (misfit p))
@@ -175,12 +176,14 @@ abbrev mutual
   walk ret l s (call p x f args) = walk_call s p x f args
   walk ret l s (block p bs) = then_ (walk_list ret l (inside s) bs) (λ rs. Ok (t.block p rs))
   walk ret l s (if_ p c a o) =
-      then_ (walk_test s p c) (λ c'. then_ (walk ret l s a) (λ a'. then_ (walk_part ret l (past s a) o) (λ o'. Ok (t.if_ p c' a' o'))))
+      then_ (walk_test s p c) (λ c'. then_ (walk ret l s a)
+      (λ a'. then_ (walk_part ret l (past s a) o) (λ o'. Ok (t.if_ p c' a' o'))))
   walk ret l s (while_ p c a) = then_ (walk_test s p c) (λ c'. then_ (walk ret true s a) (λ a'. Ok (t.while_ p c' a')))
   walk ret l s (do_ p a c) = then_ (walk ret true s a) (λ a'. then_ (walk_test s p c) (λ c'. Ok (t.do_ p a' c')))
   walk ret l s (for_ p i c u a) =
       then_ (walk_part ret l (inside s) i) (λ i'. then_ (walk_optional (after_option (inside s) i) p c) (λ c'.
-      then_ (walk_part ret l (after_option (inside s) i) u) (λ u'. then_ (walk ret true (past_option (after_option (inside s) i) u) a) (λ a'.
+      then_ (walk_part ret l (after_option (inside s) i) u)
+      (λ u'. then_ (walk ret true (past_option (after_option (inside s) i) u) a) (λ a'.
       Ok (t.for_ p i' c' u' a')))))
   walk ret l s (break_ p) = walk_leave l p (t.break_ p)
   walk ret l s (continue_ p) = walk_leave l p (t.continue_ p)
@@ -218,7 +221,8 @@ item_fault before a =
     (sooner (at_found (repeated [] (held_names a)) (at_name T2))
     (sooner (if agrees_with (item_named 0 before (decl_of a).name) (decl_of a).form then None else Some (at_item a))
     (sooner (if has_element (variable_type (decl_of a).form) then None else Some (at_item a))
-    (sooner (if nat_le (length (values_of a)) (elements_of (variable_type (decl_of a).form)) then None else Some (at_item a))
+    (sooner (if nat_le (length (values_of a)) (elements_of (variable_type (decl_of a).form)) then None else Some
+    (at_item a))
     (sooner (if are_locks before (held_names a) then None else Some (at_item a))
     (sooner (above most_parameters (place_of a) Parameters (length (parameter_types (decl_of a).form)))
     (sooner (above most_functions (place_of a) Functions (function_count (before ++ decl_of a ∷ [])))
@@ -234,8 +238,10 @@ walk_function before f =
 -- items after these declarations
 abbrev pub walk_items : List Decl → List ItemTree → Result (List TypedFunTree) Fault
 walk_items before [] = Ok []
-walk_items before (global d vs p ∷ rest) = unless (item_fault before (global d vs p)) (walk_items (before ++ d ∷ []) rest)
-walk_items before (prototype d hs p ∷ rest) = unless (item_fault before (prototype d hs p)) (walk_items (before ++ d ∷ []) rest)
+walk_items before (global d vs p ∷ rest) = unless (item_fault before (global d vs p))
+    (walk_items (before ++ d ∷ []) rest)
+walk_items before (prototype d hs p ∷ rest) =
+    unless (item_fault before (prototype d hs p)) (walk_items (before ++ d ∷ []) rest)
 walk_items before (define f ∷ rest) =
     unless (item_fault before (define f))
     (then_ (walk_function before f) (λ r. then_ (walk_items (before ++ f.decl ∷ []) rest) (λ rs. Ok (r ∷ rs))))

@@ -78,6 +78,7 @@ pub fn read_modules_are_formed()
 /// it has, since each row stands for a statement.
 pub fn typed_modules_are_one()
     ensures one { (typed : Typed) (r s : TypedModuleTree) → IsTypedAs typed r → IsTypedAs typed s → r ≡ s }
-    ensures later { (r : TypedFunTree) (f : TypedFun) (n : ℕ) (row : StmtRow) → IsFunctionOf r f → slice_get f.rows n ≡ Some row
+    ensures later { (r : TypedFunTree) (f : TypedFun) (n : ℕ) (row : StmtRow) → IsFunctionOf r f →
+        slice_get f.rows n ≡ Some row
         → All (λ i. n < i) (parts_of row.form) }
 {}

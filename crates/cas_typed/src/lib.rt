@@ -1,12 +1,16 @@
-//! What is typed: the resolved trees, in which names are numbers and conversions are plain, the rules of types, and
-//! the first fault of a module. The definitions are in `specs/`: the resolved trees as plain data (`Resolved`) and
-//! the rows that stand for their statements (`Numbered`), types (`Types`), what a name means (`Scopes`), the counts
-//! with limits (`Counts`), the rules (`Typing` of expressions and statements, `Modules` of items), and the walk that
-//! meets the first fault (`Walk`, over `Resolving` and `Faults`). The laws over them are the contracts of the
-//! functions of `laws`: above all, that the walk ends without a fault exactly if the rules hold, with the same
-//! resolved module, and that what is resolved is well sorted (`Sorts`) and has one function for each body
-//! (`Bodies`). What holds of each module that a text is read as (`Formed`, `Literals`) is kept by typing. It stands
-//! on `cas_base`, `cas_lex` and `cas_syntax`.
+//! Typed modules: the rules of types, and resolved trees, in which names are numbers and conversions are explicit. The
+//! definitions are in `specs/`; read them in this order:
+//!
+//! - `Resolved`: the resolved trees as plain data; `Numbered`: the rows that stand for their statements in the code;
+//! - `Types`, `Scopes`, `Typing`, `Modules`: types, what a name means, and the rules of expressions, statements and
+//!   items;
+//! - `Counts`: what has a limit in a module;
+//! - `Resolving`, `Faults`, `Walk`: the walk that finds the first fault of a module.
+//!
+//! The contracts of `laws` are proved: the walk ends without a fault exactly if the rules hold, with the same
+//! resolved module (`modules_are_typed_or_refused`); what is resolved is well sorted (`Sorts`) and has one function
+//! for each body (`Bodies`); typing keeps what holds of each module that a text is read as (`Formed`, `Literals`).
+//! The code has the typed modules (`typed`, `rows`, `tree`) and the codes of faults (`fault`).
 #![tactic(auto)]
 
 mod declaration;

@@ -31,7 +31,8 @@ entity_at items n g = entity_in g (slice_get items n)
 
 -- These modules of the code, with these cells, entries and entities of items, are the program of these resolved
 -- modules with these entries.
-pub record AreProgramOf (ts : List Typed) (cells : List CellRow) (entries : List (ℕ × ℕ)) (items : List (List (Option Entity))) (modules : List TypedModuleTree) (names : List (List ℕ)) : Type 0 where
+pub record AreProgramOf (ts : List Typed) (cells : List CellRow) (entries : List (ℕ × ℕ))
+    (items : List (List (Option Entity))) (modules : List TypedModuleTree) (names : List (List ℕ)) : Type 0 where
   pub typed : AreTyped ts modules
   pub program : IsProgram modules names
   pub few_modules : length modules < 2 ^ 32

@@ -39,7 +39,8 @@ fn body_at<'a>(typed: &'a TypedFun, items: &'a [Item]) -> Option<Body<'a>>
 pub(crate) fn body_in(typed: &Typed, place: u32) -> Option<Body<'_>>
     ensures same { IfSome result (λ found. slice_get typed.now.functions place ≡ Some found.typed.now) }
     ensures found { IfSome result (λ found. (r : TypedModuleTree) → IsTypedAs typed.now r → IsBodyIn r place found) }
-    ensures there { (r : TypedModuleTree) (it : TypedFunTree) → IsTypedAs typed.now r → slice_get r.functions place ≡ Some it → IsSome result }
+    ensures there { (r : TypedModuleTree) (it : TypedFunTree) → IsTypedAs typed.now r →
+        slice_get r.functions place ≡ Some it → IsSome result }
 {
     match typed.functions().get(place as usize) {
         Some(function) => body_at(function, typed.module().items.as_slice()),

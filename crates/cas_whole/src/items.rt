@@ -40,7 +40,8 @@ impl Names<'_> {
 
     // What the items of a module stand for.
     fn row(&self, alloc: Global, items: &[Item]) -> Result<Seq<Option<Entity>>, NoMemory>
-        ensures { IfOk result (λ row. map (option_map entity_of) row ≡ map (meant_by self.now.functions.entries self.now.cells.entries) (decls_of_items items.now)) }
+        ensures { IfOk result (λ row. map (option_map entity_of) row ≡ map
+            (meant_by self.now.functions.entries self.now.cells.entries) (decls_of_items items.now)) }
     {
         let mut row = Vec::new(alloc);
         let mut rest = items;
@@ -53,7 +54,8 @@ impl Names<'_> {
 
     // What the items of the modules stand for.
     fn rows(&self, alloc: Global, modules: &[Typed]) -> Result<Seq<Seq<Option<Entity>>>, NoMemory>
-        ensures { IfOk result (λ rows. map (map (option_map entity_of)) rows ≡ map (map (meant_by self.now.functions.entries self.now.cells.entries)) (units_in modules.now)) }
+        ensures { IfOk result (λ rows. map (map (option_map entity_of)) rows ≡ map
+            (map (meant_by self.now.functions.entries self.now.cells.entries)) (units_in modules.now)) }
     {
         let mut rows = Vec::new(alloc);
         let mut rest = modules;
@@ -75,7 +77,8 @@ pub(crate) fn items_of(
     requires few_functions { HaveFewFunctions (units_in modules.now) }
     requires cells { cells.now ≡ cells_of (units_in modules.now) }
     ensures rows { IfOk result (λ items. map length items ≡ map length (units_in modules.now)) }
-    ensures entities { IfOk result (λ items. (unit item : ℕ) → entity_at items unit item ≡ item_entity (units_in modules.now) item (slice_get (units_in modules.now) unit)) }
+    ensures entities { IfOk result (λ items. (unit item : ℕ) →
+        entity_at items unit item ≡ item_entity (units_in modules.now) item (slice_get (units_in modules.now) unit)) }
 {
     let names = Names {
         functions: functions_by_name(alloc, modules)?,

@@ -8,7 +8,10 @@ ghost use Rattle.cas_whole.specs.declared.program.Program.{Program};
 
 /// A program of the code is that of one list of resolved modules, whose threads begin at the same functions.
 pub fn programs_are_one()
-    ensures modules { (p : Program) (ms others : List TypedModuleTree) (names more : List (List ℕ)) → IsProgramOf p ms names → IsProgramOf p others more → ms ≡ others }
-    ensures entries { (p : Program) (ms others : List TypedModuleTree) (names more : List (List ℕ)) → IsProgramOf p ms names → IsProgramOf p others more → entries_of ms names ≡ entries_of others more }
-    ensures programs { (p : Program) (ms : List TypedModuleTree) (names : List (List ℕ)) → IsProgramOf p ms names → IsProgram ms names }
+    ensures modules { (p : Program) (ms others : List TypedModuleTree) (names more : List (List ℕ)) →
+        IsProgramOf p ms names → IsProgramOf p others more → ms ≡ others }
+    ensures entries { (p : Program) (ms others : List TypedModuleTree) (names more : List (List ℕ)) →
+        IsProgramOf p ms names → IsProgramOf p others more → entries_of ms names ≡ entries_of others more }
+    ensures programs { (p : Program) (ms : List TypedModuleTree) (names : List (List ℕ)) → IsProgramOf p ms names →
+        IsProgram ms names }
 {}

@@ -1,8 +1,7 @@
-//! Programs of the code: typed modules that settle, with their cells, the functions at which threads begin, and what
-//! each item stands for. `Program::new` makes one or refuses the modules as `settle` does. The definitions are in
-//! `specs/`: which program of resolved modules one of the code is (`Whole`, `Program_of`), what a step needs of a
-//! function (`Bodies`), and how names are looked up (`Names`). It depends on `cas_base`, `cas_settle`, `cas_syntax`,
-//! `cas_typed`, `cas_step`, `cas_memory` and `cas_program`.
+//! Programs in code: typed modules that settle, with their globals and locks, the functions at which threads begin,
+//! and what each item stands for. `Program::new` makes a program, or refuses the modules as `settle` does.
+//! `specs/Whole` and `Program_of` say which program of resolved modules one of the code stands for, `Bodies` what a
+//! step needs of a function, and `Names` how names are looked up.
 #![tactic(auto)]
 
 mod body;

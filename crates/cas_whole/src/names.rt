@@ -25,7 +25,8 @@ fn put<'a>(
     name: &'a str,
     entity: Entity,
 ) -> Result<(), NoMemory>
-    ensures { OnOk result ((q : List ℕ) → named table.new.entries q ≡ option_or (named table.old.entries q) (if bytes_eq q name.now then Some (entity_of entity) else None)) }
+    ensures { OnOk result ((q : List ℕ) → named table.new.entries q ≡ option_or (named table.old.entries q)
+        (if bytes_eq q name.now then Some (entity_of entity) else None)) }
 {
     if !table.contains_key(name) {
         table.insert(name, entity)?;
@@ -58,7 +59,8 @@ pub(crate) fn cells_by_name<'a>(
     alloc: Global,
     cells: &'a [CellRow],
 ) -> Result<IndexMap<&'a str, Entity>, NoMemory>
-    ensures { IfOk result (λ table. (q : List ℕ) → named table.entries q ≡ option_map entity_of_cell (find (λ row. bytes_eq q row.name) cells.now)) }
+    ensures { IfOk result (λ table. (q : List ℕ) →
+        named table.entries q ≡ option_map entity_of_cell (find (λ row. bytes_eq q row.name) cells.now)) }
 {
     let mut table = IndexMap::new(alloc);
     let mut rest = cells;
@@ -79,7 +81,9 @@ fn put_function<'a>(
 ) -> Result<u32, NoMemory>
     requires { place + length (functions_of (decl.now ∷ [])) < 2 ^ 32 }
     ensures next { IfOk result (λ next. next ≡ place + length (functions_of (decl.now ∷ []))) }
-    ensures put { OnOk result ((q : List ℕ) → named table.new.entries q ≡ option_or (named table.old.entries q) (option_map (λ n. function_entity (unit, n)) (position_from (is_named q) place (functions_of (decl.now ∷ []))))) }
+    ensures put { OnOk result ((q : List ℕ) → named table.new.entries q ≡ option_or (named table.old.entries q)
+        (option_map (λ n. function_entity (unit, n)) (position_from (is_named q) place
+        (functions_of (decl.now ∷ []))))) }
 {
     if decl.defined && decl.form.is_function() {
         put(table, decl.name.as_str(), Entity::Function { unit, place })?;
@@ -96,7 +100,9 @@ fn put_functions<'a>(
     unit: u32,
 ) -> Result<(), NoMemory>
     requires { length (functions_of (decls_of_items items.now)) < 2 ^ 32 }
-    ensures { OnOk result ((q : List ℕ) → named table.new.entries q ≡ option_or (named table.old.entries q) (option_map (λ n. function_entity (unit, n)) (position (is_named q) (functions_of (decls_of_items items.now))))) }
+    ensures { OnOk result ((q : List ℕ) → named table.new.entries q ≡ option_or (named table.old.entries q)
+        (option_map (λ n. function_entity (unit, n)) (position (is_named q)
+        (functions_of (decls_of_items items.now))))) }
 {
     let mut place = 0;
     let mut rest = items;
@@ -114,7 +120,8 @@ pub(crate) fn functions_by_name<'a>(
 ) -> Result<IndexMap<&'a str, Entity>, NoMemory>
     requires few_modules { length modules.now < 2 ^ 32 }
     requires few_functions { HaveFewFunctions (units_in modules.now) }
-    ensures { IfOk result (λ table. (q : List ℕ) → named table.entries q ≡ option_map function_entity (place_of (units_in modules.now) q)) }
+    ensures { IfOk result (λ table. (q : List ℕ) →
+        named table.entries q ≡ option_map function_entity (place_of (units_in modules.now) q)) }
 {
     let mut table = IndexMap::new(alloc);
     let mut unit = 0;

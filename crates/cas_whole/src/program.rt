@@ -21,7 +21,8 @@ pub struct Program {
     entries: Seq<(u32, u32)>,
     /// What each item of each module stands for.
     items: Seq<Seq<Option<Entity>>>,
-    pub ghost program: { ∥ ((ms : List TypedModuleTree) × (names : List (List ℕ)) × AreProgramOf modules cells entries items ms names) ∥₁ },
+    pub ghost program: { ∥ ((ms : List TypedModuleTree) × (names : List (List ℕ)) ×
+        AreProgramOf modules cells entries items ms names) ∥₁ },
 }
 
 impl Program {

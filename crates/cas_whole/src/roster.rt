@@ -25,7 +25,8 @@ fn add_item(units: &mut Roster, item: &Item) -> Result<(), NoMemory>
 // The declarations of these items at the end of the last unit.
 fn add_items(units: &mut Roster, items: &[Item]) -> Result<(), NoMemory>
     requires { 0 < length units.old }
-    ensures { (front : List (List Decl)) (unit : List Decl) → units.old ≡ front ++ unit ∷ [] → OnOk result (units.new ≡ front ++ (unit ++ decls_of_items items.now) ∷ []) }
+    ensures { (front : List (List Decl)) (unit : List Decl) → units.old ≡ front ++ unit ∷ [] →
+        OnOk result (units.new ≡ front ++ (unit ++ decls_of_items items.now) ∷ []) }
 {
     let mut rest = items;
     'items: while let Some((item, others)) = rest.split_first() {

@@ -47,7 +47,8 @@ fn add_items(words: &mut Vec<u32>, items: &[Item]) -> Result<(), NoMemory>
 /// The words with which a program begins: its globals' values, and 1 for each lock, in the order of modules and
 /// definitions.
 pub fn initial_words(alloc: Global, program: &Program) -> Result<Vec<u32>, NoMemory>
-    ensures { IfOk result (λ words. (ms : List TypedModuleTree) (names : List (List ℕ)) → IsProgramOf program.now ms names → words.items ≡ first_words ms) }
+    ensures { IfOk result (λ words. (ms : List TypedModuleTree) (names : List (List ℕ)) →
+        IsProgramOf program.now ms names → words.items ≡ first_words ms) }
 {
     let mut words = Vec::new(alloc);
     let mut rest = program.modules();

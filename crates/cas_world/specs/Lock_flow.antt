@@ -50,14 +50,20 @@ module _ (ds : List Decl) (own : Locks) where
   HasLockFlow [] nowhere None = ⊤
   HasLockFlow [] nowhere (Some s) = own ≡ s
   HasLockFlow (begin a ∷ cont) x None = HasLockFlow cont x None
-  HasLockFlow (begin a ∷ cont) x (Some s) = (o : Option Locks) × (flow ds own (head_of x) a s ≡ on o) × HasLockFlow cont x o
-  HasLockFlow (begun p c a ∷ cont) (inside h) o = (outer : LoopContext) × Within h o × (while_flow h c a ≡ on (Some h.set)) × HasLockFlow cont outer (Some h.set)
-  HasLockFlow (loop p c u a ∷ cont) (beside h) o = (outer : LoopContext) × Within h o × (loop_flow h c u a ≡ on (Some h.set)) × HasLockFlow cont outer (Some h.set)
+  HasLockFlow (begin a ∷ cont) x (Some s) = (o : Option Locks) × (flow ds own (head_of x) a s ≡ on o) ×
+      HasLockFlow cont x o
+  HasLockFlow (begun p c a ∷ cont) (inside h) o =
+      (outer : LoopContext) × Within h o × (while_flow h c a ≡ on (Some h.set)) × HasLockFlow cont outer (Some h.set)
+  HasLockFlow (loop p c u a ∷ cont) (beside h) o =
+      (outer : LoopContext) × Within h o × (loop_flow h c u a ≡ on (Some h.set)) × HasLockFlow cont outer (Some h.set)
   HasLockFlow (loop p c u a ∷ cont) cut None = (outer : LoopContext) × HasLockFlow cont outer None
-  HasLockFlow (next p u ∷ cont) (inside h) o = Within h o × (v : Option Locks) × (flow_part ds own None u h.set ≡ on v) × HasLockFlow cont (beside h) v
+  HasLockFlow (next p u ∷ cont) (inside h) o = Within h o × (v : Option Locks) ×
+      (flow_part ds own None u h.set ≡ on v) × HasLockFlow cont (beside h) v
   HasLockFlow _ _ _ = ⊥
 
 -- The ownership check checks each global that expressions, targets and arguments name, in order of text.
 abbrev pub NamesAreChecked : Type 0
-NamesAreChecked = ((a : TypedExprTree) → map (λ u. u.item) (uses a) ≡ names a) × ((target : TypedTargetTree) → map (λ u. u.item) (target_uses target) ≡ target_names target)
-    × ((a : Option TypedExprTree) → map (λ u. u.item) (option_uses a) ≡ option_names a) × ((args : List TypedExprTree) → map (λ u. u.item) (argument_uses args) ≡ names_of_all args)
+NamesAreChecked = ((a : TypedExprTree) → map (λ u. u.item) (uses a) ≡ names a) ×
+    ((target : TypedTargetTree) → map (λ u. u.item) (target_uses target) ≡ target_names target)
+    × ((a : Option TypedExprTree) → map (λ u. u.item) (option_uses a) ≡ option_names a) ×
+    ((args : List TypedExprTree) → map (λ u. u.item) (argument_uses args) ≡ names_of_all args)

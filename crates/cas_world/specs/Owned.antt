@@ -72,7 +72,8 @@ module _ (modules : List TypedModuleTree) (e : Env) where
   CallersFlow f [] (s ∷ ss) = ⊥
   CallersFlow f (a ∷ older) [] = ⊥
   CallersFlow f (a ∷ older) (s ∷ ss) =
-      ((w : ℕ) → held f w ≤ counted a.function.unit s w) × (x : LoopContext) × HasLockFlow (decls_at a.function.unit) (own_at a.function) a.cont x (Some s) × CallersFlow a.function older ss
+      ((w : ℕ) → held f w ≤ counted a.function.unit s w) × (x : LoopContext) ×
+      HasLockFlow (decls_at a.function.unit) (own_at a.function) a.cont x (Some s) × CallersFlow a.function older ss
 
   -- how many parts of the older activations have the lock with this word
   abbrev pub kept : FunctionAt → List Activation → List Locks → (word : ℕ) → ℕ
@@ -85,7 +86,8 @@ module _ (modules : List TypedModuleTree) (e : Env) where
   StackFlows [] [] = ⊤
   StackFlows [] (s ∷ ss) = ⊥
   StackFlows (a ∷ older) [] = ⊥
-  StackFlows (a ∷ older) (s ∷ ss) = (x : LoopContext) × HasLockFlow (decls_at a.function.unit) (own_at a.function) a.cont x (Some s) × CallersFlow a.function older ss
+  StackFlows (a ∷ older) (s ∷ ss) = (x : LoopContext) ×
+      HasLockFlow (decls_at a.function.unit) (own_at a.function) a.cont x (Some s) × CallersFlow a.function older ss
 
   -- how many parts of all activations have the lock
   abbrev pub parts : List Activation → List Locks → (word : ℕ) → ℕ
@@ -102,14 +104,18 @@ module _ (modules : List TypedModuleTree) (e : Env) where
   -- this holds for each thread of the world, and each holder is a thread of the world
   pub record IsOwned (w : World) : Type 0 where
     pub each : (i : ℕ) (c : Config) → slice_get w.threads i ≡ Some c → Owns w.holders i c
-    pub holders_are : (l j : ℕ) → slice_get w.holders l ≡ Some (Some j) → (c : Config) × (slice_get w.threads j ≡ Some c)
+    pub holders_are : (l j : ℕ) → slice_get w.holders l ≡ Some (Some j) → (c : Config) ×
+        (slice_get w.threads j ≡ Some c)
 
 -- In each program of checked modules, each reachable world is owned.
 abbrev pub WorldsAreOwned : Type 0
-WorldsAreOwned = (modules : List TypedModuleTree) (entries : List (List ℕ)) → IsProgram modules entries → All IsChecked modules →
+WorldsAreOwned = (modules : List TypedModuleTree) (entries : List (List ℕ)) → IsProgram modules entries →
+    All IsChecked modules →
     (w : World) → Reaches (env_of modules) (program_world modules entries) w → IsOwned modules (env_of modules) w
 
 -- In each program of checked modules, each step that a thread may take in an owned world leads to an owned world.
 abbrev pub StepsKeepOwned : Type 0
-StepsKeepOwned = (modules : List TypedModuleTree) (entries : List (List ℕ)) → IsProgram modules entries → All IsChecked modules →
-    (w : World) (i : ℕ) (s : Step) → IsOwned modules (env_of modules) w → MayStep (env_of modules) w i s → IsOwned modules (env_of modules) (world_after w i s)
+StepsKeepOwned = (modules : List TypedModuleTree) (entries : List (List ℕ)) → IsProgram modules entries →
+    All IsChecked modules →
+    (w : World) (i : ℕ) (s : Step) → IsOwned modules (env_of modules) w → MayStep (env_of modules) w i s →
+    IsOwned modules (env_of modules) (world_after w i s)

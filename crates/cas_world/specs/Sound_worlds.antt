@@ -17,17 +17,23 @@ pub record IsSoundWorld (modules : List TypedModuleTree) (e : Env) (w : World) :
   pub words : IsWellTypedStore e w.words
   pub holders : length w.holders ≡ length w.words
   pub sound : (i : ℕ) (c : Config) → slice_get w.threads i ≡ Some c → IsSound modules e c
-  pub steps : (i : ℕ) (c : Config) (a : Activation) (older : List Activation) → slice_get w.threads i ≡ Some c → c.activations ≡ a ∷ older → (s : Step) × IsNext e w i s
-  pub locks : (i l : ℕ) (s : Step) → IsNext e w i s → s.act ≡ act.Lock l → (holder : Option ℕ) × (slice_get w.holders l ≡ Some holder)
-  pub unlocks : (i l : ℕ) (s : Step) → IsNext e w i s → s.act ≡ act.Unlock l → (holder : Option ℕ) × (slice_get w.holders l ≡ Some holder)
+  pub steps : (i : ℕ) (c : Config) (a : Activation) (older : List Activation) → slice_get w.threads i ≡ Some c →
+      c.activations ≡ a ∷ older → (s : Step) × IsNext e w i s
+  pub locks : (i l : ℕ) (s : Step) → IsNext e w i s → s.act ≡ act.Lock l → (holder : Option ℕ) ×
+      (slice_get w.holders l ≡ Some holder)
+  pub unlocks : (i l : ℕ) (s : Step) → IsNext e w i s → s.act ≡ act.Unlock l → (holder : Option ℕ) ×
+      (slice_get w.holders l ≡ Some holder)
 
 -- In each program with at most 2 ^ 32 threads each reachable world is sound, whether its modules are checked or not.
 abbrev pub WorldsAreSound : Type 0
-WorldsAreSound = (modules : List TypedModuleTree) (entries : List (List ℕ)) → IsProgram modules entries → length entries ≤ 2 ^ 32 →
+WorldsAreSound = (modules : List TypedModuleTree) (entries : List (List ℕ)) → IsProgram modules entries →
+    length entries ≤ 2 ^ 32 →
     (w : World) → Reaches (env_of modules) (program_world modules entries) w → IsSoundWorld modules (env_of modules) w
 
 -- In a reachable world the state of a thread is `ended` exactly if the thread has ended.
 abbrev pub EndsAreReported : Type 0
-EndsAreReported = (modules : List TypedModuleTree) (entries : List (List ℕ)) → IsProgram modules entries → length entries ≤ 2 ^ 32 →
-    (w : World) (i : ℕ) (c : Config) → Reaches (env_of modules) (program_world modules entries) w → slice_get w.threads i ≡ Some c →
+EndsAreReported = (modules : List TypedModuleTree) (entries : List (List ℕ)) → IsProgram modules entries →
+    length entries ≤ 2 ^ 32 →
+    (w : World) (i : ℕ) (c : Config) → Reaches (env_of modules) (program_world modules entries) w →
+    slice_get w.threads i ≡ Some c →
     (state_of (env_of modules) w i ≡ ended) ↔ HasEnded w i

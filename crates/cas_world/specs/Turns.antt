@@ -95,7 +95,8 @@ RoundsInterleave = (e : Env) (first w : World) (threads : List ℕ) (count : ℕ
 
 -- A turn that is taken changes its thread.
 abbrev pub TurnsMove : Type 0
-TurnsMove = (e : Env) (w : World) (i : ℕ) (s : Step) → state_of e w i ≡ running s → slice_get (turn e w i).threads i ≡ slice_get w.threads i → ⊥
+TurnsMove = (e : Env) (w : World) (i : ℕ) (s : Step) → state_of e w i ≡ running s →
+    slice_get (turn e w i).threads i ≡ slice_get w.threads i → ⊥
 
 -- A turn that changes nothing still changes nothing when it is repeated; and after a round that changes nothing,
 -- none does.

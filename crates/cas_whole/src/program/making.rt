@@ -22,9 +22,11 @@ impl Program {
     pub fn new(alloc: Global, modules: Vec<Typed>, entries: &[Name]) -> Result<Program, LinkFault>
         requires few_modules { vec_len modules < 2 ^ 32 }
         requires few_entries { length entries.now < 2 ^ 32 }
-        ensures refused { (ms : List TypedModuleTree) → AreTyped modules.items ms → IsRefusedBy result (first_refusal (units_of ms) entries.now) }
+        ensures refused { (ms : List TypedModuleTree) → AreTyped modules.items ms →
+            IsRefusedBy result (first_refusal (units_of ms) entries.now) }
         ensures modules { IfOk result (λ made. made.modules ≡ modules.items) }
-        ensures made { IfOk result (λ made. (ms : List TypedModuleTree) → AreTyped modules.items ms → IsProgramOf made ms entries.now) }
+        ensures made { IfOk result (λ made. (ms : List TypedModuleTree) → AreTyped modules.items ms →
+            IsProgramOf made ms entries.now) }
     {
         let units = roster_of(alloc, &modules)?;
         let settled = settle(alloc, &units, entries)?;
