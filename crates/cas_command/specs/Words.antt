@@ -4,6 +4,8 @@ use Rattle.std.specs.List.{find, list_all, list_any, position_or_len, before_fir
 use Rattle.std.specs.Option.{option_and_then, option_map, option_map_or}
 use Rattle.std.specs.Str.{all_ascii_digits, bytes_eq}
 use Rattle.std.specs.Str.Parse.{digits_value}
+use Rattle.cas_command.specs.declared.command.TheConstants.{SOURCE_LIMIT}
+use Rattle.cas_command.specs.declared.values.TheConstants.{NAME_COUNT_LIMIT, THREAD_LIMIT, DIGIT_LIMIT, TURN_LIMIT, ROUND_LIMIT, DEFAULT_ROUNDS}
 use Rattle.cas_base.specs.Name.{is_name}
 
 -- what `run` is given: the names of the module's text and of the lock's text, and the thread's function
@@ -77,7 +79,7 @@ is_text_name name = not ((length name == 0) || bytes_eq name (codes "-"))
 
 -- one name or more, at most 64, and each may be a text's
 abbrev pub are_text_names : List (List ℕ) → Bool
-are_text_names names = nat_lt 0 (length names) && nat_le (length names) 64 && list_all is_text_name names
+are_text_names names = nat_lt 0 (length names) && nat_le (length names) NAME_COUNT_LIMIT && list_all is_text_name names
 
 -- no option stands twice
 abbrev pub stand_once : List Given → Bool
@@ -95,7 +97,7 @@ value_of option options = option_map (λ given. given.value) (find (λ given. by
 -- a number, of one to ten decimal digits
 abbrev pub number_of : List ℕ → Option ℕ
 number_of text =
-    if nat_lt 0 (length text) && nat_le (length text) 10 && all_ascii_digits text then Some (digits_value 10 text) else None
+    if nat_lt 0 (length text) && nat_le (length text) DIGIT_LIMIT && all_ascii_digits text then Some (digits_value 10 text) else None
 
 -- the parts of a text that commas join
 abbrev pub listed : List ℕ → List (List ℕ)
@@ -103,7 +105,7 @@ listed text = slice_split (λ b. b == 44) text
 
 -- the functions of the threads: names of the source language, at most 64
 abbrev pub threads_of : List ℕ → Option (List (List ℕ))
-threads_of text = if nat_le (length (listed text)) 64 && list_all is_name (listed text) then Some (listed text) else None
+threads_of text = if nat_le (length (listed text)) THREAD_LIMIT && list_all is_name (listed text) then Some (listed text) else None
 
 -- the number of one of so many threads
 abbrev pub thread_of : (threads : ℕ) → List ℕ → Option ℕ
@@ -111,7 +113,7 @@ thread_of threads text = option_and_then (λ i. if nat_lt i threads then Some i 
 
 -- how many turns an item of a schedule has: one or more, and not more than a whole schedule has
 abbrev pub count_of : List ℕ → Option ℕ
-count_of text = option_and_then (λ n. if nat_lt 0 n && nat_le n 10000000 then Some n else None) (number_of text)
+count_of text = option_and_then (λ n. if nat_lt 0 n && nat_le n TURN_LIMIT then Some n else None) (number_of text)
 
 -- an item of a schedule: `i` or `i*n`
 abbrev pub item_of : (threads : ℕ) → List ℕ → Option (ℕ × ℕ)
@@ -128,15 +130,15 @@ items_of threads (text ∷ texts) =
 -- a schedule of at most 10,000,000 turns
 abbrev pub schedule_of : (threads : ℕ) → List ℕ → Option (List (ℕ × ℕ))
 schedule_of threads text =
-    option_and_then (λ items. if nat_le (sum_by (λ item. item.1) items) 10000000 then Some items else None) (items_of threads (listed text))
+    option_and_then (λ items. if nat_le (sum_by (λ item. item.1) items) TURN_LIMIT then Some items else None) (items_of threads (listed text))
 
 -- at most 1,000,000 rounds
 abbrev pub rounds_of : List ℕ → Option ℕ
-rounds_of text = option_and_then (λ n. if nat_le n 1000000 then Some n else None) (number_of text)
+rounds_of text = option_and_then (λ n. if nat_le n ROUND_LIMIT then Some n else None) (number_of text)
 
 -- the turns that the options give: a schedule or rounds, not both; 100,000 rounds where neither is given
 abbrev pub turns_of : (threads : ℕ) → (plan count : Option (List ℕ)) → Option Turns
-turns_of threads None None = Some (rounds 100000)
+turns_of threads None None = Some (rounds DEFAULT_ROUNDS)
 turns_of threads (Some plan) None = option_map schedule (schedule_of threads plan)
 turns_of threads None (Some count) = option_map rounds (rounds_of count)
 turns_of threads (Some plan) (Some count) = None
@@ -183,7 +185,7 @@ command_of (command ∷ words) =
 
 -- the bytes that a module's or a lock's text has at most
 abbrev pub source_limit : ℕ
-source_limit = 1048576
+source_limit = SOURCE_LIMIT
 
 -- a text that a command reads: its name, and how many bytes it has at most
 pub record Wanted : Type 0 where

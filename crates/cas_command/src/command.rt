@@ -5,7 +5,7 @@ ghost use Rattle.cas_command.specs.Words.{source_text};
 ghost use Rattle.cas_command.specs.View.{wanted_view};
 
 /// The most bytes that a module's or a lock's text has.
-const SOURCE_LIMIT: u64 = 1_048_576;
+pub(crate) const SOURCE_LIMIT: u64 = 1_048_576;
 
 /// A text that a command reads: its name, and how many bytes it has at most.
 #[derive(Clone, Copy)]

@@ -15,22 +15,22 @@ use cas_base::{Name, NoMemory};
 use std::alloc::Global;
 
 /// The most names of modules in one command.
-const NAME_COUNT_LIMIT: usize = 64;
+pub(crate) const NAME_COUNT_LIMIT: usize = 64;
 
 /// The most threads.
-const THREAD_LIMIT: usize = 64;
+pub(crate) const THREAD_LIMIT: usize = 64;
 
 /// The most digits of a number.
-const DIGIT_LIMIT: usize = 10;
+pub(crate) const DIGIT_LIMIT: usize = 10;
 
 /// The most turns of a schedule.
-const TURN_LIMIT: u64 = 10_000_000;
+pub(crate) const TURN_LIMIT: u64 = 10_000_000;
 
 /// The most rounds.
-const ROUND_LIMIT: u64 = 1_000_000;
+pub(crate) const ROUND_LIMIT: u64 = 1_000_000;
 
 /// The rounds where nothing is said of turns.
-const DEFAULT_ROUNDS: u32 = 100_000;
+pub(crate) const DEFAULT_ROUNDS: u32 = 100_000;
 
 /// Whether a text may have this name: it isn't empty, nor `-` alone.
 pub(crate) fn is_text_name(name: &str) -> bool

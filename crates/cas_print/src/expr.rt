@@ -12,7 +12,10 @@ ghost use Rattle.cas_print.specs.Expressions as spec;
 use crate::page::Page;
 use cas_base::{Kind, NoMemory};
 use cas_lex::{Sign, Word};
-use cas_syntax::{BinaryOperator, Expr, Ident, UnaryOperator};
+use cas_syntax::{
+    AND_LEVEL, BinaryOperator, CONDITIONAL_LEVEL, Expr, Ident, OPERAND_LEVEL, OR_LEVEL,
+    UnaryOperator, level,
+};
 
 /// Writes the words of a kind.
 pub fn kind(page: &mut Page, kind: Kind) -> Result<(), NoMemory>
@@ -61,15 +64,15 @@ pub fn expr(page: &mut Page, expr: &Expr) -> Result<(), NoMemory>
             operand(page, level(*operator) + 1, right)
         }
         Expr::And(left, right) => {
-            left_operand(page, 3, left, Sign::AndAnd)?;
-            operand(page, 4, right)
+            left_operand(page, AND_LEVEL, left, Sign::AndAnd)?;
+            operand(page, AND_LEVEL + 1, right)
         }
         Expr::Or(left, right) => {
-            left_operand(page, 2, left, Sign::OrOr)?;
-            operand(page, 3, right)
+            left_operand(page, OR_LEVEL, left, Sign::OrOr)?;
+            operand(page, OR_LEVEL + 1, right)
         }
         Expr::Cond(condition, first, second) => {
-            left_operand(page, 2, condition, Sign::Question)?;
+            left_operand(page, CONDITIONAL_LEVEL + 1, condition, Sign::Question)?;
             self::expr(page, first)?;
             page.sign(Sign::Colon)?;
             self::expr(page, second)
@@ -109,7 +112,7 @@ fn prefixed(page: &mut Page, sign: Sign, inner: &Expr) -> Result<(), NoMemory>
         (spec.prefixed sign (spec.outermost (expr_tree inner.now)) (spec.printed_expr (expr_tree inner.now)) rest)) }
 {
     page.sign(sign)?;
-    operand(page, 12, inner)
+    operand(page, OPERAND_LEVEL, inner)
 }
 
 // Writes an operand behind a kind in parentheses.
@@ -123,7 +126,7 @@ fn cast(page: &mut Page, to: Kind, inner: &Expr) -> Result<(), NoMemory>
     page.sign(Sign::OpenParen)?;
     kind(page, to)?;
     page.sign(Sign::CloseParen)?;
-    operand(page, 12, inner)
+    operand(page, OPERAND_LEVEL, inner)
 }
 
 // Writes an expression at a place that takes operators of this level and tighter ones.
@@ -160,27 +163,10 @@ fn outermost(expr: &Expr) -> u8
 {
     match expr {
         Expr::Binary(operator, _, _) => level(*operator),
-        Expr::And(_, _) => 3,
-        Expr::Or(_, _) => 2,
-        Expr::Cond(_, _, _) => 1,
-        _ => 12,
-    }
-}
-
-// How tightly an operator binds.
-fn level(operator: BinaryOperator) -> u8
-    ensures value { result ≡ operators.level (operators.always_both operator) }
-    ensures within { result < 12 }
-{
-    match operator {
-        BinaryOperator::BitOr => 4,
-        BinaryOperator::BitXor => 5,
-        BinaryOperator::BitAnd => 6,
-        BinaryOperator::Eq | BinaryOperator::Ne => 7,
-        BinaryOperator::Lt | BinaryOperator::Le | BinaryOperator::Gt | BinaryOperator::Ge => 8,
-        BinaryOperator::Shl | BinaryOperator::Shr => 9,
-        BinaryOperator::Add | BinaryOperator::Sub => 10,
-        BinaryOperator::Mul | BinaryOperator::Div | BinaryOperator::Mod => 11,
+        Expr::And(_, _) => AND_LEVEL,
+        Expr::Or(_, _) => OR_LEVEL,
+        Expr::Cond(_, _, _) => CONDITIONAL_LEVEL,
+        _ => OPERAND_LEVEL,
     }
 }
 

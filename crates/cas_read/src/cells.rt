@@ -13,9 +13,9 @@ ghost use Rattle.cas_read.specs.FollowItems.{data_of};
 
 use crate::values::{value, values};
 use cas_base::{Kind, Seq, Ty};
-use cas_lex::{ReadCode, Sign, Token, TokenKind};
+use cas_lex::{Sign, Token, TokenKind};
 use cas_read_expr::front::{expect_outside, ident};
-use cas_read_expr::stop::{Stop, fault};
+use cas_read_expr::stop::{Stop, left_out, next_token, unexpected_outside};
 use cas_syntax::Ident;
 use std::alloc::Global;
 
@@ -36,16 +36,14 @@ pub fn cells(
     ensures follows { (b : Option ℕ) (s : Sort) (items : List ItemTree) → Follows result (verdict tokens.now (HaveKind b kind) (CellsKind s defined items ∷ [])) (λ p. verdict p.2.now (InItems (items ++ machine.cells (data_of s defined kind) p.0 p.1.ty p.1.values ∷ [])) []) }
     ensures shorter { IfOk result (λ p. length p.2.now < length tokens.now) }
 {
-    let Some((token, rest)) = tokens.split_first() else {
-        return Err(fault(ReadCode::R6, tokens));
-    };
+    let (token, rest) = next_token(tokens)?;
     match &token.kind {
         TokenKind::Name(name) => {
             let name = ident(alloc, name, token.place)?;
             let (contents, rest) = behind_name(alloc, rest, defined, kind)?;
             Ok((name, contents, rest))
         }
-        _ => Err(fault(ReadCode::R5, tokens)),
+        _ => Err(unexpected_outside(tokens)),
     }
 }
 
@@ -59,14 +57,12 @@ fn behind_name(
     ensures follows { (s : Sort) (x : Ident) (items : List ItemTree) → Follows result (verdict tokens.now (CellName (data_of s defined kind) x items) []) (λ p. verdict p.1.now (InItems (items ++ machine.cells (data_of s defined kind) x p.0.ty p.0.values ∷ [])) []) }
     ensures shorter { IfOk result (λ p. length p.1.now < length tokens.now) }
 {
-    let Some((token, rest)) = tokens.split_first() else {
-        return Err(fault(ReadCode::R6, tokens));
-    };
+    let (token, rest) = next_token(tokens)?;
     match token.kind {
         TokenKind::Sign(Sign::OpenBracket) => array(alloc, rest, defined, kind),
         TokenKind::Sign(Sign::Equal) if defined => one_cell(alloc, rest, kind),
         TokenKind::Sign(Sign::Semicolon) => Ok((without_values(alloc, Ty::Int(kind)), rest)),
-        _ => Err(fault(ReadCode::R5, tokens)),
+        _ => Err(unexpected_outside(tokens)),
     }
 }
 
@@ -99,15 +95,13 @@ fn array(
     ensures follows { (s : Sort) (x : Ident) (items : List ItemTree) → Follows result (verdict tokens.now (CellLength (data_of s defined kind) x items) []) (λ p. verdict p.1.now (InItems (items ++ machine.cells (data_of s defined kind) x p.0.ty p.0.values ∷ [])) []) }
     ensures shorter { IfOk result (λ p. length p.1.now < length tokens.now) }
 {
-    let Some((token, rest)) = tokens.split_first() else {
-        return Err(fault(ReadCode::R6, tokens));
-    };
+    let (token, rest) = next_token(tokens)?;
     match token.kind {
         TokenKind::Literal(len, _) => {
             let rest = expect_outside(rest, Sign::CloseBracket)?;
             elements(alloc, rest, defined, kind, len)
         }
-        _ => Err(fault(ReadCode::R5, tokens)),
+        _ => Err(unexpected_outside(tokens)),
     }
 }
 
@@ -122,14 +116,12 @@ fn elements(
     ensures follows { (s : Sort) (x : Ident) (items : List ItemTree) → Follows result (verdict tokens.now (CellArray (data_of s defined kind) x len items) []) (λ p. verdict p.1.now (InItems (items ++ machine.cells (data_of s defined kind) x p.0.ty p.0.values ∷ [])) []) }
     ensures shorter { IfOk result (λ p. length p.1.now < length tokens.now) }
 {
-    let Some((token, rest)) = tokens.split_first() else {
-        return Err(fault(ReadCode::R6, tokens));
-    };
+    let (token, rest) = next_token(tokens)?;
     match token.kind {
-        TokenKind::Sign(Sign::OpenBracket) => Err(fault(ReadCode::R7, tokens)),
+        TokenKind::Sign(Sign::OpenBracket) => Err(left_out(tokens)),
         TokenKind::Sign(Sign::Equal) if defined => some_elements(alloc, rest, kind, len),
         TokenKind::Sign(Sign::Semicolon) => Ok((without_values(alloc, Ty::Array(kind, len)), rest)),
-        _ => Err(fault(ReadCode::R5, tokens)),
+        _ => Err(unexpected_outside(tokens)),
     }
 }
 
@@ -161,12 +153,10 @@ fn ended(tokens: &[Token]) -> Result<&[Token], Stop>
     ensures shorter { IfOk result (λ rest. length rest.now < length tokens.now) }
     ensures faults { IfErr result (λ e. e ≢ Memory) }
 {
-    let Some((token, rest)) = tokens.split_first() else {
-        return Err(fault(ReadCode::R6, tokens));
-    };
+    let (token, rest) = next_token(tokens)?;
     match token.kind {
         TokenKind::Sign(Sign::Semicolon) => Ok(rest),
-        _ => Err(fault(ReadCode::R5, tokens)),
+        _ => Err(unexpected_outside(tokens)),
     }
 }
 

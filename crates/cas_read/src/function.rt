@@ -14,9 +14,9 @@ ghost use Rattle.cas_read.specs.FollowItems.{opening};
 use crate::held::held_at;
 use crate::param::parameters_at;
 use cas_base::{Decl, Form, Place, Seq, Ty};
-use cas_lex::{ReadCode, Sign, Token, TokenKind};
+use cas_lex::{Sign, Token, TokenKind};
 use cas_read_expr::front::ident;
-use cas_read_expr::stop::{Stop, fault};
+use cas_read_expr::stop::{Stop, left_out, next_token, unexpected_outside};
 use cas_read_stmt::stmt::body;
 use cas_syntax::{Fun, Ident, Item};
 use std::alloc::Global;
@@ -82,12 +82,10 @@ fn function_name(alloc: Global, tokens: &[Token]) -> Result<(Ident, &[Token]), S
     ensures follows { (d : Bool) (ret : Ty) (items : List ItemTree) → Follows result (verdict tokens.now (WantFunction d ret items) []) (λ p. verdict p.1.now (FunctionName (opening d ret p.0) items) []) }
     ensures shorter { IfOk result (λ p. length p.1.now < length tokens.now) }
 {
-    let Some((token, rest)) = tokens.split_first() else {
-        return Err(fault(ReadCode::R6, tokens));
-    };
+    let (token, rest) = next_token(tokens)?;
     match &token.kind {
         TokenKind::Name(name) => Ok((ident(alloc, name, token.place)?, rest)),
-        _ => Err(fault(ReadCode::R5, tokens)),
+        _ => Err(unexpected_outside(tokens)),
     }
 }
 
@@ -97,16 +95,11 @@ fn opened(tokens: &[Token]) -> Result<&[Token], Stop>
     ensures shorter { IfOk result (λ rest. length rest.now < length tokens.now) }
     ensures faults { IfErr result (λ e. e ≢ Memory) }
 {
-    let Some((token, rest)) = tokens.split_first() else {
-        return Err(fault(ReadCode::R6, tokens));
-    };
+    let (token, rest) = next_token(tokens)?;
     match token.kind {
         TokenKind::Sign(Sign::OpenParen) => Ok(rest),
-        TokenKind::Sign(Sign::OpenBracket | Sign::Equal | Sign::Semicolon) => Err(fault(
-            ReadCode::R7,
-            tokens,
-        )),
-        _ => Err(fault(ReadCode::R5, tokens)),
+        TokenKind::Sign(Sign::OpenBracket | Sign::Equal | Sign::Semicolon) => Err(left_out(tokens)),
+        _ => Err(unexpected_outside(tokens)),
     }
 }
 
@@ -115,16 +108,14 @@ fn behind_head(alloc: Global, tokens: &[Token], head: Head) -> Result<(Item, &[T
     ensures follows { (items : List ItemTree) → Follows result (verdict tokens.now (AfterHead head.name head.form head.defined head.params.items head.held items) []) (λ p. verdict p.1.now (InItems (items ++ item_tree p.0 ∷ [])) []) }
     ensures shorter { IfOk result (λ p. length p.1.now < length tokens.now) }
 {
-    let Some((token, rest)) = tokens.split_first() else {
-        return Err(fault(ReadCode::R6, tokens));
-    };
+    let (token, rest) = next_token(tokens)?;
     match token.kind {
         TokenKind::Sign(Sign::Semicolon) => Ok((prototype(head), rest)),
         TokenKind::Sign(Sign::OpenBrace) if head.defined => match all_named(alloc, head.params)? {
             Some(params) => define(alloc, rest, head.name, head.form, params, head.held),
-            None => Err(fault(ReadCode::R5, tokens)),
+            None => Err(unexpected_outside(tokens)),
         },
-        _ => Err(fault(ReadCode::R5, tokens)),
+        _ => Err(unexpected_outside(tokens)),
     }
 }
 

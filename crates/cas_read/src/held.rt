@@ -12,9 +12,9 @@ ghost use Rattle.cas_read_expr.specs.Follow.{Follows, verdict};
 ghost use Rattle.cas_read.specs.FollowItems.{has_more_held};
 
 use cas_base::{Name, Place, Seq};
-use cas_lex::{ReadCode, Sign, Token, TokenKind, Word};
+use cas_lex::{Sign, Token, TokenKind, Word};
 use cas_read_expr::front::{expect_outside, ident};
-use cas_read_expr::stop::{Stop, fault};
+use cas_read_expr::stop::{Stop, next_token, unexpected_outside};
 use cas_syntax::Ident;
 use std::alloc::Global;
 
@@ -30,9 +30,7 @@ pub fn held_at(alloc: Global, tokens: &[Token]) -> Result<(Held, &[Token]), Stop
     ensures follows { (o : Opening) (tys : List Ty) (xs : List (Option Ident)) (items : List ItemTree) → Follows result (verdict tokens.now (AfterParameters o tys xs items) []) (λ p. verdict p.1.now (AfterHead o.name (form.Function o.ret tys p.0.names) o.defined xs p.0.places items) []) }
     ensures no_longer { IfOk result (λ p. length p.1.now ≤ length tokens.now) }
 {
-    let Some((token, rest)) = tokens.split_first() else {
-        return Err(fault(ReadCode::R6, tokens));
-    };
+    let (token, rest) = next_token(tokens)?;
     match token.kind {
         TokenKind::Word(Word::Holds) => {
             let rest = expect_outside(rest, Sign::OpenParen)?;
@@ -77,12 +75,10 @@ fn lock(alloc: Global, tokens: &[Token]) -> Result<(Ident, &[Token]), Stop>
     ensures follows { (o : Opening) (tys : List Ty) (xs : List (Option Ident)) (held : List Ident) (items : List ItemTree) → Follows result (verdict tokens.now (WantHeld o tys xs held items) []) (λ p. verdict p.1.now (HaveHeld o tys xs (held ++ p.0 ∷ []) items) []) }
     ensures shorter { IfOk result (λ p. length p.1.now < length tokens.now) }
 {
-    let Some((token, rest)) = tokens.split_first() else {
-        return Err(fault(ReadCode::R6, tokens));
-    };
+    let (token, rest) = next_token(tokens)?;
     match &token.kind {
         TokenKind::Name(name) => Ok((ident(alloc, name, token.place)?, rest)),
-        _ => Err(fault(ReadCode::R5, tokens)),
+        _ => Err(unexpected_outside(tokens)),
     }
 }
 
@@ -92,13 +88,11 @@ fn more_locks(tokens: &[Token]) -> Result<(bool, &[Token]), Stop>
     ensures shorter { IfOk result (λ p. length p.1.now < length tokens.now) }
     ensures faults { IfErr result (λ e. e ≢ Memory) }
 {
-    let Some((token, rest)) = tokens.split_first() else {
-        return Err(fault(ReadCode::R6, tokens));
-    };
+    let (token, rest) = next_token(tokens)?;
     match token.kind {
         TokenKind::Sign(Sign::Comma) => Ok((true, rest)),
         TokenKind::Sign(Sign::CloseParen) => Ok((false, rest)),
-        _ => Err(fault(ReadCode::R5, tokens)),
+        _ => Err(unexpected_outside(tokens)),
     }
 }
 

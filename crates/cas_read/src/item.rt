@@ -14,10 +14,10 @@ use crate::cells::cells;
 use crate::function::function;
 use crate::param::typed;
 use cas_base::{Decl, Form, Seq, Ty};
-use cas_lex::{ReadCode, Sign, Token, TokenKind, Word};
+use cas_lex::{Sign, Token, TokenKind, Word};
 use cas_read_expr::front::{expect_outside, ident};
 use cas_read_expr::kind::kind;
-use cas_read_expr::stop::{Stop, fault};
+use cas_read_expr::stop::{Stop, next_token, unexpected_outside};
 use cas_syntax::{Ident, Item};
 use std::alloc::Global;
 
@@ -57,9 +57,7 @@ fn item(alloc: Global, tokens: &[Token], defined: bool) -> Result<(Item, &[Token
     ensures follows { (items : List ItemTree) → Follows result (begins_item tokens.now defined items) (λ p. verdict p.1.now (InItems (items ++ item_tree p.0 ∷ [])) []) }
     ensures shorter { IfOk result (λ p. length p.1.now < length tokens.now) }
 {
-    let Some((token, rest)) = tokens.split_first() else {
-        return Err(fault(ReadCode::R6, tokens));
-    };
+    let (token, rest) = next_token(tokens)?;
     match token.kind {
         TokenKind::Word(Word::Lock) => lock(alloc, rest, defined),
         TokenKind::Word(Word::Shared) => shared(alloc, rest, defined),
@@ -83,9 +81,7 @@ fn lock(alloc: Global, tokens: &[Token], defined: bool) -> Result<(Item, &[Token
     ensures follows { (items : List ItemTree) → Follows result (verdict tokens.now (GlobalLock defined items) []) (λ p. verdict p.1.now (InItems (items ++ item_tree p.0 ∷ [])) []) }
     ensures shorter { IfOk result (λ p. length p.1.now < length tokens.now) }
 {
-    let Some((token, rest)) = tokens.split_first() else {
-        return Err(fault(ReadCode::R6, tokens));
-    };
+    let (token, rest) = next_token(tokens)?;
     match &token.kind {
         TokenKind::Name(name) => {
             let name = ident(alloc, name, token.place)?;
@@ -93,7 +89,7 @@ fn lock(alloc: Global, tokens: &[Token], defined: bool) -> Result<(Item, &[Token
             let values = Seq::of(Vec::new(alloc));
             Ok((global(name, Form::Lock, defined, values), rest))
         }
-        _ => Err(fault(ReadCode::R5, tokens)),
+        _ => Err(unexpected_outside(tokens)),
     }
 }
 
@@ -111,9 +107,7 @@ fn guarded(alloc: Global, tokens: &[Token], defined: bool) -> Result<(Item, &[To
     ensures follows { (items : List ItemTree) → Follows result (verdict tokens.now (GlobalGuard defined items) []) (λ p. verdict p.1.now (InItems (items ++ item_tree p.0 ∷ [])) []) }
     ensures shorter { IfOk result (λ p. length p.1.now < length tokens.now) }
 {
-    let Some((token, rest)) = tokens.split_first() else {
-        return Err(fault(ReadCode::R6, tokens));
-    };
+    let (token, rest) = next_token(tokens)?;
     match &token.kind {
         TokenKind::Name(name) => {
             let guard = ident(alloc, name, token.place)?;
@@ -126,7 +120,7 @@ fn guarded(alloc: Global, tokens: &[Token], defined: bool) -> Result<(Item, &[To
             };
             Ok((global(name, form, defined, contents.values), rest))
         }
-        _ => Err(fault(ReadCode::R5, tokens)),
+        _ => Err(unexpected_outside(tokens)),
     }
 }
 

@@ -10,10 +10,10 @@ ghost use Rattle.cas_read_expr.specs.Follow.{Follows, verdict};
 ghost use Rattle.cas_read.specs.FollowItems.{has_more_parameters};
 
 use cas_base::{Kind, Ty};
-use cas_lex::{ReadCode, Sign, Token, TokenKind, Word};
+use cas_lex::{Sign, Token, TokenKind, Word};
 use cas_read_expr::front::{expect_outside, ident};
 use cas_read_expr::kind::kind;
-use cas_read_expr::stop::{Stop, fault};
+use cas_read_expr::stop::{Stop, left_out, next_token, unexpected_outside};
 use cas_syntax::Ident;
 use std::alloc::Global;
 
@@ -42,9 +42,7 @@ fn pointed(tokens: &[Token], kind: Kind) -> Result<(Ty, &[Token]), Stop>
     ensures no_longer { IfOk result (λ p. length p.1.now ≤ length tokens.now) }
     ensures faults { IfErr result (λ e. e ≢ Memory) }
 {
-    let Some((token, rest)) = tokens.split_first() else {
-        return Err(fault(ReadCode::R6, tokens));
-    };
+    let (token, rest) = next_token(tokens)?;
     let TokenKind::Sign(Sign::Star) = token.kind else {
         return Ok((Ty::Int(kind), tokens));
     };
@@ -57,7 +55,7 @@ fn pointed(tokens: &[Token], kind: Kind) -> Result<(Ty, &[Token]), Stop>
                 },
                 _,
             ),
-        ) => Err(fault(ReadCode::R7, rest)),
+        ) => Err(left_out(rest)),
         _ => Ok((Ty::Ptr(kind), rest)),
     }
 }
@@ -67,9 +65,7 @@ pub fn parameters_at(alloc: Global, tokens: &[Token]) -> Result<(Parameters, &[T
     ensures follows { (o : Opening) (items : List ItemTree) → Follows result (verdict tokens.now (WantParameters o items) []) (λ p. verdict p.1.now (AfterParameters o p.0.types.items p.0.names.items items) []) }
     ensures shorter { IfOk result (λ p. length p.1.now < length tokens.now) }
 {
-    let Some((token, rest)) = tokens.split_first() else {
-        return Err(fault(ReadCode::R6, tokens));
-    };
+    let (token, rest) = next_token(tokens)?;
     match token.kind {
         TokenKind::Sign(Sign::CloseParen) => Ok((no_parameters(alloc), rest)),
         TokenKind::Word(Word::Void) => {
@@ -128,9 +124,7 @@ fn parameter_name(alloc: Global, tokens: &[Token]) -> Result<(Option<Ident>, &[T
     ensures follows { (o : Opening) (tys : List Ty) (xs : List (Option Ident)) (ty : Ty) (items : List ItemTree) → Follows result (verdict tokens.now (ParameterType o tys xs ty items) []) (λ p. verdict p.1.now (HaveParameter o (tys ++ ty ∷ []) (xs ++ p.0 ∷ []) items) []) }
     ensures no_longer { IfOk result (λ p. length p.1.now ≤ length tokens.now) }
 {
-    let Some((token, rest)) = tokens.split_first() else {
-        return Err(fault(ReadCode::R6, tokens));
-    };
+    let (token, rest) = next_token(tokens)?;
     match &token.kind {
         TokenKind::Name(name) => Ok((Some(ident(alloc, name, token.place)?), rest)),
         _ => Ok((None, tokens)),
@@ -143,13 +137,11 @@ fn more_parameters(tokens: &[Token]) -> Result<(bool, &[Token]), Stop>
     ensures shorter { IfOk result (λ p. length p.1.now < length tokens.now) }
     ensures faults { IfErr result (λ e. e ≢ Memory) }
 {
-    let Some((token, rest)) = tokens.split_first() else {
-        return Err(fault(ReadCode::R6, tokens));
-    };
+    let (token, rest) = next_token(tokens)?;
     match token.kind {
         TokenKind::Sign(Sign::Comma) => Ok((true, rest)),
         TokenKind::Sign(Sign::CloseParen) => Ok((false, rest)),
-        TokenKind::Sign(Sign::OpenBracket) => Err(fault(ReadCode::R7, tokens)),
-        _ => Err(fault(ReadCode::R5, tokens)),
+        TokenKind::Sign(Sign::OpenBracket) => Err(left_out(tokens)),
+        _ => Err(unexpected_outside(tokens)),
     }
 }

@@ -10,8 +10,8 @@ ghost use Rattle.cas_read_expr.specs.Follow.{Follows, verdict};
 ghost use Rattle.cas_read.specs.FollowItems.{data_of, has_value_or_end};
 
 use cas_base::{Kind, Seq, narrow, sub};
-use cas_lex::{ReadCode, Sign, Token, TokenKind};
-use cas_read_expr::stop::{Stop, fault};
+use cas_lex::{Sign, Token, TokenKind};
+use cas_read_expr::stop::{Stop, next_token, unexpected_outside};
 use std::alloc::Global;
 
 /// An initial value of a cell of this kind, and what stands behind it.
@@ -21,13 +21,11 @@ pub fn value(tokens: &[Token], kind: Kind) -> Result<(u32, &[Token]), Stop>
     ensures shorter { IfOk result (λ p. length p.1.now < length tokens.now) }
     ensures faults { IfErr result (λ e. e ≢ Memory) }
 {
-    let Some((token, rest)) = tokens.split_first() else {
-        return Err(fault(ReadCode::R6, tokens));
-    };
+    let (token, rest) = next_token(tokens)?;
     match token.kind {
         TokenKind::Literal(value, _) => Ok((narrow(value, kind), rest)),
         TokenKind::Sign(Sign::Minus) => negative(rest, kind),
-        _ => Err(fault(ReadCode::R5, tokens)),
+        _ => Err(unexpected_outside(tokens)),
     }
 }
 
@@ -38,12 +36,10 @@ fn negative(tokens: &[Token], kind: Kind) -> Result<(u32, &[Token]), Stop>
     ensures shorter { IfOk result (λ p. length p.1.now < length tokens.now) }
     ensures faults { IfErr result (λ e. e ≢ Memory) }
 {
-    let Some((token, rest)) = tokens.split_first() else {
-        return Err(fault(ReadCode::R6, tokens));
-    };
+    let (token, rest) = next_token(tokens)?;
     match token.kind {
         TokenKind::Literal(value, _) => Ok((narrow(sub(0, value), kind), rest)),
-        _ => Err(fault(ReadCode::R5, tokens)),
+        _ => Err(unexpected_outside(tokens)),
     }
 }
 
@@ -71,13 +67,11 @@ fn next_value(tokens: &[Token], kind: Kind) -> Result<(Option<u32>, &[Token]), S
     ensures shorter { IfOk result (λ p. length p.1.now < length tokens.now) }
     ensures faults { IfErr result (λ e. e ≢ Memory) }
 {
-    let Some((token, rest)) = tokens.split_first() else {
-        return Err(fault(ReadCode::R6, tokens));
-    };
+    let (token, rest) = next_token(tokens)?;
     match token.kind {
         TokenKind::Sign(Sign::Comma) => value_or_end(rest, kind),
         TokenKind::Sign(Sign::CloseBrace) => Ok((None, rest)),
-        _ => Err(fault(ReadCode::R5, tokens)),
+        _ => Err(unexpected_outside(tokens)),
     }
 }
 
@@ -87,9 +81,7 @@ fn value_or_end(tokens: &[Token], kind: Kind) -> Result<(Option<u32>, &[Token]),
     ensures shorter { IfOk result (λ p. length p.1.now < length tokens.now) }
     ensures faults { IfErr result (λ e. e ≢ Memory) }
 {
-    let Some((token, rest)) = tokens.split_first() else {
-        return Err(fault(ReadCode::R6, tokens));
-    };
+    let (token, rest) = next_token(tokens)?;
     match token.kind {
         TokenKind::Sign(Sign::CloseBrace) => Ok((None, rest)),
         _ => further_value(tokens, kind),

@@ -12,9 +12,9 @@ ghost use Rattle.cas_read_expr.specs.Follow.{Follows, verdict, has_value};
 
 use crate::expr::outermost;
 use crate::front::ident;
-use crate::stop::{Stop, fault, wrong};
+use crate::stop::{Stop, next_token, unexpected};
 use cas_base::Seq;
-use cas_lex::{ReadCode, Sign, Token, TokenKind};
+use cas_lex::{Sign, Token, TokenKind};
 use cas_syntax::{Expr, Ident};
 use std::alloc::Global;
 
@@ -94,16 +94,14 @@ fn some_arguments(alloc: Global, tokens: &[Token]) -> Result<(Seq<Expr>, &[Token
     loop {
         let (next, _, after) = outermost(alloc, rest)?;
         all.push(next)?;
-        let Some((token, behind)) = after.split_first() else {
-            return Err(fault(ReadCode::R6, after));
-        };
+        let (token, behind) = next_token(after)?;
         match token.kind {
             TokenKind::Sign(Sign::Comma) => rest = behind,
             TokenKind::Sign(Sign::CloseParen) => {
                 all.shrink_to_fit();
                 return Ok((Seq::of(all), behind));
             }
-            _ => return Err(fault(wrong(&token.kind), after)),
+            _ => return Err(unexpected(&token.kind, after)),
         }
     }
 }

@@ -15,12 +15,10 @@ use crate::front::{ident, is_expected};
 use crate::keep::beside;
 use crate::kind::{begins_kind_at, kind};
 use crate::limit::count;
-use crate::operator::{
-    Infix, LOWEST_LEVEL, PREFIX_LEVEL, Prefix, operator, prefix_of, right_level,
-};
-use crate::stop::{Stop, fault, wrong};
-use cas_lex::{ReadCode, Sign, Token, TokenKind};
-use cas_syntax::{Expr, Ident};
+use crate::operator::{Infix, Prefix, operator, prefix_of, right_level};
+use crate::stop::{Stop, left_out, next_token, unexpected};
+use cas_lex::{Sign, Token, TokenKind};
+use cas_syntax::{CONDITIONAL_LEVEL, Expr, Ident, OPERAND_LEVEL, TOKEN_LIMIT};
 use std::alloc::Global;
 
 /// An expression that stands in no other, with its tokens and what stands behind.
@@ -29,7 +27,7 @@ pub fn outermost(alloc: Global, tokens: &[Token]) -> Result<(Expr, usize, &[Toke
     ensures follows { (st : List Frame) → Follows result (verdict tokens.now WantOutermost st) (λ p. verdict p.2.now (Given p.1 (expr_tree p.0)) st) }
     ensures shorter { IfOk result (λ p. length p.2.now < length tokens.now) }
 {
-    expr(alloc, tokens, 0, LOWEST_LEVEL)
+    expr(alloc, tokens, 0, CONDITIONAL_LEVEL)
 }
 
 /// An expression of operators that bind as tightly as `least`, with the tokens that the outermost expression then has
@@ -61,9 +59,7 @@ fn operand(alloc: Global, tokens: &[Token], used: usize) -> Result<(Expr, usize,
     ensures follows { (l : ℕ) (st : List Frame) → Follows result (verdict tokens.now (WantExpr used l) st) (λ p. verdict p.2.now (HaveExpr p.1 l (expr_tree p.0)) st) }
     ensures shorter { IfOk result (λ p. length p.2.now < length tokens.now) }
 {
-    let Some((token, rest)) = tokens.split_first() else {
-        return Err(fault(ReadCode::R6, tokens));
-    };
+    let (token, rest) = next_token(tokens)?;
     match &token.kind {
         TokenKind::Name(name) => {
             count(used, rest)?;
@@ -84,7 +80,7 @@ fn operand(alloc: Global, tokens: &[Token], used: usize) -> Result<(Expr, usize,
         }
         kind => match prefix_of(kind) {
             Some(prefix) => prefixed(alloc, rest, used, prefix),
-            None => Err(fault(wrong(kind), tokens)),
+            None => Err(unexpected(kind, tokens)),
         },
     }
 }
@@ -102,7 +98,7 @@ fn prefixed(
     ensures shorter { IfOk result (λ p. length p.2.now < length tokens.now) }
 {
     count(used, tokens)?;
-    let (operand, used, rest) = expr(alloc, tokens, used + 1, PREFIX_LEVEL)?;
+    let (operand, used, rest) = expr(alloc, tokens, used + 1, OPERAND_LEVEL)?;
     Ok((build::prefixed(alloc, prefix, operand)?, used, rest))
 }
 
@@ -123,7 +119,7 @@ pub fn named(
     };
     match token.kind {
         TokenKind::Sign(Sign::OpenBracket) => element(alloc, rest, used, addressed, name),
-        TokenKind::Sign(Sign::OpenParen) => Err(fault(ReadCode::R7, tokens)),
+        TokenKind::Sign(Sign::OpenParen) => Err(left_out(tokens)),
         _ => Ok((build::name(addressed, name), used, tokens)),
     }
 }
@@ -142,7 +138,7 @@ fn element(
     ensures shorter { IfOk result (λ p. length p.2.now < length tokens.now) }
 {
     count(used, tokens)?;
-    let (index, used, rest) = expr(alloc, tokens, used + 1, LOWEST_LEVEL)?;
+    let (index, used, rest) = expr(alloc, tokens, used + 1, CONDITIONAL_LEVEL)?;
     let rest = closed(rest, used, Sign::CloseBracket)?;
     Ok((
         build::element(alloc, addressed, name, index)?,
@@ -161,7 +157,7 @@ fn opened(alloc: Global, tokens: &[Token], used: usize) -> Result<(Expr, usize, 
     if begins_kind_at(tokens) {
         return cast(alloc, tokens, used);
     }
-    let (inner, used, rest) = expr(alloc, tokens, used, LOWEST_LEVEL)?;
+    let (inner, used, rest) = expr(alloc, tokens, used, CONDITIONAL_LEVEL)?;
     let rest = closed(rest, used, Sign::CloseParen)?;
     Ok((inner, used + 1, rest))
 }
@@ -176,7 +172,7 @@ fn cast(alloc: Global, tokens: &[Token], used: usize) -> Result<(Expr, usize, &[
     let (kind, used, rest) = kind(tokens, Some(used))?;
     let Some(used) = used else { unreachable!() };
     let rest = closed(rest, used, Sign::CloseParen)?;
-    let (operand, used, rest) = expr(alloc, rest, used + 1, PREFIX_LEVEL)?;
+    let (operand, used, rest) = expr(alloc, rest, used + 1, OPERAND_LEVEL)?;
     Ok((
         build::prefixed(alloc, Prefix::Casts(kind), operand)?,
         used,
@@ -190,16 +186,14 @@ fn address(alloc: Global, tokens: &[Token], used: usize) -> Result<(Expr, usize,
     ensures follows { (l : ℕ) (st : List Frame) → Follows result (verdict tokens.now (Taking used l) st) (λ p. verdict p.2.now (HaveExpr p.1 l (expr_tree p.0)) st) }
     ensures shorter { IfOk result (λ p. length p.2.now < length tokens.now) }
 {
-    let Some((token, rest)) = tokens.split_first() else {
-        return Err(fault(ReadCode::R6, tokens));
-    };
+    let (token, rest) = next_token(tokens)?;
     match &token.kind {
         TokenKind::Name(name) => {
             count(used, rest)?;
             let name = ident(alloc, name, token.place)?;
             named(alloc, rest, used + 1, true, name)
         }
-        _ => Err(fault(wrong(&token.kind), tokens)),
+        _ => Err(unexpected(&token.kind, tokens)),
     }
 }
 
@@ -256,10 +250,10 @@ fn branches(
     ensures shorter { IfOk result (λ p. length p.3.now < length tokens.now) }
 {
     count(used, tokens)?;
-    let (chosen, used, rest) = expr(alloc, tokens, used + 1, LOWEST_LEVEL)?;
+    let (chosen, used, rest) = expr(alloc, tokens, used + 1, CONDITIONAL_LEVEL)?;
     let chosen = build::boxed(alloc, chosen)?;
     let rest = closed(rest, used, Sign::Colon)?;
-    let (other, used, rest) = expr(alloc, rest, used + 1, LOWEST_LEVEL)?;
+    let (other, used, rest) = expr(alloc, rest, used + 1, CONDITIONAL_LEVEL)?;
     let other = build::boxed(alloc, other)?;
     Ok((chosen, other, used, rest))
 }
@@ -267,15 +261,13 @@ fn branches(
 // What stands behind a sign of an outermost expression that has so many tokens before it.
 fn closed(tokens: &[Token], used: usize, sign: Sign) -> Result<&[Token], Stop>
     ensures follows { (c : Control) (st : List Frame) → Follows result (closes sign used tokens.now c st) (λ rest. verdict rest.now c st) }
-    ensures below { IfOk result (λ rest. used < 1000) }
+    ensures below { IfOk result (λ rest. used < TOKEN_LIMIT) }
     ensures shorter { IfOk result (λ rest. length rest.now < length tokens.now) }
     ensures faults { IfErr result (λ e. e ≢ Memory) }
 {
-    let Some((token, rest)) = tokens.split_first() else {
-        return Err(fault(ReadCode::R6, tokens));
-    };
+    let (token, rest) = next_token(tokens)?;
     if !is_expected(sign, &token.kind) {
-        return Err(fault(wrong(&token.kind), tokens));
+        return Err(unexpected(&token.kind, tokens));
     }
     count(used, rest)?;
     Ok(rest)

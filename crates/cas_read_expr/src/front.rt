@@ -9,9 +9,9 @@ ghost use Rattle.cas_parse.specs.Frames.{Control, Frame, Expect};
 ghost use Rattle.cas_parse.specs.Machine as machine;
 ghost use Rattle.cas_read_expr.specs.Follow.{Follows, verdict, next_is, next_is_else, is_closing_brace};
 
-use crate::stop::{Stop, fault, wrong};
+use crate::stop::{Stop, next_token, unexpected, unexpected_outside};
 use cas_base::{Name, Place};
-use cas_lex::{ReadCode, Sign, Token, TokenKind, Word};
+use cas_lex::{Sign, Token, TokenKind, Word};
 use cas_syntax::Ident;
 use std::alloc::Global;
 
@@ -30,13 +30,11 @@ pub fn expect(tokens: &[Token], sign: Sign) -> Result<&[Token], Stop>
     ensures shorter { IfOk result (λ rest. length rest.now < length tokens.now) }
     ensures faults { IfErr result (λ e. e ≢ Memory) }
 {
-    let Some((token, rest)) = tokens.split_first() else {
-        return Err(fault(ReadCode::R6, tokens));
-    };
+    let (token, rest) = next_token(tokens)?;
     if is_expected(sign, &token.kind) {
         Ok(rest)
     } else {
-        Err(fault(wrong(&token.kind), tokens))
+        Err(unexpected(&token.kind, tokens))
     }
 }
 
@@ -46,13 +44,11 @@ pub fn expect_outside(tokens: &[Token], sign: Sign) -> Result<&[Token], Stop>
     ensures shorter { IfOk result (λ rest. length rest.now < length tokens.now) }
     ensures faults { IfErr result (λ e. e ≢ Memory) }
 {
-    let Some((token, rest)) = tokens.split_first() else {
-        return Err(fault(ReadCode::R6, tokens));
-    };
+    let (token, rest) = next_token(tokens)?;
     if is_expected(sign, &token.kind) {
         Ok(rest)
     } else {
-        Err(fault(ReadCode::R5, tokens))
+        Err(unexpected_outside(tokens))
     }
 }
 

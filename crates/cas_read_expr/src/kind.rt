@@ -8,9 +8,9 @@ ghost use Rattle.cas_syntax.specs.Reading.{within};
 ghost use Rattle.cas_read_expr.specs.Follow.{Follows, taken, verdict, next_begins_kind, are_counted};
 
 use crate::limit::count;
-use crate::stop::{Stop, fault};
+use crate::stop::{Stop, next_token, unexpected_outside};
 use cas_base::Kind;
-use cas_lex::{ReadCode, Token, TokenKind, Word};
+use cas_lex::{Token, TokenKind, Word};
 
 /// Whether a token begins the words of a kind.
 pub fn begins_kind(kind: &TokenKind) -> bool
@@ -39,16 +39,14 @@ pub fn kind(tokens: &[Token], used: Option<usize>) -> Result<(Kind, Option<usize
     ensures shorter { IfOk result (λ p. length p.2.now < length tokens.now) }
     ensures faults { IfErr result (λ e. e ≢ Memory) }
 {
-    let Some((token, rest)) = tokens.split_first() else {
-        return Err(fault(ReadCode::R6, tokens));
-    };
+    let (token, rest) = next_token(tokens)?;
     match token.kind {
         TokenKind::Word(Word::Char) => Ok((Kind::I8, count_word(used, rest)?, rest)),
         TokenKind::Word(Word::Short) => may_end_int(rest, count_word(used, rest)?, Kind::I16),
         TokenKind::Word(Word::Int) => Ok((Kind::I32, count_word(used, rest)?, rest)),
         TokenKind::Word(Word::Signed) => signed(rest, count_word(used, rest)?),
         TokenKind::Word(Word::Unsigned) => unsigned(rest, count_word(used, rest)?),
-        _ => Err(fault(ReadCode::R5, tokens)),
+        _ => Err(unexpected_outside(tokens)),
     }
 }
 

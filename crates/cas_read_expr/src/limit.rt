@@ -9,9 +9,7 @@ ghost use Rattle.cas_read_expr.specs.Follow.{Follows, taken, verdict};
 
 use crate::stop::Stop;
 use cas_lex::{ReadCode, Token};
-
-/// The most tokens of an expression that stands in no other.
-pub const TOKEN_LIMIT: usize = 1000;
+use cas_syntax::TOKEN_LIMIT;
 
 /// Counts a token of an outermost expression that has so many tokens before it; these tokens stand behind it.
 pub fn count(used: usize, rest: &[Token]) -> Result<(), Stop>

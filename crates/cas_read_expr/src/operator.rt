@@ -10,13 +10,9 @@ ghost use Rattle.cas_read_expr.specs.Follow.{verdict, taken, infix_shape, infix_
 
 use cas_base::Kind;
 use cas_lex::{Sign, Token, TokenKind};
-use cas_syntax::{BinaryOperator, UnaryOperator};
-
-/// How tightly `?` binds, which no operator does less: an expression of operators that bind so may be any.
-pub const LOWEST_LEVEL: u8 = 1;
-
-/// How tightly what stands before an operand binds: more than each operator between two operands.
-pub const PREFIX_LEVEL: u8 = 12;
+use cas_syntax::{
+    AND_LEVEL, BinaryOperator, CONDITIONAL_LEVEL, OPERAND_LEVEL, OR_LEVEL, UnaryOperator, level,
+};
 
 /// What stands before an operand.
 #[derive(Clone, Copy, Debug)]
@@ -78,23 +74,14 @@ pub fn infix_of(kind: &TokenKind) -> Option<Infix>
 }
 
 /// How tightly an operator binds.
-pub fn level(operator: Infix) -> u8
+pub fn infix_level(operator: Infix) -> u8
     ensures value { result ≡ operators.level (infix_shape operator) }
-    ensures small { result < PREFIX_LEVEL }
+    ensures small { result < OPERAND_LEVEL }
 {
     match operator {
-        Infix::Or => 2,
-        Infix::And => 3,
-        Infix::Both(operator) => match operator {
-            BinaryOperator::BitOr => 4,
-            BinaryOperator::BitXor => 5,
-            BinaryOperator::BitAnd => 6,
-            BinaryOperator::Eq | BinaryOperator::Ne => 7,
-            BinaryOperator::Lt | BinaryOperator::Le | BinaryOperator::Gt | BinaryOperator::Ge => 8,
-            BinaryOperator::Shl | BinaryOperator::Shr => 9,
-            BinaryOperator::Add | BinaryOperator::Sub => 10,
-            BinaryOperator::Mul | BinaryOperator::Div | BinaryOperator::Mod => 11,
-        },
+        Infix::Or => OR_LEVEL,
+        Infix::And => AND_LEVEL,
+        Infix::Both(operator) => level(operator),
     }
 }
 
@@ -102,7 +89,7 @@ pub fn level(operator: Infix) -> u8
 pub fn right_level(operator: Infix) -> u8
     ensures { result ≡ operators.level (infix_shape operator) + 1 }
 {
-    level(operator) + 1
+    infix_level(operator) + 1
 }
 
 /// How tightly a token binds that is this operator between two operands, or none: 0 for no operator at all.
@@ -110,8 +97,8 @@ fn binding(between: Option<Infix>, kind: &TokenKind) -> u8
     ensures { result ≡ machine.binding (infix_shapes between) kind.now }
 {
     match (between, kind) {
-        (Some(infix), _) => level(infix),
-        (None, TokenKind::Sign(Sign::Question)) => LOWEST_LEVEL,
+        (Some(infix), _) => infix_level(infix),
+        (None, TokenKind::Sign(Sign::Question)) => CONDITIONAL_LEVEL,
         (None, _) => 0,
     }
 }

@@ -1,6 +1,7 @@
 //! Why reading stops.
 
-ghost use Rattle.std.specs.Prelude.{◌≡◌, length};
+ghost use Rattle.std.specs.Prelude.{◌≡◌, ◌∷◌, [], length, IfOk, IfErr};
+ghost use Rattle.cas_lex.specs.declared.code.ReadCode.TheVariants as code;
 ghost use Rattle.cas_parse.specs.Machine as machine;
 
 use cas_base::NoMemory;
@@ -53,7 +54,46 @@ impl From<NoMemory> for Stop {
     }
 }
 
-/// The fault at the first of these tokens.
+/// The first of these tokens, and those after it; where there is none the text ends too early (R6).
+pub fn next_token(tokens: &[Token]) -> Result<(&Token, &[Token]), Stop>
+    ensures some { IfOk result (λ p. tokens.now ≡ p.0.now ∷ p.1.now) }
+    ensures none { IfErr result (λ e. (tokens.now ≡ []) × (e ≡ Stop.At code.R6 0)) }
+{
+    match tokens.split_first() {
+        Some(first) => Ok(first),
+        None => Err(fault(ReadCode::R6, tokens)),
+    }
+}
+
+/// The fault of a token that can't stand here, inside a function's body.
+pub fn unexpected(kind: &TokenKind, tokens: &[Token]) -> Stop
+    ensures { result ≡ Stop.At (machine.wrong kind.now) (length tokens.now) }
+{
+    fault(unexpected_code(kind), tokens)
+}
+
+/// The fault of a token that can't stand here, outside functions' bodies (R5).
+pub fn unexpected_outside(tokens: &[Token]) -> Stop
+    ensures { result ≡ Stop.At code.R5 (length tokens.now) }
+{
+    fault(ReadCode::R5, tokens)
+}
+
+/// The fault of a token that shows a form of C which is left out (R7).
+pub fn left_out(tokens: &[Token]) -> Stop
+    ensures { result ≡ Stop.At code.R7 (length tokens.now) }
+{
+    fault(ReadCode::R7, tokens)
+}
+
+/// The fault of a token that a limit forbids (R8).
+pub fn past_limit(tokens: &[Token]) -> Stop
+    ensures { result ≡ Stop.At code.R8 (length tokens.now) }
+{
+    fault(ReadCode::R8, tokens)
+}
+
+/// The fault with a code, at the first of these tokens.
 pub fn fault(code: ReadCode, tokens: &[Token]) -> Stop
     ensures { result ≡ Stop.At code (length tokens.now) }
 {
@@ -64,7 +104,7 @@ pub fn fault(code: ReadCode, tokens: &[Token]) -> Stop
 }
 
 /// The code of a token that can't stand here, inside a function's body.
-pub fn wrong(kind: &TokenKind) -> ReadCode
+pub fn unexpected_code(kind: &TokenKind) -> ReadCode
     ensures { result ≡ machine.wrong kind.now }
 {
     match kind {

@@ -8,10 +8,7 @@ ghost use Rattle.cas_parse.specs.Machine as machine;
 ghost use Rattle.cas_read_stmt.specs.FollowStmts.{starts_simple};
 
 use cas_lex::{ReadCode, Sign, TokenKind, Word};
-use cas_read_expr::stop::wrong;
-
-/// The most statements that stand in each other.
-pub const DEPTH_LIMIT: usize = 200;
+use cas_read_expr::stop::unexpected_code;
 
 /// The code of a token where a statement would stand in too many others.
 pub fn too_deep(kind: &TokenKind) -> ReadCode
@@ -34,7 +31,7 @@ pub fn too_deep(kind: &TokenKind) -> ReadCode
             | Word::Unlock
             | Word::Print,
         ) => ReadCode::R8,
-        _ => wrong(kind),
+        _ => unexpected_code(kind),
     }
 }
 
@@ -45,7 +42,7 @@ pub fn too_deep_simple(kind: &TokenKind) -> ReadCode
     match kind {
         TokenKind::Name(_) | TokenKind::Sign(Sign::Star | Sign::PlusPlus | Sign::MinusMinus) =>
             ReadCode::R8,
-        _ => wrong(kind),
+        _ => unexpected_code(kind),
     }
 }
 

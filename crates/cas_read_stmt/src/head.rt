@@ -7,18 +7,18 @@ ghost use Rattle.cas_parse.specs.Frames.{Frame, DoBody, HaveStmt, WantStmt, ForF
 ghost use Rattle.cas_read_expr.specs.Follow.{Follows, verdict, next_begins_kind};
 ghost use Rattle.cas_read_stmt.specs.FollowStmts.{boxed_tree, nests_kind, nests_simple};
 
-use crate::depth::{DEPTH_LIMIT, too_deep_simple};
+use crate::depth::too_deep_simple;
 use crate::local::local;
 use crate::parts::boxed;
 use crate::plain::opened;
 use crate::simple::simple;
-use cas_lex::{ReadCode, Sign, Token, TokenKind, Word};
+use cas_lex::{Sign, Token, TokenKind, Word};
 use cas_read_expr::expr::outermost;
 use cas_read_expr::front::behind;
 use cas_read_expr::keep::followed;
 use cas_read_expr::kind::{begins_kind_at, kind};
-use cas_read_expr::stop::{Stop, fault, wrong};
-use cas_syntax::{Expr, Stmt};
+use cas_read_expr::stop::{Stop, fault, next_token, past_limit, unexpected};
+use cas_syntax::{DEPTH_LIMIT, Expr, Stmt};
 use std::alloc::Global;
 
 /// The condition behind the body of a `do`, with its `;`.
@@ -27,11 +27,9 @@ pub fn do_end(alloc: Global, tokens: &[Token]) -> Result<(Expr, &[Token]), Stop>
     ensures follows { (q : Place) (a : StmtTree) (st : List Frame) → Follows result (verdict tokens.now (HaveStmt a) (DoBody q ∷ st)) (λ p. verdict p.1.now (HaveStmt (do_ q a (expr_tree p.0))) st) }
     ensures shorter { IfOk result (λ p. length p.1.now < length tokens.now) }
 {
-    let Some((token, rest)) = tokens.split_first() else {
-        return Err(fault(ReadCode::R6, tokens));
-    };
+    let (token, rest) = next_token(tokens)?;
     let TokenKind::Word(Word::While) = token.kind else {
-        return Err(fault(wrong(&token.kind), tokens));
+        return Err(unexpected(&token.kind, tokens));
     };
     let (condition, _, rest) = opened(alloc, rest)?;
     let (condition, rest) = followed(condition, rest, Sign::CloseParen)?;
@@ -73,7 +71,7 @@ fn first_local(
     ensures shorter { IfOk result (λ p. length p.1.now < length tokens.now) }
 {
     if around >= DEPTH_LIMIT {
-        return Err(fault(ReadCode::R8, tokens));
+        return Err(past_limit(tokens));
     }
     let (kind, _, rest) = kind(tokens, None)?;
     let (local, rest) = local(alloc, kind, rest)?;
@@ -86,9 +84,7 @@ fn simple_in(alloc: Global, tokens: &[Token], around: usize) -> Result<(Box<Stmt
     ensures follows { (st : List Frame) → Follows result (nests_simple tokens.now around st) (λ p. verdict p.1.now (HaveSimple (stmt_tree p.0.value)) st) }
     ensures shorter { IfOk result (λ p. length p.1.now < length tokens.now) }
 {
-    let Some((token, _)) = tokens.split_first() else {
-        return Err(fault(ReadCode::R6, tokens));
-    };
+    let (token, _) = next_token(tokens)?;
     if around < DEPTH_LIMIT {
         let (simple, rest) = simple(alloc, tokens)?;
         Ok((boxed(alloc, simple)?, rest))

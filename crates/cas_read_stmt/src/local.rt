@@ -8,14 +8,13 @@ ghost use Rattle.cas_parse.specs.Frames.{Frame, Begun, WantValue, WantLocal, Loc
 ghost use Rattle.cas_read_expr.specs.Follow.{Follows, verdict, next_begins_kind};
 ghost use Rattle.cas_read_stmt.specs.FollowStmts.{begins_listed};
 
-use crate::depth::DEPTH_LIMIT;
 use cas_base::{Kind, Ty};
-use cas_lex::{ReadCode, Sign, Token, TokenKind};
+use cas_lex::{Sign, Token, TokenKind};
 use cas_read_expr::call::{Value, value_at};
 use cas_read_expr::front::{expect, ident};
 use cas_read_expr::kind::kind;
-use cas_read_expr::stop::{Stop, fault, wrong};
-use cas_syntax::{Ident, Init, Stmt, StmtForm};
+use cas_read_expr::stop::{Stop, left_out, next_token, past_limit, unexpected};
+use cas_syntax::{DEPTH_LIMIT, Ident, Init, Stmt, StmtForm};
 use std::alloc::Global;
 
 /// Locals that stand in so many statements, up to `;`, which are put behind all, and what stands behind.
@@ -31,7 +30,7 @@ pub fn locals_in<'a>(
     ensures shorter { IfOk result (λ rest. length rest.now < length tokens.now) }
 {
     if around >= DEPTH_LIMIT {
-        return Err(fault(ReadCode::R8, tokens));
+        return Err(past_limit(tokens));
     }
     let (kind, _, rest) = kind(tokens, None)?;
     locals(alloc, kind, rest, all)
@@ -52,13 +51,11 @@ pub fn locals<'a>(
     'locals: loop {
         let (next, after) = local(alloc, kind, rest)?;
         all.push(next)?;
-        let Some((token, behind)) = after.split_first() else {
-            return Err(fault(ReadCode::R6, after));
-        };
+        let (token, behind) = next_token(after)?;
         match token.kind {
             TokenKind::Sign(Sign::Comma) => rest = behind,
             TokenKind::Sign(Sign::Semicolon) => return Ok(behind),
-            _ => return Err(fault(wrong(&token.kind), after)),
+            _ => return Err(unexpected(&token.kind, after)),
         }
     }
 }
@@ -68,16 +65,14 @@ pub fn local(alloc: Global, kind: Kind, tokens: &[Token]) -> Result<(Stmt, &[Tok
     ensures follows { (st : List Frame) → Follows result (verdict tokens.now (WantLocal kind) st) (λ p. verdict p.1.now (HaveLocal (stmt_tree p.0)) st) }
     ensures shorter { IfOk result (λ p. length p.1.now < length tokens.now) }
 {
-    let Some((token, rest)) = tokens.split_first() else {
-        return Err(fault(ReadCode::R6, tokens));
-    };
+    let (token, rest) = next_token(tokens)?;
     match &token.kind {
         TokenKind::Name(name) => {
             let name = ident(alloc, name, token.place)?;
             variable(alloc, kind, name, rest)
         }
         TokenKind::Sign(Sign::Star) => pointer(alloc, kind, rest),
-        _ => Err(fault(wrong(&token.kind), tokens)),
+        _ => Err(unexpected(&token.kind, tokens)),
     }
 }
 
@@ -91,9 +86,7 @@ fn variable(
     ensures follows { (st : List Frame) → Follows result (verdict tokens.now (LocalName kind name) st) (λ p. verdict p.1.now (HaveLocal (stmt_tree p.0)) st) }
     ensures no_longer { IfOk result (λ p. length p.1.now ≤ length tokens.now) }
 {
-    let Some((token, rest)) = tokens.split_first() else {
-        return Err(fault(ReadCode::R6, tokens));
-    };
+    let (token, rest) = next_token(tokens)?;
     match token.kind {
         TokenKind::Sign(Sign::OpenBracket) => array(kind, name, rest),
         TokenKind::Sign(Sign::Equal) => begun(alloc, Ty::Int(kind), name, rest),
@@ -106,16 +99,14 @@ fn pointer(alloc: Global, kind: Kind, tokens: &[Token]) -> Result<(Stmt, &[Token
     ensures follows { (st : List Frame) → Follows result (verdict tokens.now (LocalStar kind) st) (λ p. verdict p.1.now (HaveLocal (stmt_tree p.0)) st) }
     ensures shorter { IfOk result (λ p. length p.1.now < length tokens.now) }
 {
-    let Some((token, rest)) = tokens.split_first() else {
-        return Err(fault(ReadCode::R6, tokens));
-    };
+    let (token, rest) = next_token(tokens)?;
     match &token.kind {
         TokenKind::Name(name) => {
             let name = ident(alloc, name, token.place)?;
             named_pointer(alloc, kind, name, rest)
         }
-        TokenKind::Sign(Sign::Star) => Err(fault(ReadCode::R7, tokens)),
-        _ => Err(fault(wrong(&token.kind), tokens)),
+        TokenKind::Sign(Sign::Star) => Err(left_out(tokens)),
+        _ => Err(unexpected(&token.kind, tokens)),
     }
 }
 
@@ -129,11 +120,9 @@ fn named_pointer(
     ensures follows { (st : List Frame) → Follows result (verdict tokens.now (LocalPointer kind name) st) (λ p. verdict p.1.now (HaveLocal (stmt_tree p.0)) st) }
     ensures no_longer { IfOk result (λ p. length p.1.now ≤ length tokens.now) }
 {
-    let Some((token, rest)) = tokens.split_first() else {
-        return Err(fault(ReadCode::R6, tokens));
-    };
+    let (token, rest) = next_token(tokens)?;
     match token.kind {
-        TokenKind::Sign(Sign::OpenBracket) => Err(fault(ReadCode::R7, tokens)),
+        TokenKind::Sign(Sign::OpenBracket) => Err(left_out(tokens)),
         TokenKind::Sign(Sign::Equal) => begun(alloc, Ty::Ptr(kind), name, rest),
         _ => Ok((declared(Ty::Ptr(kind), name, Init::Nothing), tokens)),
     }
@@ -145,11 +134,9 @@ fn array(kind: Kind, name: Ident, tokens: &[Token]) -> Result<(Stmt, &[Token]), 
     ensures shorter { IfOk result (λ p. length p.1.now < length tokens.now) }
     ensures faults { IfErr result (λ e. e ≢ Memory) }
 {
-    let Some((token, rest)) = tokens.split_first() else {
-        return Err(fault(ReadCode::R6, tokens));
-    };
+    let (token, rest) = next_token(tokens)?;
     let TokenKind::Literal(len, _) = token.kind else {
-        return Err(fault(wrong(&token.kind), tokens));
+        return Err(unexpected(&token.kind, tokens));
     };
     let rest = expect(rest, Sign::CloseBracket)?;
     match rest.split_first() {
@@ -161,7 +148,7 @@ fn array(kind: Kind, name: Ident, tokens: &[Token]) -> Result<(Stmt, &[Token]), 
                 },
                 _,
             ),
-        ) => Err(fault(ReadCode::R7, rest)),
+        ) => Err(left_out(rest)),
         _ => Ok((declared(Ty::Array(kind, len), name, Init::Nothing), rest)),
     }
 }

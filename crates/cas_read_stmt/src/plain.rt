@@ -14,11 +14,11 @@ ghost use Rattle.cas_read_stmt.specs.FollowStmts.{begins_simple};
 
 use crate::simple::simple;
 use cas_base::Place;
-use cas_lex::{ReadCode, Sign, Token, TokenKind};
+use cas_lex::{Sign, Token, TokenKind};
 use cas_read_expr::expr::outermost;
 use cas_read_expr::front::{behind, expect, ident};
 use cas_read_expr::keep::followed;
-use cas_read_expr::stop::{Stop, fault, wrong};
+use cas_read_expr::stop::{Stop, next_token, unexpected};
 use cas_syntax::{Expr, Ident, Stmt, StmtForm};
 use std::alloc::Global;
 
@@ -98,11 +98,9 @@ fn lock_name(alloc: Global, tokens: &[Token]) -> Result<(Ident, &[Token]), Stop>
     ensures unlock { (q : Place) (st : List Frame) → Follows result (verdict tokens.now (UnlockName q) st) (λ p. verdict p.1.now (HaveStmt (tree.unlock q p.0)) st) }
     ensures shorter { IfOk result (λ p. length p.1.now < length tokens.now) }
 {
-    let Some((token, rest)) = tokens.split_first() else {
-        return Err(fault(ReadCode::R6, tokens));
-    };
+    let (token, rest) = next_token(tokens)?;
     let TokenKind::Name(name) = &token.kind else {
-        return Err(fault(wrong(&token.kind), tokens));
+        return Err(unexpected(&token.kind, tokens));
     };
     let name = ident(alloc, name, token.place)?;
     let rest = expect(rest, Sign::CloseParen)?;

@@ -11,12 +11,12 @@ ghost use Rattle.cas_read_stmt.specs.FollowStmts.{begins_simple, changes};
 
 use crate::target::{element, pointed_to};
 use cas_base::{Kind, Place};
-use cas_lex::{ReadCode, Sign, Token, TokenKind};
+use cas_lex::{Sign, Token, TokenKind};
 use cas_read_expr::call::{Value, arguments, value_at};
 use cas_read_expr::expr::outermost;
 use cas_read_expr::front::ident;
 use cas_read_expr::keep::beside;
-use cas_read_expr::stop::{Stop, fault, wrong};
+use cas_read_expr::stop::{Stop, next_token, unexpected};
 use cas_syntax::{BinaryOperator, Expr, Ident, LValue, Stmt, StmtForm};
 use std::alloc::Global;
 
@@ -34,9 +34,7 @@ pub fn simple(alloc: Global, tokens: &[Token]) -> Result<(Stmt, &[Token]), Stop>
     ensures follows { (st : List Frame) → Follows result (begins_simple tokens.now st) (λ p. verdict p.1.now (HaveSimple (stmt_tree p.0)) st) }
     ensures shorter { IfOk result (λ p. length p.1.now < length tokens.now) }
 {
-    let Some((token, rest)) = tokens.split_first() else {
-        return Err(fault(ReadCode::R6, tokens));
-    };
+    let (token, rest) = next_token(tokens)?;
     match &token.kind {
         TokenKind::Name(name) => {
             let name = ident(alloc, name, token.place)?;
@@ -48,7 +46,7 @@ pub fn simple(alloc: Global, tokens: &[Token]) -> Result<(Stmt, &[Token]), Stop>
         }
         TokenKind::Sign(Sign::PlusPlus) => stepped(alloc, token.place, BinaryOperator::Add, rest),
         TokenKind::Sign(Sign::MinusMinus) => stepped(alloc, token.place, BinaryOperator::Sub, rest),
-        _ => Err(fault(wrong(&token.kind), tokens)),
+        _ => Err(unexpected(&token.kind, tokens)),
     }
 }
 
@@ -58,9 +56,7 @@ fn named(alloc: Global, name: Ident, tokens: &[Token]) -> Result<(Stmt, &[Token]
     ensures shorter { IfOk result (λ p. length p.1.now < length tokens.now) }
 {
     let place = name.place;
-    let Some((token, rest)) = tokens.split_first() else {
-        return Err(fault(ReadCode::R6, tokens));
-    };
+    let (token, rest) = next_token(tokens)?;
     match token.kind {
         TokenKind::Sign(Sign::OpenBracket) => {
             let (target, rest) = element(alloc, name, rest)?;
@@ -115,16 +111,14 @@ fn change_at(tokens: &[Token]) -> Result<(Change, &[Token]), Stop>
     ensures shorter { IfOk result (λ p. length p.1.now < length tokens.now) }
     ensures faults { IfErr result (λ e. e ≢ Memory) }
 {
-    let Some((token, rest)) = tokens.split_first() else {
-        return Err(fault(ReadCode::R6, tokens));
-    };
+    let (token, rest) = next_token(tokens)?;
     match token.kind {
         TokenKind::Sign(Sign::Equal) => Ok((Change::Assigns(None), rest)),
         TokenKind::Sign(Sign::PlusPlus) => Ok((Change::Steps(BinaryOperator::Add), rest)),
         TokenKind::Sign(Sign::MinusMinus) => Ok((Change::Steps(BinaryOperator::Sub), rest)),
         _ => match assigning(&token.kind) {
             Some(operator) => Ok((Change::Assigns(Some(operator)), rest)),
-            None => Err(fault(wrong(&token.kind), tokens)),
+            None => Err(unexpected(&token.kind, tokens)),
         },
     }
 }
@@ -156,9 +150,7 @@ fn stepped(
     ensures follows { (st : List Frame) → Follows result (verdict tokens.now (WantTarget place operator) st) (λ p. verdict p.1.now (HaveSimple (stmt_tree p.0)) st) }
     ensures shorter { IfOk result (λ p. length p.1.now < length tokens.now) }
 {
-    let Some((token, rest)) = tokens.split_first() else {
-        return Err(fault(ReadCode::R6, tokens));
-    };
+    let (token, rest) = next_token(tokens)?;
     match &token.kind {
         TokenKind::Name(name) => {
             let name = ident(alloc, name, token.place)?;
@@ -169,7 +161,7 @@ fn stepped(
             let (target, rest) = pointed_to(alloc, rest)?;
             Ok((step(place, target, operator), rest))
         }
-        _ => Err(fault(wrong(&token.kind), tokens)),
+        _ => Err(unexpected(&token.kind, tokens)),
     }
 }
 

@@ -12,7 +12,7 @@ ghost use Rattle.cas_parse.specs.Machine as machine;
 ghost use Rattle.cas_read_expr.specs.Follow.{Follows, taken, verdict};
 ghost use Rattle.cas_read_stmt.specs.FollowStmts.{begins_stmt, begins_listed, boxed_tree};
 
-use crate::depth::{DEPTH_LIMIT, starts_simple, too_deep};
+use crate::depth::{starts_simple, too_deep};
 use crate::head::{do_end, first, second, third};
 use crate::local::locals_in;
 use crate::parts::{block, boxed, do_stmt, for_stmt, if_stmt, while_stmt};
@@ -20,12 +20,12 @@ use crate::plain::{
     break_stmt, continue_stmt, lock_stmt, opened, print_stmt, return_stmt, simple_stmt, unlock_stmt,
 };
 use cas_base::Place;
-use cas_lex::{ReadCode, Sign, Token, TokenKind, Word};
+use cas_lex::{Sign, Token, TokenKind, Word};
 use cas_read_expr::front::{behind_else, closes_block, expect};
 use cas_read_expr::keep::{beside, followed};
 use cas_read_expr::kind::begins_kind_at;
-use cas_read_expr::stop::{Stop, fault, wrong};
-use cas_syntax::{Stmt, StmtForm};
+use cas_read_expr::stop::{Stop, fault, next_token, unexpected};
+use cas_syntax::{DEPTH_LIMIT, Stmt, StmtForm};
 use std::alloc::Global;
 
 // A statement that stands in so many others.
@@ -36,9 +36,7 @@ fn stmt(alloc: Global, tokens: &[Token], around: usize) -> Result<(Stmt, &[Token
     ensures follows { (st : List Frame) → Follows result (verdict tokens.now (WantStmt around) st) (λ p. verdict p.1.now (HaveStmt (stmt_tree p.0)) st) }
     ensures shorter { IfOk result (λ p. length p.1.now < length tokens.now) }
 {
-    let Some((token, _)) = tokens.split_first() else {
-        return Err(fault(ReadCode::R6, tokens));
-    };
+    let (token, _) = next_token(tokens)?;
     if around < DEPTH_LIMIT {
         started(alloc, tokens, around)
     } else {
@@ -65,9 +63,7 @@ fn started(alloc: Global, tokens: &[Token], around: usize) -> Result<(Stmt, &[To
     ensures follows { (st : List Frame) → Follows result (begins_stmt tokens.now around st) (λ p. verdict p.1.now (HaveStmt (stmt_tree p.0)) st) }
     ensures shorter { IfOk result (λ p. length p.1.now < length tokens.now) }
 {
-    let Some((token, rest)) = tokens.split_first() else {
-        return Err(fault(ReadCode::R6, tokens));
-    };
+    let (token, rest) = next_token(tokens)?;
     if starts_simple(&token.kind) {
         return simple_stmt(alloc, tokens);
     }
@@ -94,7 +90,7 @@ fn started(alloc: Global, tokens: &[Token], around: usize) -> Result<(Stmt, &[To
         TokenKind::Word(Word::Lock) => lock_stmt(alloc, place, rest),
         TokenKind::Word(Word::Unlock) => unlock_stmt(alloc, place, rest),
         TokenKind::Word(Word::Print) => print_stmt(alloc, place, rest),
-        _ => Err(fault(wrong(&token.kind), tokens)),
+        _ => Err(unexpected(&token.kind, tokens)),
     }
 }
 
@@ -113,9 +109,7 @@ fn list(
     let mut all = Vec::new(alloc);
     let mut rest = tokens;
     'stmts: loop {
-        let Some((token, behind)) = rest.split_first() else {
-            return Err(fault(ReadCode::R6, rest));
-        };
+        let (token, behind) = next_token(rest)?;
         if closes_block(&token.kind) {
             // many lists of a text are short, and their room is more than they need
             all.shrink_to_fit();

@@ -6,11 +6,11 @@ ghost use Rattle.cas_parse.specs.Frames.{Frame, Use, WantOutermost, AfterStar, T
 ghost use Rattle.cas_read_expr.specs.Follow.{Follows, verdict};
 ghost use Rattle.cas_read_stmt.specs.FollowStmts.{reaches};
 
-use cas_lex::{ReadCode, Sign, Token, TokenKind};
+use cas_lex::{Sign, Token, TokenKind};
 use cas_read_expr::expr::outermost;
 use cas_read_expr::front::ident;
 use cas_read_expr::keep::followed;
-use cas_read_expr::stop::{Stop, fault, wrong};
+use cas_read_expr::stop::{Stop, next_token, unexpected};
 use cas_syntax::{Expr, Ident, LValue};
 use std::alloc::Global;
 
@@ -20,9 +20,7 @@ pub fn pointed_to(alloc: Global, tokens: &[Token]) -> Result<(LValue, &[Token]),
     ensures follows { (usage : Use) (st : List Frame) → Follows result (verdict tokens.now (AfterStar usage) st) (λ p. reaches p.1.now usage (target_tree p.0) st) }
     ensures shorter { IfOk result (λ p. length p.1.now < length tokens.now) }
 {
-    let Some((token, rest)) = tokens.split_first() else {
-        return Err(fault(ReadCode::R6, tokens));
-    };
+    let (token, rest) = next_token(tokens)?;
     match &token.kind {
         TokenKind::Name(name) => {
             let name = ident(alloc, name, token.place)?;
@@ -33,7 +31,7 @@ pub fn pointed_to(alloc: Global, tokens: &[Token]) -> Result<(LValue, &[Token]),
             let (pointer, rest) = followed(pointer, rest, Sign::CloseParen)?;
             Ok((LValue::Deref(pointer), rest))
         }
-        _ => Err(fault(wrong(&token.kind), tokens)),
+        _ => Err(unexpected(&token.kind, tokens)),
     }
 }
 

@@ -6,7 +6,7 @@ ghost use Rattle.std.specs.Option.{option_and_then, option_map};
 ghost use Rattle.std.specs.Str.{bytes_eq};
 ghost use Rattle.cas_settle.specs.declared.link.LinkFault.TheVariants.{Twice};
 ghost use Rattle.cas_base.specs.Decl.{definitions, definition_of, functions_of, guard_of, is_lock};
-ghost use Rattle.cas_settle.specs.Settle.{all_decls, cell_of, first_repeated, locks_of, names_of, words_of};
+ghost use Rattle.cas_settle.specs.Settle.{all_decls, cell_of, first_repeated, locks_of, names_of, twice_fault, words_of};
 ghost use Rattle.cas_settle.specs.Located.{cells_in, decls_in, located, located_from, located_in, location_of, lock_word_in, names_in};
 ghost use Rattle.cas_settle.specs.Refusal.{IsRefusedBy};
 
@@ -60,7 +60,7 @@ impl<'a> Definitions<'a> {
         requires few_units { length units.now < 2 ^ 32 }
         requires few_functions { All (λ unit. length (functions_of unit) < 2 ^ 32) units.now }
         ensures found { IfOk result (λ found. found ≡ located_from 0 0 units.now) }
-        ensures refused { IsRefusedBy result (option_map Twice (first_repeated [] (names_of (definitions (all_decls units.now))))) }
+        ensures refused { IsRefusedBy result (twice_fault (definitions (all_decls units.now))) }
     {
         let mut found = Definitions::new(alloc);
         for (unit, decls) in units.units().iter().enumerate() {

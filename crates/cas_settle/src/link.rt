@@ -1,15 +1,16 @@
 //! How units fit together: which declarations of several units settle, and what a program of them has.
-ghost use Rattle.std.specs.Prelude.{◌≡◌, ◌≢◌, ℕ, ◌-◌, ◌^◌, ◌<◌, [], ◌∷◌, All, IfErr, IfOk, OnOk, Some, length, map, min};
-ghost use Rattle.cas_settle.specs.declared.link.LinkFault.TheVariants.{Memory};
-ghost use Rattle.cas_base.specs.Decl.{definition_of, functions_of, references};
-ghost use Rattle.cas_settle.specs.Settle.{IsSettled, all_decls, cells_of, entry_fault, first_fault, first_refusal, limit_fault, place_of, reference_fault};
-ghost use Rattle.cas_settle.specs.Located.{decls_in, place_in};
+ghost use Rattle.std.specs.Prelude.{◌≡◌, ◌≢◌, ℕ, ◌-◌, ◌^◌, ◌<◌, [], ◌∷◌, All, IfErr, IfOk, OnOk, None, Some, length, map, min};
+ghost use Rattle.cas_settle.specs.declared.link.LinkFault.TheVariants.{Memory, NotDefined};
+ghost use Rattle.cas_base.specs.Decl.{functions_of, references};
+ghost use Rattle.cas_base.specs.Decl as spec;
+ghost use Rattle.cas_settle.specs.Settle.{IsSettled, all_decls, cells_of, entries_fault, entry_fault, first_refusal, limit_fault, place_of, reference_fault, references_fault};
+ghost use Rattle.cas_settle.specs.Located.{decls_in, located, location_of, place_in};
 ghost use Rattle.cas_settle.specs.Refusal.{IsRefusedBy};
 
 #[cfg(test)]
 mod tests;
 
-use crate::definitions::Definitions;
+use crate::definitions::{Definition, Definitions};
 use crate::roster::Roster;
 use cas_base::{Decl, Name, NoMemory, Seq};
 use std::alloc::{AllocFailed, Global};
@@ -144,7 +145,7 @@ fn check_references(
     definitions: &Definitions,
     units: &Roster,
 ) -> Result<(), LinkFault>
-    ensures { IsRefusedBy result (first_fault (λ decl. reference_fault decl (definition_of (decls_in definitions.now) decl.name)) (references (all_decls units.now))) }
+    ensures { IsRefusedBy result (references_fault (decls_in definitions.now) (references (all_decls units.now))) }
 {
     for decls in units.units() {
         check_unit(alloc, definitions, decls.as_slice())?;
@@ -154,7 +155,7 @@ fn check_references(
 
 // The same for the declarations of one unit.
 fn check_unit(alloc: Global, definitions: &Definitions, decls: &[Decl]) -> Result<(), LinkFault>
-    ensures { IsRefusedBy result (first_fault (λ decl. reference_fault decl (definition_of (decls_in definitions.now) decl.name)) (references decls.now)) }
+    ensures { IsRefusedBy result (references_fault (decls_in definitions.now) (references decls.now)) }
 {
     for decl in decls {
         check_decl(alloc, definitions, decl)?;
@@ -164,7 +165,7 @@ fn check_unit(alloc: Global, definitions: &Definitions, decls: &[Decl]) -> Resul
 
 // The same for one declaration.
 fn check_decl(alloc: Global, definitions: &Definitions, decl: &Decl) -> Result<(), LinkFault>
-    ensures { IsRefusedBy result (first_fault (λ decl. reference_fault decl (definition_of (decls_in definitions.now) decl.name)) (references (decl.now ∷ []))) }
+    ensures { IsRefusedBy result (references_fault (decls_in definitions.now) (references (decl.now ∷ []))) }
 {
     if decl.defined {
         return Ok(());
@@ -174,11 +175,9 @@ fn check_decl(alloc: Global, definitions: &Definitions, decl: &Decl) -> Result<(
 
 // Checks a declaration against the definition of its name.
 fn check_reference(alloc: Global, definitions: &Definitions, decl: &Decl) -> Result<(), LinkFault>
-    ensures { IsRefusedBy result (reference_fault decl.now (definition_of (decls_in definitions.now) decl.now.name)) }
+    ensures { IsRefusedBy result (reference_fault decl.now (spec.definition_of (decls_in definitions.now) decl.now.name)) }
 {
-    let Some(definition) = definitions.find(decl.name.as_str()) else {
-        return Err(LinkFault::NotDefined(decl.name.copy(alloc)?));
-    };
+    let definition = definition_of(alloc, definitions, &decl.name)?;
     if definition.decl.form.agrees(&decl.form) {
         return Ok(());
     }
@@ -189,13 +188,29 @@ fn check_reference(alloc: Global, definitions: &Definitions, decl: &Decl) -> Res
     })
 }
 
+// The definition of a name. Refused if no unit defines it (L1).
+fn definition_of<'a, 'b>(
+    alloc: Global,
+    definitions: &'b Definitions<'a>,
+    name: &Name,
+) -> Result<&'b Definition<'a>, LinkFault>
+    ensures found { IfOk result (λ found. location_of definitions.now name.now ≡ Some (located found.now)) }
+    ensures decl { IfOk result (λ found. spec.definition_of (decls_in definitions.now) name.now ≡ Some found.now.decl.now) }
+    ensures refused { IfErr result (λ fault. fault ≢ Memory → (fault ≡ NotDefined name.now) × (spec.definition_of (decls_in definitions.now) name.now ≡ None)) }
+{
+    match definitions.find(name.as_str()) {
+        Some(definition) => Ok(definition),
+        None => Err(LinkFault::NotDefined(name.copy(alloc)?)),
+    }
+}
+
 // The unit and the place of each entry.
 fn entry_places(
     alloc: Global,
     definitions: &Definitions,
     entries: &[Name],
 ) -> Result<Seq<(u32, u32)>, LinkFault>
-    ensures refused { IsRefusedBy result (first_fault (λ name. entry_fault name (definition_of (decls_in definitions.now) name)) entries.now) }
+    ensures refused { IsRefusedBy result (entries_fault (decls_in definitions.now) entries.now) }
     ensures places { IfOk result (λ places. map (λ place. Some place) places ≡ map (place_in definitions.now) entries.now) }
 {
     let mut places = Vec::new(alloc);
@@ -211,12 +226,10 @@ fn entry_place(
     definitions: &Definitions,
     name: &Name,
 ) -> Result<(u32, u32), LinkFault>
-    ensures refused { IsRefusedBy result (entry_fault name.now (definition_of (decls_in definitions.now) name.now)) }
+    ensures refused { IsRefusedBy result (entry_fault name.now (spec.definition_of (decls_in definitions.now) name.now)) }
     ensures place { IfOk result (λ place. place_in definitions.now name.now ≡ Some place) }
 {
-    let Some(definition) = definitions.find(name.as_str()) else {
-        return Err(LinkFault::NotDefined(name.copy(alloc)?));
-    };
+    let definition = definition_of(alloc, definitions, name)?;
     if definition.decl.form.is_entry() {
         return Ok((definition.unit, definition.place));
     }

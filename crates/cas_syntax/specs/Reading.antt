@@ -11,25 +11,19 @@ use Rattle.cas_lex.specs.declared.token.Word.TheVariants as w
 use Rattle.cas_lex.specs.declared.token.Sign.TheVariants as sg
 use Rattle.cas_lex.specs.Lexed.{HasTokens, HasFault}
 use Rattle.cas_lex.specs.Places.{start, behind}
+use Rattle.cas_syntax.specs.declared.limits.TheConstants.{DEPTH_LIMIT, TOKEN_LIMIT}
 use Rattle.cas_syntax.specs.Tree.{ItemTree, ModuleTree}
 use Rattle.cas_syntax.specs.Limits.{Limits}
 use Rattle.cas_syntax.specs.Tokens.{sign}
 use Rattle.cas_syntax.specs.Items.{SpellsItems}
 
--- the most statements that stand in each other, and the most tokens of an expression that stands in no other
-abbrev pub depth_limit : ℕ
-depth_limit = 200
-
-abbrev pub token_limit : ℕ
-token_limit = 1000
-
 -- the limits, asked of tokens behind which so many stand
 abbrev pub within : (cut : ℕ) → Limits
-within cut = record { depth = depth_limit; tokens = token_limit; cut = cut; left_out = None }
+within cut = record { depth = DEPTH_LIMIT; tokens = TOKEN_LIMIT; cut = cut; left_out = None }
 
 -- no limits for so many tokens
 abbrev pub without : (count : ℕ) → (left_out : Option ℕ) → Limits
-without count left_out = record { depth = depth_limit; tokens = token_limit; cut = count; left_out = left_out }
+without count left_out = record { depth = DEPTH_LIMIT; tokens = TOKEN_LIMIT; cut = count; left_out = left_out }
 
 -- these tokens are a whole module
 abbrev pub IsModule : List ItemTree → List Token → Type 0

@@ -4,8 +4,12 @@
 //! read as (`Reading`). It stands on `cas_base` and `cas_lex`.
 #![tactic(auto)]
 
+mod levels;
+mod limits;
 mod tree;
 
+pub use levels::{AND_LEVEL, CONDITIONAL_LEVEL, OPERAND_LEVEL, OR_LEVEL, level};
+pub use limits::{DEPTH_LIMIT, TOKEN_LIMIT};
 pub use tree::{
     BinaryOperator, Expr, Fun, Ident, Init, Item, LValue, Module, Stmt, StmtForm, UnaryOperator,
 };
