@@ -1,4 +1,4 @@
-//! Declarations, as they stand in the modules of every language of the compiler: what they declare, when two of one name
+//! Declarations, as they are in the modules of every language of the compiler: what they declare, when two of one name
 //! agree, and modules as their declarations, data and functions.
 
 ghost use Rattle.std.specs.Prelude.{◌≡◌, IfOk};
@@ -31,7 +31,7 @@ pub enum Form {
         /// A word or an array of words.
         ty: Ty,
     },
-    /// A function, called only where the locks that it `holds` are held.
+    /// A function, called only while the locks that it `holds` are held.
     Function {
         /// The type of what it returns.
         ret: Ty,
@@ -42,7 +42,7 @@ pub enum Form {
     },
 }
 
-/// A declaration of a module. `defined` is false where the module says `extern`, or gives no body.
+/// A declaration of a module. `defined` is false if the module says `extern`, or gives no body.
 #[derive(Debug, Drop, PartialEq, Eq)]
 pub struct Decl {
     /// The name that it declares.
@@ -79,7 +79,7 @@ impl Form {
     ///
     /// # Errors
     ///
-    /// `NoMemory` for want of memory.
+    /// `NoMemory` if it runs out of memory.
     pub fn copy(&self, alloc: alloc::Global) -> Result<Form, NoMemory>
         ensures { IfOk result (λ form. form ≡ self.now) }
     {
@@ -221,7 +221,7 @@ impl Decl {
     ///
     /// # Errors
     ///
-    /// `NoMemory` for want of memory.
+    /// `NoMemory` if it runs out of memory.
     pub fn copy(&self, alloc: alloc::Global) -> Result<Decl, NoMemory>
         ensures { IfOk result (λ decl. decl ≡ self.now) }
     {
@@ -238,7 +238,7 @@ impl Global {
     ///
     /// # Errors
     ///
-    /// `NoMemory` for want of memory.
+    /// `NoMemory` if it runs out of memory.
     pub fn copy(&self, alloc: alloc::Global) -> Result<Global, NoMemory>
         ensures { IfOk result (λ copied. copied ≡ self.now) }
     {

@@ -23,7 +23,7 @@ pub fn signed_word_of(number: i32)
     ensures { signed (word_of number) ≡ number }
 {}
 
-/// The signed reading of a sum is the sum of the signed readings, wrapped; so it is that sum where it fits.
+/// The signed reading of a sum is the sum of the signed readings, wrapped; so it is that sum if it fits.
 #[tactic(auto, using(crate::proofs::WordLaws::wraps))]
 pub fn signed_sum(a: u32, b: u32)
     ensures wraps { signed (word_add a b) ≡ wrapped (signed a +ℤ signed b) }

@@ -1,5 +1,5 @@
 //! What every part of the compiler speaks of: words, kinds and types, names, places, declarations, and
-//! the acts of a step. It stands on the standard library alone.
+//! the acts of a step. It depends on the standard library alone.
 #![tactic(auto)]
 
 mod act;

@@ -1,8 +1,8 @@
-//! The answer for want of memory.
+//! The answer if memory runs out.
 
 use std::alloc::{AllocError, AllocFailed};
 
-/// Want of memory, or of numbers to count what memory would have to hold: 2^32 items. It is an answer of its own, and no
+/// Out of memory, or out of numbers to count what memory would have to hold: 2^32 items. It is an answer of its own, and no
 /// fault of a text is merged with it.
 #[derive(Clone, Copy, Debug, PartialEq, Eq, Hash)]
 pub struct NoMemory;

@@ -35,7 +35,7 @@ impl Model for Name {
 pub enum NameFault {
     /// The text isn't of a name's shape, or is longer than 63 bytes.
     Shape,
-    /// Want of memory.
+    /// It ran out of memory.
     Memory,
 }
 
@@ -57,7 +57,7 @@ impl Name {
 
     /// The name with this text.
     ///
-    /// Errors: `Shape` exactly where the text is no name; `Memory`.
+    /// Errors: `Shape` exactly if the text is no name; `Memory`.
     pub fn new(alloc: Global, text: &str) -> Result<Name, NameFault>
         ensures named { IfOk result (λ name. name ≡ text.now) }
         ensures shaped { OnOk result (IsTrue (is_name text.now)) }

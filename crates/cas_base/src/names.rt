@@ -30,7 +30,7 @@ impl<'a, const N: usize> Names<'a, N> {
     /// The table of the parts of a text, split at each space: two spaces in a row have the empty row between
     /// them, and the empty text has one row, which is empty.
     ///
-    /// None exactly where there aren't `N` rows, or two are equal.
+    /// None exactly if there aren't `N` rows, or two are equal.
     pub fn new(rows: &'a str) -> Option<Names<'a, N>>
         ensures rows { IfSome result (λ names. names ≡ rows_of rows.entry.now) }
         ensures table { IfSome result (λ names. IsTable N names) }
@@ -43,7 +43,7 @@ impl<'a, const N: usize> Names<'a, N> {
         }
     }
 
-    /// The number of the row that equals a text. None exactly where no row does.
+    /// The number of the row that equals a text. None exactly if no row does.
     pub fn find(&self, text: &str) -> Option<usize>
         ensures found { (k : ℕ) → (result ≡ Some k) ↔ IsRow self.now k text.now }
         ensures below { IfSome result (λ k. k < N) }
@@ -115,7 +115,7 @@ fn is_new_at(text: &str, k: usize) -> bool
 
 /// Makes the match over the rows of a table, inside a function's body, in either direction. The rows are
 /// the row numbers of a `Names`; a table of few rows may have the texts themselves, and then wants no
-/// `Names`. Each row stands beside its case, a path to a value without fields.
+/// `Names`. Each row has its case, a path to a value without fields.
 ///
 /// - `cases!(case_at row; ..)` is the case of a row, or None where no row of the table is this one.
 /// - `cases!(row_of case; ..)` is the row of a case.

@@ -1,6 +1,6 @@
 //! Places in a text.
 
-/// A place in a text. Places compare as they stand in the text.
+/// A place in a text. Places compare by their order in the text.
 #[derive(Clone, Copy, Debug, PartialEq, Eq, PartialOrd, Ord, Hash)]
 pub struct Place {
     /// The line, counted from 1.

@@ -45,7 +45,7 @@ fn write_function<W: fmt::Write>(
     write_names(f, holds)
 }
 
-// How many types there are, and then each, behind a space.
+// How many types there are, and then each, after a space.
 fn write_types<W: fmt::Write>(f: &mut fmt::Formatter<W>, types: &[Ty]) -> fmt::Result
     ensures { DisplaysOnOk W.write_str_gives f.old result (Some (types_text types.now)) f.new }
 {
@@ -57,7 +57,7 @@ fn write_types<W: fmt::Write>(f: &mut fmt::Formatter<W>, types: &[Ty]) -> fmt::R
     Ok(())
 }
 
-// How many names there are, and then each, behind a space.
+// How many names there are, and then each, after a space.
 fn write_names<W: fmt::Write>(f: &mut fmt::Formatter<W>, names: &[Name]) -> fmt::Result
     ensures { DisplaysOnOk W.write_str_gives f.old result (Some (names_text names.now)) f.new }
 {

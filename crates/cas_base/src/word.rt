@@ -49,7 +49,7 @@ pub fn sar(a: u32, b: u32) -> u32
     a.cast_signed().wrapping_shr(b).cast_unsigned()
 }
 
-/// The quotient of the signed readings, rounded toward zero. None exactly where the divisor is 0, and for
+/// The quotient of the signed readings, rounded toward zero. None exactly if the divisor is 0, and for
 /// -2147483648 by -1.
 pub fn div_signed(a: u32, b: u32) -> Option<u32>
     ensures { result ≡ word_div_signed a b }
@@ -58,7 +58,7 @@ pub fn div_signed(a: u32, b: u32) -> Option<u32>
     Some(quotient.cast_unsigned())
 }
 
-/// The remainder of the signed readings, with the dividend's sign. None exactly where the divisor is 0, and
+/// The remainder of the signed readings, with the dividend's sign. None exactly if the divisor is 0, and
 /// for -2147483648 by -1.
 pub fn rem_signed(a: u32, b: u32) -> Option<u32>
     ensures { result ≡ word_rem_signed a b }
@@ -67,14 +67,14 @@ pub fn rem_signed(a: u32, b: u32) -> Option<u32>
     Some(remainder.cast_unsigned())
 }
 
-/// The quotient, rounded down. None exactly where the divisor is 0.
+/// The quotient, rounded down. None exactly if the divisor is 0.
 pub fn div_unsigned(a: u32, b: u32) -> Option<u32>
     ensures { result ≡ word_div_unsigned a b }
 {
     a.checked_div(b)
 }
 
-/// The remainder. None exactly where the divisor is 0.
+/// The remainder. None exactly if the divisor is 0.
 pub fn rem_unsigned(a: u32, b: u32) -> Option<u32>
     ensures { result ≡ word_rem_unsigned a b }
 {

@@ -8,7 +8,7 @@ ghost use Rattle.cas_command.specs.Words as w;
 
 use crate::parts::Given;
 
-/// Whether each option is one of `world`, and stands once.
+/// Whether each option is one of `world`, and is given once.
 pub(crate) fn are_of_world(options: &[Given]) -> bool
     ensures { result ≡ w.are_options w.world_options (map given_view options.now) }
 {
@@ -29,7 +29,7 @@ fn is_of_world(option: &str) -> bool
     option == "--threads" || option == "--schedule" || option == "--rounds"
 }
 
-// Whether no option stands twice.
+// Whether no option is given twice.
 fn stand_once(options: &[Given]) -> bool
     ensures { result ≡ w.stand_once (map given_view options.now) }
 {
@@ -41,7 +41,7 @@ fn stand_once(options: &[Given]) -> bool
     true
 }
 
-/// The value of an option, where it is given.
+/// The value of an option, if it is given.
 pub(crate) fn value_of<'a>(option: &str, options: &[Given<'a>]) -> Option<&'a str>
     ensures { text_of result ≡ w.value_of option.now (map given_view options.now) }
 {

@@ -86,7 +86,7 @@ impl<'a> Parts<'a> {
         Ok(())
     }
 
-    // One more word, which isn't `--`: the option that waits for a value behind it, if one does.
+    // One more word, which isn't `--`: the option that waits for a value after it, if one does.
     #[tactic(auto, using(crate::proofs::Gathering::step_name, crate::proofs::Gathering::step_option, crate::proofs::Gathering::step_waiting))]
     fn add_word(&mut self, word: &'a str) -> Result<Option<&'a str>, NoMemory>
         requires { bytes_eq word.now (codes "--") ≡ false }
@@ -107,7 +107,7 @@ impl<'a> Parts<'a> {
     }
 }
 
-/// The words apart, where they can be: an option without its value is at the end of none.
+/// The words apart, if they can be: an option without its value is at the end of none.
 #[tactic(auto, using(crate::proofs::Gathering::step_value, crate::proofs::Gathering::step_dashes, crate::proofs::Gathering::followed_by_nothing))]
 pub(crate) fn parts_of(alloc: Global, words: &[Text]) -> Result<Option<Parts<'_>>, NoMemory>
     ensures { IfOk result (λ parts. parts ≡ parts_of None words.entry.now) }
@@ -151,7 +151,7 @@ pub(crate) fn has_dash(word: &str) -> bool
     }
 }
 
-/// What is before the first such character of a text and what is behind it, where it is there. The character is
+/// What is before the first such character of a text and what is after it, if it is there. The character is
 /// of one byte.
 pub(crate) fn cut_at(text: &str, character: char) -> Option<(&str, &str)>
     requires { character < 128 }

@@ -29,7 +29,7 @@ pub(crate) const TURN_LIMIT: u64 = 10_000_000;
 /// The most rounds.
 pub(crate) const ROUND_LIMIT: u64 = 1_000_000;
 
-/// The rounds where nothing is said of turns.
+/// The rounds if nothing is said of turns.
 pub(crate) const DEFAULT_ROUNDS: u32 = 100_000;
 
 /// Whether a text may have this name: it isn't empty, nor `-` alone.
@@ -139,7 +139,7 @@ fn item_of(threads: u32, text: &str) -> Option<Item>
     }
 }
 
-// The item of a thread and a count, where both are there.
+// The item of a thread and a count, if both are there.
 fn counted(thread: Option<u32>, count: Option<u32>) -> Option<Item>
     ensures { option_map item_view result ≡ option_and_then (λ i. option_map (λ n. (i, n)) count) thread }
 {
@@ -149,7 +149,7 @@ fn counted(thread: Option<u32>, count: Option<u32>) -> Option<Item>
     })
 }
 
-// The items of these texts, where each has one.
+// The items of these texts, if each has one.
 fn items_of(alloc: Global, threads: u32, parts: &[&str]) -> Result<Option<Vec<Item>>, NoMemory>
     ensures { IfOk result (λ items. option_map (λ found. map item_view found.items) items ≡ w.items_of threads (texts parts.now)) }
 {
@@ -211,7 +211,7 @@ fn rounds_of(text: &str) -> Option<u32>
     }
 }
 
-/// The turns that these options give, where there are so many threads: a schedule or rounds, not both.
+/// The turns that these options give, for so many threads: a schedule or rounds, not both.
 pub(crate) fn turns_of(
     alloc: Global,
     threads: u32,

@@ -13,9 +13,9 @@ use crate::values::{are_text_names, is_text_name, threads_of, turns_of};
 use cas_base::{Name, NoMemory, Text};
 use std::alloc::Global;
 
-/// The command of these words, where they are one's.
+/// The command of these words, if they are one's.
 ///
-/// Errors: want of memory.
+/// Errors: it ran out of memory.
 pub fn command_of(alloc: Global, words: &[Text]) -> Result<Option<Command<'_>>, NoMemory>
     ensures { IfOk result (λ command. option_map command_view command ≡ w.command_of words.entry.now) }
 {

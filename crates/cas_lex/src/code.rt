@@ -3,7 +3,7 @@
 /// Why a text is no module, as it is printed. Each code has a place in the text.
 #[derive(Clone, Copy, Debug, PartialEq, Eq)]
 pub enum ReadCode {
-    /// The bytes aren't UTF-8, or a character that no module has stands outside a comment; at the byte.
+    /// The bytes aren't UTF-8, or a character that no module has is outside a comment; at the byte.
     R1,
     /// A `/*` has no `*/` after it; at the `/*`.
     R2,
@@ -13,7 +13,7 @@ pub enum ReadCode {
     R4,
     /// No module text has this token after the tokens before it.
     R5,
-    /// The text ends where no module text ends; at the end.
+    /// The text ends where no module text can end; at the end.
     R6,
     /// A form of C that is left out by name; at its token.
     R7,

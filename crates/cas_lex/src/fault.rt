@@ -7,13 +7,13 @@ use std::alloc::{AllocError, AllocFailed};
 /// Why a text gives no tokens.
 #[derive(Clone, Copy, Debug, PartialEq, Eq)]
 pub enum LexFault {
-    /// Want of memory.
+    /// It ran out of memory.
     Memory,
     /// The first lexical fault of the text.
     At {
         /// R1, R2, R3, R4 or R7.
         code: ReadCode,
-        /// Where it stands.
+        /// Where it is.
         place: Place,
     },
 }

@@ -1,4 +1,4 @@
-//! What stands at the front of a text.
+//! What is at the front of a text.
 
 ghost use Rattle.std.specs.Prelude.{◌≡◌, ◌≤◌, length, take_while, IfOk, IsTrue, not, ◌&&◌};
 ghost use Rattle.std.specs.List.{list_all, prefix_len};
@@ -19,7 +19,7 @@ use crate::word::{WordTable, word_at};
 use cas_base::{NAME_LIMIT, Name, NameFault, NoMemory};
 use std::alloc::Global;
 
-/// What stands at the front of a text.
+/// What is at the front of a text.
 #[derive(Debug, Drop)]
 pub enum Front {
     /// So many bytes that separate tokens: a blank or a comment.
@@ -30,7 +30,7 @@ pub enum Front {
     Fault(ReadCode),
 }
 
-/// What stands at the front of a text.
+/// What is at the front of a text.
 #[tactic(auto, unfolding(crate::specs::Front::front_at))]
 pub fn front_of(alloc: Global, words: &WordTable, text: &[u8]) -> Result<Front, NoMemory>
     ensures { IfOk result (λ found. found ≡ spec.front text.now) }
@@ -50,7 +50,7 @@ pub fn front_of(alloc: Global, words: &WordTable, text: &[u8]) -> Result<Front, 
     }
 }
 
-// What stands at the front of a text that begins with no name and no literal.
+// What is at the front of a text that begins with no name and no literal.
 #[tactic(auto, unfolding(crate::specs::Front::mark_at))]
 fn mark_at(first: u8, text: &[u8]) -> Front
     ensures { result ≡ spec.mark_at first text.now }
@@ -174,7 +174,7 @@ fn is_unused(byte: u8) -> bool
     byte == b'@' || byte == b'$' || byte == b'`' || byte == b'\\'
 }
 
-// Whether this byte may stand outside comments.
+// Whether this byte may be outside comments.
 fn is_character(byte: u8) -> bool
     ensures { result ≡ characters.is_character byte }
 {

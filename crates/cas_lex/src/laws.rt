@@ -26,7 +26,7 @@ pub fn spellings_are_read()
     ensures signs { (sign : Sign) → sign_at (sign_spelling sign) ≡ Some sign }
 {}
 
-/// The sign that is read at the front of a text begins it, and no longer sign does; and where none is read,
+/// The sign that is read at the front of a text begins it, and no longer sign does; and if none is read,
 /// no sign begins the text.
 pub fn signs_are_longest()
     ensures begins { (text : List ℕ) (s : Sign) → sign_at text ≡ Some s

@@ -22,8 +22,8 @@ use std::alloc::Global;
 /// # Errors
 ///
 /// `At` exactly with the text's first lexical fault, of code R1, R2, R3, R4 or R7. A text that isn't UTF-8 has R1
-/// behind its longest front that is; in any other text the fault is the first from left to right. `Memory` for
-/// want of memory.
+/// after its longest front that is; in any other text the fault is the first from left to right. `Memory` if it runs
+/// out of memory.
 pub fn lex(alloc: Global, text: &[u8]) -> Result<Vec<Token>, LexFault>
     requires { length text.now + 1 < 2 ^ 32 }
     ensures tokens { IfOk result (λ tokens. spec.HasTokens text.now tokens.items) }

@@ -123,7 +123,7 @@ fn is_octal(digits: &[u8]) -> bool
     }
 }
 
-// The value of these digits, or none where it is above 4294967295.
+// The value of these digits, or none if it is above 4294967295.
 fn value_of(base: u32, digits: &[u8]) -> Option<u32>
     requires { 0 < base }
     ensures { result ≡ spec.small (digits_value base digits.now) }

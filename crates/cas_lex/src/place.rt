@@ -8,7 +8,7 @@ use cas_base::Place;
 /// The place of a text's first byte.
 pub const START: Place = Place { line: 1, col: 1 };
 
-/// The place behind a text's last byte.
+/// The place after a text's last byte.
 pub fn end_of(text: &[u8]) -> Place
     requires { length text.now + 1 < 2 ^ 32 }
     ensures { result ≡ spec.behind spec.start text.now }
@@ -16,7 +16,7 @@ pub fn end_of(text: &[u8]) -> Place
     behind(START, text)
 }
 
-/// The place behind these bytes, of which the first is at a place.
+/// The place after these bytes, of which the first is at a place.
 pub fn behind(place: Place, bytes: &[u8]) -> Place
     requires lines { place.line + length bytes.now < 2 ^ 32 }
     requires columns { place.col + length bytes.now < 2 ^ 32 }

@@ -10,7 +10,7 @@ use cas_base::{Kind, Name, Place};
 pub struct Token {
     /// What it is.
     pub kind: TokenKind,
-    /// Where its first byte stands.
+    /// Where its first byte is.
     pub place: Place,
 }
 

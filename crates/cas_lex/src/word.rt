@@ -44,7 +44,7 @@ impl WordTable {
     }
 }
 
-/// The word with this row, or none where the row is left out.
+/// The word with this row, or none if the row is left out.
 pub fn word_at(row: usize) -> Option<Word>
     ensures { result ≡ slice_get words row }
 {

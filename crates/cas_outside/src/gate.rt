@@ -2,7 +2,7 @@
 
 /// A place that workers pass, one call before each instruction and one at their end.
 ///
-/// It tells contracts nothing. A gate of a test can count the calls, or hold a worker up.
+/// It says nothing to contracts. A gate of a test can count the calls, or hold a worker up.
 pub trait Gate: Sync {
     /// The worker of a thread passes, having executed this many instructions.
     fn pass(&self, thread: u32, executed: u64);

@@ -1,9 +1,9 @@
 //! Where texts come from, where bytes go, and what a worker passes.
 //!
 //! A command reads from a [`Shelf`], puts into a [`Sink`] and lets its workers pass a [`Gate`].
-//! Each tells contracts what it did: a shelf the names whose reading failed, a sink the bytes
+//! Each reports to contracts what it did: a shelf the names whose reading failed, a sink the bytes
 //! that it took and the count of its faults. So a command can prove that it answers `cannot read`
-//! only where a reading failed.
+//! only if a reading failed.
 //!
 //! [`MemoryShelf`] and [`MemorySink`] tell their contents too, and fail when they are asked to.
 //! [`FileShelf`], [`StdSink`] and [`OpenGate`] are the real ones. No contract can say what a file

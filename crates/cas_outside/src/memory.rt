@@ -38,7 +38,7 @@ impl Model for MemoryShelf {
 impl MemoryShelf {
     /// A shelf of these names and texts, of which the first text of a name is held.
     ///
-    /// The `n`-th read, counted from 1, fails where `n` is in `failing`.
+    /// The `n`-th read, counted from 1, fails if `n` is in `failing`.
     pub fn new(alloc: Global, texts: Vec<(String, Vec<u8>)>, failing: Vec<u64>) -> Self
         ensures texts { result.texts ≡ texts_of texts.items }
         ensures failing { result.failing ≡ failing.items }
@@ -110,7 +110,7 @@ fn first_text<'a>(texts: &'a [(String, Vec<u8>)], name: &str) -> Option<&'a [u8]
     None
 }
 
-/// Keeps the name of a read that failed, where there is memory for it.
+/// Keeps the name of a read that failed, if there is memory for it.
 fn note(alloc: Global, failed: &mut Vec<String>, name: &str) -> ShelfFault
     ensures names { names_as_bytes failed.new.items ≡ failed_after (names_as_bytes failed.old.items) name.now (Err result) }
     ensures failure { IsFailure (Err result) }
@@ -151,7 +151,7 @@ impl Model for MemorySink {
 }
 
 impl MemorySink {
-    /// A sink with nothing in it. The `n`-th put, counted from 1, fails where `n` is in `failing`.
+    /// A sink with nothing in it. The `n`-th put, counted from 1, fails if `n` is in `failing`.
     pub fn new(alloc: Global, failing: Vec<u64>) -> Self
         ensures empty { result.bytes ≡ [] }
         ensures failing { result.failing ≡ failing.items }

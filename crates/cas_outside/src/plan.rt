@@ -8,7 +8,7 @@ ghost use Rattle.cas_outside.specs.Calls.{FailsNext, calls_after};
 pub struct Plan {
     /// The numbers of the calls that fail, counted from 1, in any order.
     pub failing: Vec<u64>,
-    /// How many calls were made. It stands still at `u64::MAX`, and no later call has a number.
+    /// How many calls were made. It stays at `u64::MAX`, and no later call has a number.
     pub calls: u64,
 }
 

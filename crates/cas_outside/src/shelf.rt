@@ -18,7 +18,7 @@ pub enum ShelfFault {
 
 /// Where texts are read from, by their names.
 pub trait Shelf {
-    /// The texts and their names, where the shelf tells them.
+    /// The texts and their names, if the shelf reports them.
     ghost texts: { Self → Option Texts };
 
     /// The names whose reading failed, in order. Their number is the shelf's count of faults.
@@ -28,9 +28,9 @@ pub trait Shelf {
     ///
     /// # Errors
     ///
-    /// `Failed` where the name has no text or its reading failed, and then the name is the last
-    /// of the failed names. `TooLong` where the text has more than `limit` bytes. `Memory` for
-    /// want of memory.
+    /// `Failed` if the name has no text or its reading failed, and then the name is the last
+    /// of the failed names. `TooLong` if the text has more than `limit` bytes. `Memory` if it runs
+    /// out of memory.
     fn read(&mut self, alloc: Global, name: &str, limit: u64) -> Result<Vec<u8>, ShelfFault>
         ensures same_texts { texts self.new ≡ texts self.old }
 

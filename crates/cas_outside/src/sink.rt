@@ -14,7 +14,7 @@ pub enum SinkFault {
 
 /// Where bytes are put.
 pub trait Sink {
-    /// The bytes taken so far, where the sink tells them.
+    /// The bytes taken so far, if the sink reports them.
     ghost taken: { Self → Option (List ℕ) };
 
     /// How many puts failed.
@@ -24,15 +24,15 @@ pub trait Sink {
     ///
     /// # Errors
     ///
-    /// `Failed` where the writing failed: the sink took some first part of the bytes, and counts
-    /// one fault or more. `Memory` for want of memory, which leaves the sink as it was.
+    /// `Failed` if the writing failed: the sink took some first part of the bytes, and counts
+    /// one fault or more. `Memory` if it runs out of memory, which leaves the sink as it was.
     fn put(&mut self, bytes: &[u8]) -> Result<(), SinkFault>
         ensures ok { OnOk result (TakesAll (taken self.old) bytes.now (taken self.new)) }
         ensures failed { result ≡ Err SinkFault.Failed →
             TakesPrefix (taken self.old) bytes.now (taken self.new) }
         ensures memory { result ≡ Err SinkFault.Memory → taken self.new ≡ taken self.old }
 
-        // The count rises where the answer is `Failed`, and else stays.
+        // The count rises if the answer is `Failed`, and stays otherwise.
         ensures counted { CountsFault (faults self.old) (faults self.new) result }
         ensures never_falls { faults self.old ≤ faults self.new };
 }

@@ -127,12 +127,12 @@ fn keep(failed: &mut Vec<String>, name: String)
 
 /// A stream of the system, which is flushed after each put.
 ///
-/// Contracts see it as the bytes that its writer holds, where those are known, and the count of
-/// faults. As a [`Sink`] it does not tell what it took.
+/// Contracts see it as the bytes that its writer holds, if those are known, and the count of
+/// faults. As a [`Sink`] it does not report what it took.
 #[derive(Drop)]
 pub struct StdSink<W: Write + Drop> {
     writer: W,
-    // One entry for each failed put: a list never stands still, as a count kept in a number would
+    // One entry for each failed put: a list never stops growing, as a count kept in a number would
     // at its type's end.
     faults: Vec<()>,
 }
@@ -175,7 +175,7 @@ impl<W: Write + Drop> Sink for StdSink<W> {
         // A failed put is one more.
         ensures one_more { result ≡ Err SinkFault.Failed → self.new.faults ≡ self.old.faults + 1 }
 
-        // What the writer holds, where it is known.
+        // What the writer holds, if it is known.
         ensures whole { OnOk result (Appends self.old.written self.new.written bytes.now) }
         ensures part { result ≡ Err SinkFault.Failed →
             AppendsPrefix self.old.written self.new.written bytes.now }
@@ -204,7 +204,7 @@ fn hand_on<W: Write>(writer: &mut W, bytes: &[u8]) -> Result<(), SinkFault>
     flush(writer)
 }
 
-/// Writes all the bytes. Want of memory is an answer only where nothing was written.
+/// Writes all the bytes. It answers that it runs out of memory only if nothing was written.
 fn write_all<W: Write>(writer: &mut W, bytes: &[u8]) -> Result<(), SinkFault>
     ensures whole { OnOk result (Appends (W.contents writer.old) (W.contents writer.new) bytes.now) }
     ensures part { result ≡ Err SinkFault.Failed →

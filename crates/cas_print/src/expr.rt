@@ -91,7 +91,7 @@ fn cell(page: &mut Page, x: &Ident, index: &Expr) -> Result<(), NoMemory>
     in_brackets(page, index)
 }
 
-// Writes an operand at a place that takes operators of this level and tighter ones, and a sign behind it.
+// Writes an operand at a place that takes operators of this level and tighter ones, and a sign after it.
 #[cycle(expr)]
 fn left_operand(page: &mut Page, asked: u8, inner: &Expr, sign: Sign) -> Result<(), NoMemory>
     ensures { (rest : List Piece)
@@ -103,7 +103,7 @@ fn left_operand(page: &mut Page, asked: u8, inner: &Expr, sign: Sign) -> Result<
     page.sign(sign)
 }
 
-// Writes an operand behind a sign.
+// Writes an operand after a sign.
 #[cycle(expr)]
 fn prefixed(page: &mut Page, sign: Sign, inner: &Expr) -> Result<(), NoMemory>
     ensures { (rest : List Piece)
@@ -115,7 +115,7 @@ fn prefixed(page: &mut Page, sign: Sign, inner: &Expr) -> Result<(), NoMemory>
     operand(page, OPERAND_LEVEL, inner)
 }
 
-// Writes an operand behind a kind in parentheses.
+// Writes an operand after a kind in parentheses.
 #[cycle(expr)]
 fn cast(page: &mut Page, to: Kind, inner: &Expr) -> Result<(), NoMemory>
     ensures { (rest : List Piece)

@@ -245,7 +245,7 @@ fn first_name(page: &mut Page, names: &[Ident]) -> Result<(), NoMemory>
     }
 }
 
-// The names behind the first.
+// The names after the first.
 fn behind_first(names: &[Ident]) -> &[Ident]
     ensures { result.now ≡ drop 1 names.now }
 {

@@ -1,6 +1,6 @@
 //! The canonical text of modules: one text for each tree, which is read as that tree but for places. The
-//! definitions stand in `specs/`: the tokens of a canonical text and the text that they make (`Pieces`), and which
-//! tokens a tree has (`Expressions`, `Statements`, `Items`). It stands on `cas_base`, `cas_lex` and `cas_syntax`.
+//! definitions are in `specs/`: the tokens of a canonical text and the text that they make (`Pieces`), and which
+//! tokens a tree has (`Expressions`, `Statements`, `Items`). It depends on `cas_base`, `cas_lex` and `cas_syntax`.
 #![tactic(auto)]
 
 mod expr;

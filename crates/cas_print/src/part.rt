@@ -38,7 +38,7 @@ pub fn part(page: &mut Page, part: &Stmt) -> Result<(), NoMemory>
     }
 }
 
-/// Writes what of a type stands before the name that has it.
+/// Writes what of a type comes before the name that has it.
 pub fn before_name(page: &mut Page, ty: Ty) -> Result<(), NoMemory>
     ensures { (rest : List Piece)
         → IfOk result (λ _. followed_by page.new rest ≡ followed_by page.old (spec.before_name ty rest)) }
@@ -54,7 +54,7 @@ pub fn before_name(page: &mut Page, ty: Ty) -> Result<(), NoMemory>
     }
 }
 
-/// Writes what of a type stands behind the name that has it.
+/// Writes what of a type comes after the name that has it.
 pub fn behind_name(page: &mut Page, ty: Ty) -> Result<(), NoMemory>
     ensures { (rest : List Piece)
         → IfOk result (λ _. followed_by page.new rest ≡ followed_by page.old (spec.behind_name ty rest)) }

@@ -26,7 +26,7 @@ pub struct Contents {
     pub values: Seq<u32>,
 }
 
-/// The name, the type and the initial values of a global of this kind, and what stands behind `;`.
+/// The name, the type and the initial values of a global of this kind, and the rest after `;`.
 pub fn cells(
     alloc: Global,
     tokens: &[Token],
@@ -47,7 +47,7 @@ pub fn cells(
     }
 }
 
-// The type and the initial values of a global, behind its name.
+// The type and the initial values of a global, after its name.
 fn behind_name(
     alloc: Global,
     tokens: &[Token],
@@ -66,7 +66,7 @@ fn behind_name(
     }
 }
 
-// The initial value of a global of one cell, behind `=`.
+// The initial value of a global of one cell, after `=`.
 fn one_cell(alloc: Global, tokens: &[Token], kind: Kind) -> Result<(Contents, &[Token]), Stop>
     ensures follows { (s : Sort) (d : Bool) (x : Ident) (items : List ItemTree) → Follows result (verdict tokens.now (CellValue (data_of s d kind) x items) []) (λ p. verdict p.1.now (InItems (items ++ machine.cells (data_of s d kind) x p.0.ty p.0.values ∷ [])) []) }
     ensures shorter { IfOk result (λ p. length p.1.now < length tokens.now) }
@@ -85,7 +85,7 @@ fn one_cell(alloc: Global, tokens: &[Token], kind: Kind) -> Result<(Contents, &[
     ))
 }
 
-// The length and the initial values of an array, behind `[`.
+// The length and the initial values of an array, after `[`.
 fn array(
     alloc: Global,
     tokens: &[Token],
@@ -105,7 +105,7 @@ fn array(
     }
 }
 
-// The initial values of an array of this length, behind `]`.
+// The initial values of an array of this length, after `]`.
 fn elements(
     alloc: Global,
     tokens: &[Token],
@@ -125,7 +125,7 @@ fn elements(
     }
 }
 
-// The initial values of an array of this length, behind `=`.
+// The initial values of an array of this length, after `=`.
 fn some_elements(
     alloc: Global,
     tokens: &[Token],
@@ -147,7 +147,7 @@ fn some_elements(
     ))
 }
 
-// What stands behind the `;` of a global.
+// The rest after the `;` of a global.
 fn ended(tokens: &[Token]) -> Result<&[Token], Stop>
     ensures follows { (d : Data) (x : Ident) (t : Ty) (vs : List ℕ) (items : List ItemTree) → Follows result (verdict tokens.now (CellsEnd d x t vs items) []) (λ rest. verdict rest.now (InItems (items ++ machine.cells d x t vs ∷ [])) []) }
     ensures shorter { IfOk result (λ rest. length rest.now < length tokens.now) }

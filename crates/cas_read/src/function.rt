@@ -26,7 +26,7 @@ use std::alloc::Global;
 struct Head {
     name: Ident,
     form: Form,
-    // whether no `extern` stands before it
+    // whether no `extern` precedes it
     defined: bool,
     // the parameters' names, of those that have one
     params: Vec<Option<Ident>>,
@@ -34,7 +34,7 @@ struct Head {
     held: Seq<Place>,
 }
 
-/// A function that returns this type, from its name on, and what stands behind it.
+/// A function that returns this type, from its name on, and the rest.
 pub fn function(
     alloc: Global,
     tokens: &[Token],
@@ -89,7 +89,7 @@ fn function_name(alloc: Global, tokens: &[Token]) -> Result<(Ident, &[Token]), S
     }
 }
 
-// What stands behind the `(` of a function. A global that is neither shared nor constant ends here.
+// The rest after the `(` of a function. A global that is neither shared nor constant ends here.
 fn opened(tokens: &[Token]) -> Result<&[Token], Stop>
     ensures follows { (o : Opening) (items : List ItemTree) → Follows result (verdict tokens.now (FunctionName o items) []) (λ rest. verdict rest.now (WantParameters o items) []) }
     ensures shorter { IfOk result (λ rest. length rest.now < length tokens.now) }
@@ -103,7 +103,7 @@ fn opened(tokens: &[Token]) -> Result<&[Token], Stop>
     }
 }
 
-// The function with this head: without a body, or with one, and what stands behind it.
+// The function with this head: without a body, or with one, and the rest.
 fn behind_head(alloc: Global, tokens: &[Token], head: Head) -> Result<(Item, &[Token]), Stop>
     ensures follows { (items : List ItemTree) → Follows result (verdict tokens.now (AfterHead head.name head.form head.defined head.params.items head.held items) []) (λ p. verdict p.1.now (InItems (items ++ item_tree p.0 ∷ [])) []) }
     ensures shorter { IfOk result (λ p. length p.1.now < length tokens.now) }
@@ -136,7 +136,7 @@ fn prototype(head: Head) -> Item
     }
 }
 
-// The function with this body, behind `{`, and what stands behind `}`.
+// The function with this body, after `{`, and the rest after `}`.
 fn define(
     alloc: Global,
     tokens: &[Token],
@@ -167,7 +167,7 @@ fn define(
     Ok((Item::Define(fun), rest))
 }
 
-// The names of parameters, where all have one.
+// The names of parameters, if all have one.
 fn all_named(alloc: Global, params: Vec<Option<Ident>>) -> Result<Option<Seq<Ident>>, Stop>
     ensures value { IfOk result (λ found. found ≡ machine.all_named params.items) }
     ensures memory { IfErr result (λ e. e ≡ Memory) }

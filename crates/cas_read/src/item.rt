@@ -36,7 +36,7 @@ pub fn items(alloc: Global, tokens: &[Token]) -> Result<Vec<Item>, Stop>
     Ok(all)
 }
 
-// The item that stands here, and what stands behind it.
+// The item that comes next, and the rest.
 #[tactic(auto, using(crate::proofs::ItemSteps::behind_extern))]
 fn next_item(alloc: Global, tokens: &[Token]) -> Result<(Item, &[Token]), Stop>
     requires { 0 < length tokens.now }
@@ -52,7 +52,7 @@ fn next_item(alloc: Global, tokens: &[Token]) -> Result<(Item, &[Token]), Stop>
     }
 }
 
-// An item, behind `extern` where it isn't defined, and what stands behind it.
+// An item, after `extern` if it isn't defined, and the rest.
 fn item(alloc: Global, tokens: &[Token], defined: bool) -> Result<(Item, &[Token]), Stop>
     ensures follows { (items : List ItemTree) → Follows result (begins_item tokens.now defined items) (λ p. verdict p.1.now (InItems (items ++ item_tree p.0 ∷ [])) []) }
     ensures shorter { IfOk result (λ p. length p.1.now < length tokens.now) }
@@ -93,7 +93,7 @@ fn lock(alloc: Global, tokens: &[Token], defined: bool) -> Result<(Item, &[Token
     }
 }
 
-// A shared global, behind `shared`.
+// A shared global, after `shared`.
 fn shared(alloc: Global, tokens: &[Token], defined: bool) -> Result<(Item, &[Token]), Stop>
     ensures follows { (items : List ItemTree) → Follows result (verdict tokens.now (Expect false sg.OpenParen (GlobalGuard defined items)) []) (λ p. verdict p.1.now (InItems (items ++ item_tree p.0 ∷ [])) []) }
     ensures shorter { IfOk result (λ p. length p.1.now < length tokens.now) }
@@ -124,7 +124,7 @@ fn guarded(alloc: Global, tokens: &[Token], defined: bool) -> Result<(Item, &[To
     }
 }
 
-// A table of constants, behind `const`.
+// A table of constants, after `const`.
 fn table(alloc: Global, tokens: &[Token], defined: bool) -> Result<(Item, &[Token]), Stop>
     ensures follows { (items : List ItemTree) → Follows result (verdict tokens.now (WantKind None) (CellsKind Constant defined items ∷ [])) (λ p. verdict p.1.now (InItems (items ++ item_tree p.0 ∷ [])) []) }
     ensures shorter { IfOk result (λ p. length p.1.now < length tokens.now) }

@@ -1,7 +1,7 @@
 //! The reader of module texts: `read_module` answers the module that the grammar gives a text, or the text's first
 //! fault. The functions here read items, over the readers of expressions and statements below; each follows the machine
 //! of `cas_parse`, by an equation on the machine's verdict (`specs/FollowItems.antt`). The laws of `cas_parse` then say
-//! that the machine takes what the grammar spells and nothing else. It stands on `cas_base`, `cas_lex`, `cas_syntax`,
+//! that the machine takes what the grammar spells and nothing else. It depends on `cas_base`, `cas_lex`, `cas_syntax`,
 //! `cas_parse`, `cas_read_expr` and `cas_read_stmt`.
 #![tactic(auto)]
 

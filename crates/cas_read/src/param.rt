@@ -24,7 +24,7 @@ pub struct Parameters {
     pub names: Vec<Option<Ident>>,
 }
 
-/// The type of a parameter, or of what a function returns, and what stands behind it.
+/// The type of a parameter, or of what a function returns, and the rest.
 pub fn typed(tokens: &[Token]) -> Result<(Ty, &[Token]), Stop>
     ensures returned { (d : Bool) (items : List ItemTree) → Follows result (verdict tokens.now (WantKind None) (ReturnKind d items ∷ [])) (λ p. verdict p.1.now (WantFunction d p.0 items) []) }
     ensures passed { (o : Opening) (tys : List Ty) (xs : List (Option Ident)) (items : List ItemTree) → Follows result (verdict tokens.now (WantKind None) (ParameterKind o tys xs items ∷ [])) (λ p. verdict p.1.now (ParameterType o tys xs p.0 items) []) }
@@ -35,7 +35,7 @@ pub fn typed(tokens: &[Token]) -> Result<(Ty, &[Token]), Stop>
     pointed(rest, kind)
 }
 
-// The type that begins with the words of a kind, behind them.
+// The type that begins with the words of a kind, after them.
 fn pointed(tokens: &[Token], kind: Kind) -> Result<(Ty, &[Token]), Stop>
     ensures returned { (b : Option ℕ) (d : Bool) (items : List ItemTree) → Follows result (verdict tokens.now (HaveKind b kind) (ReturnKind d items ∷ [])) (λ p. verdict p.1.now (WantFunction d p.0 items) []) }
     ensures passed { (b : Option ℕ) (o : Opening) (tys : List Ty) (xs : List (Option Ident)) (items : List ItemTree) → Follows result (verdict tokens.now (HaveKind b kind) (ParameterKind o tys xs items ∷ [])) (λ p. verdict p.1.now (ParameterType o tys xs p.0 items) []) }
@@ -60,7 +60,7 @@ fn pointed(tokens: &[Token], kind: Kind) -> Result<(Ty, &[Token]), Stop>
     }
 }
 
-/// The parameters of a function, behind `(`, and what stands behind `)`.
+/// The parameters of a function, after `(`, and the rest after `)`.
 pub fn parameters_at(alloc: Global, tokens: &[Token]) -> Result<(Parameters, &[Token]), Stop>
     ensures follows { (o : Opening) (items : List ItemTree) → Follows result (verdict tokens.now (WantParameters o items) []) (λ p. verdict p.1.now (AfterParameters o p.0.types.items p.0.names.items items) []) }
     ensures shorter { IfOk result (λ p. length p.1.now < length tokens.now) }
@@ -87,7 +87,7 @@ fn no_parameters(alloc: Global) -> Parameters
     }
 }
 
-// Parameters of a function, one or more, and what stands behind `)`.
+// Parameters of a function, one or more, and the rest after `)`.
 fn some_parameters(alloc: Global, tokens: &[Token]) -> Result<(Parameters, &[Token]), Stop>
     ensures follows { (o : Opening) (items : List ItemTree) → Follows result (verdict tokens.now (WantParameter o [] [] items) []) (λ p. verdict p.1.now (AfterParameters o p.0.types.items p.0.names.items items) []) }
     ensures shorter { IfOk result (λ p. length p.1.now < length tokens.now) }
@@ -118,7 +118,7 @@ fn parameter_type(tokens: &[Token]) -> Result<(Ty, &[Token]), Stop>
     typed(tokens)
 }
 
-// The name of a parameter behind its type, or none.
+// The name of a parameter after its type, or none.
 #[tactic(auto, using(crate::proofs::ItemSteps::named_parameter))]
 fn parameter_name(alloc: Global, tokens: &[Token]) -> Result<(Option<Ident>, &[Token]), Stop>
     ensures follows { (o : Opening) (tys : List Ty) (xs : List (Option Ident)) (ty : Ty) (items : List ItemTree) → Follows result (verdict tokens.now (ParameterType o tys xs ty items) []) (λ p. verdict p.1.now (HaveParameter o (tys ++ ty ∷ []) (xs ++ p.0 ∷ []) items) []) }
@@ -131,7 +131,7 @@ fn parameter_name(alloc: Global, tokens: &[Token]) -> Result<(Option<Ident>, &[T
     }
 }
 
-// Whether a further parameter stands behind one, and what stands behind the comma or the `)`.
+// Whether a further parameter follows one, and the rest after the comma or the `)`.
 fn more_parameters(tokens: &[Token]) -> Result<(bool, &[Token]), Stop>
     ensures follows { (o : Opening) (tys : List Ty) (xs : List (Option Ident)) (items : List ItemTree) → Follows result (verdict tokens.now (HaveParameter o tys xs items) []) (λ p. has_more_parameters p.0 p.1.now o tys xs items) }
     ensures shorter { IfOk result (λ p. length p.1.now < length tokens.now) }

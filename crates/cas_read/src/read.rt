@@ -18,13 +18,13 @@ use std::alloc::Global;
 /// Why a text is read as no module.
 #[derive(Clone, Copy, Debug, PartialEq, Eq)]
 pub enum ReadFault {
-    /// Want of memory.
+    /// It ran out of memory.
     Memory,
     /// The text's first fault.
     At {
         /// R1 to R8.
         code: ReadCode,
-        /// Where it stands.
+        /// Where it is.
         place: Place,
     },
 }
@@ -35,8 +35,8 @@ pub enum ReadFault {
 ///
 /// `At` exactly with the text's first fault. A text with a lexical fault has the first of those, of code R1, R2, R3, R4
 /// or R7, as `lex` answers it. In any other text the fault is at the first token with which no module goes on: R8
-/// where only a limit forbids it, R7 where it shows a form that is left out, and else R5; or R6 at the end, where each
-/// token may stand and the text is no module. `Memory` for want of memory.
+/// if only a limit forbids it, R7 if it shows a form that is left out, and else R5; or R6 at the end, if each
+/// token may stand and the text is no module. `Memory` if it runs out of memory.
 #[tactic(auto, using(crate::proofs::Reader::answered_module, crate::proofs::Reader::answered_fault, crate::proofs::Reader::only_module, crate::proofs::Reader::only_fault))]
 pub fn read_module(alloc: Global, bytes: &[u8]) -> Result<Module, ReadFault>
     requires { length bytes.now + 1 < 2 ^ 32 }
@@ -81,7 +81,7 @@ fn lexical(fault: LexFault) -> ReadFault
     }
 }
 
-// The place of the token where so many are left, itself included; where none is left, the end.
+// The place of the token at which so many are left, itself included; if none is left, the end.
 fn place_left(tokens: &[Token], end: Place, left: usize) -> Place
     requires { left ≤ length tokens.now }
     ensures { result ≡ spec.place_left tokens.now end left }

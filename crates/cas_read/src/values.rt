@@ -14,7 +14,7 @@ use cas_lex::{Sign, Token, TokenKind};
 use cas_read_expr::stop::{Stop, next_token, unexpected_outside};
 use std::alloc::Global;
 
-/// An initial value of a cell of this kind, and what stands behind it.
+/// An initial value of a cell of this kind, and the rest.
 pub fn value(tokens: &[Token], kind: Kind) -> Result<(u32, &[Token]), Stop>
     ensures single { (s : Sort) (d : Bool) (x : Ident) (items : List ItemTree) → Follows result (verdict tokens.now (CellValue (data_of s d kind) x items) []) (λ p. verdict p.1.now (CellsEnd (data_of s d kind) x (Int kind) (p.0 ∷ []) items) []) }
     ensures listed { (s : Sort) (d : Bool) (x : Ident) (n : ℕ) (vs : List ℕ) (items : List ItemTree) → Follows result (verdict tokens.now (WantCells (data_of s d kind) x n vs items) []) (λ p. verdict p.1.now (HaveCells (data_of s d kind) x n (vs ++ p.0 ∷ []) items) []) }
@@ -29,7 +29,7 @@ pub fn value(tokens: &[Token], kind: Kind) -> Result<(u32, &[Token]), Stop>
     }
 }
 
-// A negative value of a cell of this kind, behind `-`.
+// A negative value of a cell of this kind, after `-`.
 fn negative(tokens: &[Token], kind: Kind) -> Result<(u32, &[Token]), Stop>
     ensures single { (s : Sort) (d : Bool) (x : Ident) (items : List ItemTree) → Follows result (verdict tokens.now (CellNegative (data_of s d kind) x items) []) (λ p. verdict p.1.now (CellsEnd (data_of s d kind) x (Int kind) (p.0 ∷ []) items) []) }
     ensures listed { (s : Sort) (d : Bool) (x : Ident) (n : ℕ) (vs : List ℕ) (items : List ItemTree) → Follows result (verdict tokens.now (NegativeCells (data_of s d kind) x n vs items) []) (λ p. verdict p.1.now (HaveCells (data_of s d kind) x n (vs ++ p.0 ∷ []) items) []) }
@@ -43,7 +43,7 @@ fn negative(tokens: &[Token], kind: Kind) -> Result<(u32, &[Token]), Stop>
     }
 }
 
-/// The initial values of cells of this kind, behind `{`, and what stands behind `}`.
+/// The initial values of cells of this kind, after `{`, and the rest after `}`.
 pub fn values(alloc: Global, tokens: &[Token], kind: Kind) -> Result<(Seq<u32>, &[Token]), Stop>
     ensures follows { (s : Sort) (d : Bool) (x : Ident) (n : ℕ) (items : List ItemTree) → Follows result (verdict tokens.now (WantCells (data_of s d kind) x n [] items) []) (λ p. verdict p.1.now (CellsEnd (data_of s d kind) x (Array kind n) p.0 items) []) }
     ensures shorter { IfOk result (λ p. length p.1.now < length tokens.now) }
@@ -61,7 +61,7 @@ pub fn values(alloc: Global, tokens: &[Token], kind: Kind) -> Result<(Seq<u32>, 
     }
 }
 
-// A further value behind one of a list, or none where the list ends.
+// A further value after one of a list, or none if the list ends.
 fn next_value(tokens: &[Token], kind: Kind) -> Result<(Option<u32>, &[Token]), Stop>
     ensures follows { (s : Sort) (d : Bool) (x : Ident) (n : ℕ) (vs : List ℕ) (items : List ItemTree) → Follows result (verdict tokens.now (HaveCells (data_of s d kind) x n vs items) []) (λ p. has_value_or_end p.0 p.1.now (data_of s d kind) x n vs items) }
     ensures shorter { IfOk result (λ p. length p.1.now < length tokens.now) }
@@ -75,7 +75,7 @@ fn next_value(tokens: &[Token], kind: Kind) -> Result<(Option<u32>, &[Token]), S
     }
 }
 
-// A further value behind a comma, or none where the list ends.
+// A further value after a comma, or none if the list ends.
 fn value_or_end(tokens: &[Token], kind: Kind) -> Result<(Option<u32>, &[Token]), Stop>
     ensures follows { (s : Sort) (d : Bool) (x : Ident) (n : ℕ) (vs : List ℕ) (items : List ItemTree) → Follows result (verdict tokens.now (MoreCells (data_of s d kind) x n vs items) []) (λ p. has_value_or_end p.0 p.1.now (data_of s d kind) x n vs items) }
     ensures shorter { IfOk result (λ p. length p.1.now < length tokens.now) }

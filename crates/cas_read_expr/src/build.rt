@@ -36,7 +36,7 @@ pub fn element(alloc: Global, addressed: bool, name: Ident, index: Expr) -> Resu
     }
 }
 
-/// An operand with what stands before it.
+/// An operand with what precedes it.
 pub fn prefixed(alloc: Global, prefix: Prefix, operand: Expr) -> Result<Expr, Stop>
     ensures value { IfOk result (λ x. tree.expr_tree x ≡ machine.prefixed (prefix_shape prefix) (tree.expr_tree operand)) }
     ensures memory { IfErr result (λ e. e ≡ Memory) }

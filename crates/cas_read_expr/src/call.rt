@@ -26,7 +26,7 @@ pub enum Value {
     Call(Ident, Seq<Expr>),
 }
 
-/// What a variable begins with or is given, behind `=`.
+/// What a variable begins with or is given, after `=`.
 #[tactic(auto, using(crate::proofs::Steps::wants_no_call, crate::proofs::Steps::given_value))]
 pub fn value_at(alloc: Global, tokens: &[Token]) -> Result<(Value, &[Token]), Stop>
     ensures follows { (r : Receiver) (st : List Frame) → Follows result (verdict tokens.now (WantValue r) st) (λ p. has_value p.1.now r p.0 st) }
@@ -44,7 +44,7 @@ pub fn value_at(alloc: Global, tokens: &[Token]) -> Result<(Value, &[Token]), St
     }
 }
 
-// The function's name of a call that stands here, and what stands behind its `(`.
+// The function's name of a call that comes next, and the rest after its `(`.
 fn call_at(alloc: Global, tokens: &[Token]) -> Result<Option<(Ident, &[Token])>, Stop>
     ensures some { IfOk result (λ found. IfSome found (λ p. (o : Place) × (tokens.now ≡ ident p.0 ∷ sign sg.OpenParen o ∷ p.1.now))) }
     ensures none { IfOk result (λ found. IfNone found (begins_call tokens.now ≡ false)) }
@@ -64,7 +64,7 @@ fn call_at(alloc: Global, tokens: &[Token]) -> Result<Option<(Ident, &[Token])>,
     }
 }
 
-/// The arguments of a call, behind `(`, and what stands behind `)`.
+/// The arguments of a call, after `(`, and the rest after `)`.
 pub fn arguments(alloc: Global, tokens: &[Token]) -> Result<(Seq<Expr>, &[Token]), Stop>
     ensures follows { (caller : Caller) (st : List Frame) → Follows result (verdict tokens.now (WantArguments caller) st) (λ p. verdict p.1.now (resulted caller (map expr_tree p.0)) st) }
     ensures shorter { IfOk result (λ p. length p.1.now < length tokens.now) }
@@ -83,7 +83,7 @@ pub fn arguments(alloc: Global, tokens: &[Token]) -> Result<(Seq<Expr>, &[Token]
     }
 }
 
-// Arguments of a call, one or more, and what stands behind `)`.
+// Arguments of a call, one or more, and the rest after `)`.
 #[tactic(auto, using(crate::proofs::Steps::given_argument, crate::proofs::Trees::exprs_push))]
 fn some_arguments(alloc: Global, tokens: &[Token]) -> Result<(Seq<Expr>, &[Token]), Stop>
     ensures follows { (caller : Caller) (st : List Frame) → Follows result (verdict tokens.now WantOutermost (Argument caller [] ∷ st)) (λ p. verdict p.1.now (resulted caller (map expr_tree p.0)) st) }

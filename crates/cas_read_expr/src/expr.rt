@@ -21,7 +21,7 @@ use cas_lex::{Sign, Token, TokenKind};
 use cas_syntax::{CONDITIONAL_LEVEL, Expr, Ident, OPERAND_LEVEL, TOKEN_LIMIT};
 use std::alloc::Global;
 
-/// An expression that stands in no other, with its tokens and what stands behind.
+/// An expression that is in no other, with its tokens and the rest.
 #[tactic(auto, using(crate::proofs::Steps::wants_outermost))]
 pub fn outermost(alloc: Global, tokens: &[Token]) -> Result<(Expr, usize, &[Token]), Stop>
     ensures follows { (st : List Frame) → Follows result (verdict tokens.now WantOutermost st) (λ p. verdict p.2.now (Given p.1 (expr_tree p.0)) st) }
@@ -31,7 +31,7 @@ pub fn outermost(alloc: Global, tokens: &[Token]) -> Result<(Expr, usize, &[Toke
 }
 
 /// An expression of operators that bind as tightly as `least`, with the tokens that the outermost expression then has
-/// and what stands behind.
+/// and the rest.
 #[cycle(expr)]
 pub fn expr(
     alloc: Global,
@@ -53,7 +53,7 @@ pub fn expr(
     Ok((left, used, rest))
 }
 
-// An operand, with what stands before it.
+// An operand, with what precedes it.
 #[cycle(expr)]
 fn operand(alloc: Global, tokens: &[Token], used: usize) -> Result<(Expr, usize, &[Token]), Stop>
     ensures follows { (l : ℕ) (st : List Frame) → Follows result (verdict tokens.now (WantExpr used l) st) (λ p. verdict p.2.now (HaveExpr p.1 l (expr_tree p.0)) st) }
@@ -85,7 +85,7 @@ fn operand(alloc: Global, tokens: &[Token], used: usize) -> Result<(Expr, usize,
     }
 }
 
-// The operand behind what stands before it, behind which these tokens stand.
+// The operand after what precedes it, before these tokens.
 #[cycle(expr)]
 #[tactic(auto, using(crate::proofs::Steps::given_before))]
 fn prefixed(
@@ -124,7 +124,7 @@ pub fn named(
     }
 }
 
-// An element, behind `[`.
+// An element, after `[`.
 #[cycle(expr)]
 #[tactic(auto, using(crate::proofs::Steps::given_in_brackets))]
 fn element(
@@ -147,7 +147,7 @@ fn element(
     ))
 }
 
-// What stands behind `(`: a cast, or an expression in parentheses.
+// What follows `(`: a cast, or an expression in parentheses.
 #[cycle(expr)]
 #[tactic(auto, using(crate::proofs::Steps::opens_cast, crate::proofs::Steps::opens_expr, crate::proofs::Steps::given_in_parens))]
 fn opened(alloc: Global, tokens: &[Token], used: usize) -> Result<(Expr, usize, &[Token]), Stop>
@@ -162,7 +162,7 @@ fn opened(alloc: Global, tokens: &[Token], used: usize) -> Result<(Expr, usize, 
     Ok((inner, used + 1, rest))
 }
 
-// A cast, behind `(`.
+// A cast, after `(`.
 #[cycle(expr)]
 #[tactic(auto, using(crate::proofs::Steps::cast_of, crate::proofs::Steps::given_before))]
 fn cast(alloc: Global, tokens: &[Token], used: usize) -> Result<(Expr, usize, &[Token]), Stop>
@@ -180,7 +180,7 @@ fn cast(alloc: Global, tokens: &[Token], used: usize) -> Result<(Expr, usize, &[
     ))
 }
 
-// What begins with a name, behind `&`.
+// What begins with a name, after `&`.
 #[cycle(expr)]
 fn address(alloc: Global, tokens: &[Token], used: usize) -> Result<(Expr, usize, &[Token]), Stop>
     ensures follows { (l : ℕ) (st : List Frame) → Follows result (verdict tokens.now (Taking used l) st) (λ p. verdict p.2.now (HaveExpr p.1 l (expr_tree p.0)) st) }
@@ -197,7 +197,7 @@ fn address(alloc: Global, tokens: &[Token], used: usize) -> Result<(Expr, usize,
     }
 }
 
-// An expression with what stands behind it and an operator.
+// An expression with what follows it and an operator.
 #[cycle(expr)]
 #[tactic(auto, using(crate::proofs::Steps::given_right))]
 fn combined(
@@ -219,7 +219,7 @@ fn combined(
     Ok((build::joined(alloc, operator, left, right)?, used, rest))
 }
 
-// A condition with the expressions between which it chooses, behind `?`.
+// A condition with the expressions between which it chooses, after `?`.
 #[cycle(expr)]
 fn chosen(
     alloc: Global,
@@ -238,7 +238,7 @@ fn chosen(
     Ok((Expr::Cond(condition, chosen, other), used, rest))
 }
 
-// The expressions between which a condition chooses, behind `?`.
+// The expressions between which a condition chooses, after `?`.
 #[cycle(expr)]
 #[tactic(auto, using(crate::proofs::Steps::given_then, crate::proofs::Steps::given_otherwise))]
 fn branches(
@@ -258,7 +258,7 @@ fn branches(
     Ok((chosen, other, used, rest))
 }
 
-// What stands behind a sign of an outermost expression that has so many tokens before it.
+// The rest after a sign of an outermost expression that has so many tokens before it.
 fn closed(tokens: &[Token], used: usize, sign: Sign) -> Result<&[Token], Stop>
     ensures follows { (c : Control) (st : List Frame) → Follows result (closes sign used tokens.now c st) (λ rest. verdict rest.now c st) }
     ensures below { IfOk result (λ rest. used < TOKEN_LIMIT) }

@@ -1,4 +1,4 @@
-//! What stands at the front of tokens.
+//! What is at the front of tokens.
 
 ghost use Rattle.std.specs.Prelude.{◌≡◌, ◌≢◌, ◌<◌, ◌∷◌, length, List, IfOk, IfErr, IfSome, IfNone, true, false};
 ghost use Rattle.cas_base.specs.declared.place.Place.{Place};
@@ -24,7 +24,7 @@ pub fn ident(alloc: Global, name: &Name, place: Place) -> Result<Ident, Stop>
     Ok(Ident { name, place })
 }
 
-/// What stands behind a sign, inside a function's body.
+/// The rest after a sign, inside a function's body.
 pub fn expect(tokens: &[Token], sign: Sign) -> Result<&[Token], Stop>
     ensures follows { (c : Control) (st : List Frame) → Follows result (verdict tokens.now (Expect true sign c) st) (λ rest. verdict rest.now c st) }
     ensures shorter { IfOk result (λ rest. length rest.now < length tokens.now) }
@@ -38,7 +38,7 @@ pub fn expect(tokens: &[Token], sign: Sign) -> Result<&[Token], Stop>
     }
 }
 
-/// What stands behind a sign, outside functions' bodies.
+/// The rest after a sign, outside functions' bodies.
 pub fn expect_outside(tokens: &[Token], sign: Sign) -> Result<&[Token], Stop>
     ensures follows { (c : Control) (st : List Frame) → Follows result (verdict tokens.now (Expect false sign c) st) (λ rest. verdict rest.now c st) }
     ensures shorter { IfOk result (λ rest. length rest.now < length tokens.now) }
@@ -52,7 +52,7 @@ pub fn expect_outside(tokens: &[Token], sign: Sign) -> Result<&[Token], Stop>
     }
 }
 
-/// What stands behind a sign, where it stands here.
+/// The rest after a sign, if it comes next.
 pub fn behind(tokens: &[Token], sign: Sign) -> Option<&[Token]>
     ensures some { IfSome result (λ rest. (p : Place) × (tokens.now ≡ spelled.sign sign p ∷ rest.now)) }
     ensures none { IfNone result (next_is sign tokens.now ≡ false) }
@@ -65,7 +65,7 @@ pub fn behind(tokens: &[Token], sign: Sign) -> Option<&[Token]>
     }
 }
 
-/// Whether a token is this sign, which is one of those that have to stand somewhere.
+/// Whether a token is this sign, which is one of those that are expected somewhere.
 pub fn is_expected(sign: Sign, kind: &TokenKind) -> bool
     ensures { result ≡ machine.is sign kind.now }
 {
@@ -87,7 +87,7 @@ pub fn closes_block(kind: &TokenKind) -> bool
     matches!(kind, TokenKind::Sign(Sign::CloseBrace))
 }
 
-/// What stands behind `else`, where it stands here.
+/// The rest after `else`, if it comes next.
 pub fn behind_else(tokens: &[Token]) -> Option<&[Token]>
     ensures some { IfSome result (λ rest. (p : Place) × (tokens.now ≡ spelled.word w.Else p ∷ rest.now)) }
     ensures none { IfNone result (next_is_else tokens.now ≡ false) }

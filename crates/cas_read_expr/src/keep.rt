@@ -1,4 +1,4 @@
-//! What was read, and is kept while more is read. It is dropped here where reading stops.
+//! What was read, and is kept while more is read. It is dropped here if reading stops.
 
 ghost use Rattle.std.specs.Prelude.{◌≡◌, ◌≢◌, ◌<◌, length, List, IfOk, IfErr, true};
 ghost use Rattle.cas_read_expr.specs.declared.stop.Stop.TheVariants.{Memory};
@@ -9,7 +9,7 @@ use crate::front::expect;
 use crate::stop::Stop;
 use cas_lex::{Sign, Token};
 
-/// A value, beside what is read behind it.
+/// A value, with what is read after it.
 pub fn beside<T: Drop, U>(value: T, read: Result<U, Stop>) -> Result<(T, U), Stop>
     ensures { result ≡ kept value read }
 {
@@ -19,7 +19,7 @@ pub fn beside<T: Drop, U>(value: T, read: Result<U, Stop>) -> Result<(T, U), Sto
     }
 }
 
-/// A value behind which a sign has to stand, inside a function's body, and what stands behind the sign.
+/// A value after which a sign has to follow, inside a function's body, and the rest after the sign.
 pub fn followed<T: Drop>(value: T, tokens: &[Token], sign: Sign) -> Result<(T, &[Token]), Stop>
     ensures follows { (c : Control) (st : List Frame) → Follows result (verdict tokens.now (Expect true sign c) st) (λ p. verdict p.1.now c st) }
     ensures same { IfOk result (λ p. p.0 ≡ value) }

@@ -1,4 +1,4 @@
-//! The words of kinds. Where they stand in an outermost expression, they count among its tokens.
+//! The words of kinds. If they are in an outermost expression, they count among its tokens.
 
 ghost use Rattle.std.specs.Prelude.{◌≡◌, ◌≢◌, ◌<◌, ◌≤◌, length, List, IfOk, IfErr, Ok, false};
 ghost use Rattle.cas_read_expr.specs.declared.stop.Stop.TheVariants.{Memory};
@@ -32,7 +32,7 @@ pub fn begins_kind_at(tokens: &[Token]) -> bool
     }
 }
 
-/// The kind whose words stand here, the tokens that the expression then has, and what stands behind the words.
+/// The kind whose words come next, the tokens that the expression then has, and the rest after the words.
 pub fn kind(tokens: &[Token], used: Option<usize>) -> Result<(Kind, Option<usize>, &[Token]), Stop>
     ensures follows { (st : List Frame) → Follows result (verdict tokens.now (WantKind used) st) (λ p. verdict p.2.now (HaveKind p.1 p.0) st) }
     ensures counts { IfOk result (λ p. are_counted p.1 ≡ are_counted used) }
@@ -50,7 +50,7 @@ pub fn kind(tokens: &[Token], used: Option<usize>) -> Result<(Kind, Option<usize
     }
 }
 
-// The kind behind `signed`.
+// The kind after `signed`.
 fn signed(tokens: &[Token], used: Option<usize>) -> Result<(Kind, Option<usize>, &[Token]), Stop>
     ensures follows { (st : List Frame) → Follows result (verdict tokens.now (Signed used) st) (λ p. verdict p.2.now (HaveKind p.1 p.0) st) }
     ensures counts { IfOk result (λ p. are_counted p.1 ≡ are_counted used) }
@@ -68,7 +68,7 @@ fn signed(tokens: &[Token], used: Option<usize>) -> Result<(Kind, Option<usize>,
     }
 }
 
-// The kind behind `unsigned`.
+// The kind after `unsigned`.
 fn unsigned(tokens: &[Token], used: Option<usize>) -> Result<(Kind, Option<usize>, &[Token]), Stop>
     ensures follows { (st : List Frame) → Follows result (verdict tokens.now (Unsigned used) st) (λ p. verdict p.2.now (HaveKind p.1 p.0) st) }
     ensures counts { IfOk result (λ p. are_counted p.1 ≡ are_counted used) }
@@ -86,7 +86,7 @@ fn unsigned(tokens: &[Token], used: Option<usize>) -> Result<(Kind, Option<usize
     }
 }
 
-// This kind, behind whose words so far `int` may stand.
+// This kind, after whose words so far `int` may stand.
 fn may_end_int(
     tokens: &[Token],
     used: Option<usize>,
@@ -106,7 +106,7 @@ fn may_end_int(
     }
 }
 
-// Counts a word where words are counted; these tokens stand behind it.
+// Counts a word if words are counted; these tokens follow it.
 fn count_word(used: Option<usize>, rest: &[Token]) -> Result<Option<usize>, Stop>
     ensures follows { (c : Control) (st : List Frame) → Follows result (taken rest.now (machine.counted_in (within 0) false false used (Ok (c, st)))) (λ _. verdict rest.now c st) }
     ensures value { IfOk result (λ after. after ≡ machine.next used) }

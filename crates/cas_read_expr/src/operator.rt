@@ -14,7 +14,7 @@ use cas_syntax::{
     AND_LEVEL, BinaryOperator, CONDITIONAL_LEVEL, OPERAND_LEVEL, OR_LEVEL, UnaryOperator, level,
 };
 
-/// What stands before an operand.
+/// What precedes an operand.
 #[derive(Clone, Copy, Debug)]
 pub enum Prefix {
     Operates(UnaryOperator),
@@ -31,7 +31,7 @@ pub enum Infix {
     Or,
 }
 
-/// What a token is that stands alone before an operand, but for `&`, behind which a name has to stand.
+/// What a token is that is alone before an operand, but for `&`, after which a name has to follow.
 pub fn prefix_of(kind: &TokenKind) -> Option<Prefix>
     ensures { prefix_shapes result ≡ prefix_of kind.now }
 {
@@ -103,8 +103,8 @@ fn binding(between: Option<Infix>, kind: &TokenKind) -> u8
     }
 }
 
-/// The operator that stands here, where it binds as tightly as `least`, and what stands behind it: an operator
-/// between two operands, or none where it is `?`.
+/// The operator that comes next, if it binds as tightly as `least`, and the rest after it: an operator
+/// between two operands, or none if it is `?`.
 #[tactic(auto, using(crate::proofs::Steps::takes_operator, crate::proofs::Steps::takes_no_operator))]
 pub fn operator(tokens: &[Token], least: u8) -> Option<(Option<Infix>, &[Token])>
     requires { 0 < least }

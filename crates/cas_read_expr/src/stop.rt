@@ -11,7 +11,7 @@ use std::alloc::{AllocError, AllocFailed};
 /// Why reading stops.
 #[derive(Clone, Copy, Debug, PartialEq, Eq)]
 pub enum Stop {
-    /// Want of memory.
+    /// It ran out of memory.
     Memory,
     /// A fault.
     At {
@@ -54,7 +54,7 @@ impl From<NoMemory> for Stop {
     }
 }
 
-/// The first of these tokens, and those after it; where there is none the text ends too early (R6).
+/// The first of these tokens, and those after it; if there is none the text ends too early (R6).
 pub fn next_token(tokens: &[Token]) -> Result<(&Token, &[Token]), Stop>
     ensures some { IfOk result (λ p. tokens.now ≡ p.0.now ∷ p.1.now) }
     ensures none { IfErr result (λ e. (tokens.now ≡ []) × (e ≡ Stop.At code.R6 0)) }
@@ -65,14 +65,14 @@ pub fn next_token(tokens: &[Token]) -> Result<(&Token, &[Token]), Stop>
     }
 }
 
-/// The fault of a token that can't stand here, inside a function's body.
+/// The fault of a token that isn't allowed here, inside a function's body.
 pub fn unexpected(kind: &TokenKind, tokens: &[Token]) -> Stop
     ensures { result ≡ Stop.At (machine.wrong kind.now) (length tokens.now) }
 {
     fault(unexpected_code(kind), tokens)
 }
 
-/// The fault of a token that can't stand here, outside functions' bodies (R5).
+/// The fault of a token that isn't allowed here, outside functions' bodies (R5).
 pub fn unexpected_outside(tokens: &[Token]) -> Stop
     ensures { result ≡ Stop.At code.R5 (length tokens.now) }
 {
@@ -103,7 +103,7 @@ pub fn fault(code: ReadCode, tokens: &[Token]) -> Stop
     }
 }
 
-/// The code of a token that can't stand here, inside a function's body.
+/// The code of a token that isn't allowed here, inside a function's body.
 pub fn unexpected_code(kind: &TokenKind) -> ReadCode
     ensures { result ≡ machine.wrong kind.now }
 {

@@ -1,4 +1,4 @@
-//! Statements that stand in too many others.
+//! statements inside too many others.
 
 ghost use Rattle.std.specs.Prelude.{◌≡◌, ℕ, List, Err, false};
 ghost use Rattle.cas_base.specs.declared.place.Place.{Place};
@@ -10,7 +10,7 @@ ghost use Rattle.cas_read_stmt.specs.FollowStmts.{starts_simple};
 use cas_lex::{ReadCode, Sign, TokenKind, Word};
 use cas_read_expr::stop::unexpected_code;
 
-/// The code of a token where a statement would stand in too many others.
+/// The code of a token where a statement would be inside too many others.
 pub fn too_deep(kind: &TokenKind) -> ReadCode
     ensures { (n : ℕ) (st : List Frame) (p : Place) → machine.limited false (machine.started (within 0) false false n st p kind.now) ≡ Err result }
 {
@@ -35,7 +35,7 @@ pub fn too_deep(kind: &TokenKind) -> ReadCode
     }
 }
 
-/// The code of a token where an assignment or a call would stand in too many statements.
+/// The code of a token where an assignment or a call would be inside too many statements.
 pub fn too_deep_simple(kind: &TokenKind) -> ReadCode
     ensures { (st : List Frame) (p : Place) → machine.limited false (machine.simple_started (within 0) false false st p kind.now) ≡ Err result }
 {

@@ -1,4 +1,4 @@
-//! The parts of a `for` that stand before its body, and what stands behind the body of a `do`.
+//! The parts of a `for` before its body, and what follows the body of a `do`.
 
 ghost use Rattle.std.specs.Prelude.{◌≡◌, ◌<◌, ◌≤◌, ◌+◌, ◌∷◌, ℕ, length, List, IfOk, Option, true};
 ghost use Rattle.cas_base.specs.declared.place.Place.{Place};
@@ -21,7 +21,7 @@ use cas_read_expr::stop::{Stop, fault, next_token, past_limit, unexpected};
 use cas_syntax::{DEPTH_LIMIT, Expr, Stmt};
 use std::alloc::Global;
 
-/// The condition behind the body of a `do`, with its `;`.
+/// The condition after the body of a `do`, with its `;`.
 #[tactic(auto, using(crate::proofs::StmtSteps::given_done))]
 pub fn do_end(alloc: Global, tokens: &[Token]) -> Result<(Expr, &[Token]), Stop>
     ensures follows { (q : Place) (a : StmtTree) (st : List Frame) → Follows result (verdict tokens.now (HaveStmt a) (DoBody q ∷ st)) (λ p. verdict p.1.now (HaveStmt (do_ q a (expr_tree p.0))) st) }
@@ -36,7 +36,7 @@ pub fn do_end(alloc: Global, tokens: &[Token]) -> Result<(Expr, &[Token]), Stop>
     followed(condition, rest, Sign::Semicolon)
 }
 
-/// What a `for` does first, with its `;`. So many statements stand around the `for`.
+/// What a `for` does first, with its `;`. The `for` is inside so many statements.
 #[tactic(auto, using(crate::proofs::StmtSteps::first_local, crate::proofs::StmtSteps::first_simple, crate::proofs::StmtSteps::had_first_simple))]
 pub fn first(
     alloc: Global,
@@ -59,7 +59,7 @@ pub fn first(
     Ok((Some(simple), rest))
 }
 
-// A local that stands in so many statements, with its `;`.
+// A local inside so many statements, with its `;`.
 #[tactic(auto, using(crate::proofs::StmtSteps::nests_kind_within, crate::proofs::StmtSteps::nests_kind_too_deep, crate::proofs::StmtSteps::had_first_kind, crate::proofs::StmtSteps::had_first_local))]
 fn first_local(
     alloc: Global,
@@ -78,7 +78,7 @@ fn first_local(
     followed(boxed(alloc, local)?, rest, Sign::Semicolon)
 }
 
-// An assignment or a call that stands in so many statements.
+// An assignment or a call inside so many statements.
 #[tactic(auto, using(crate::proofs::StmtSteps::nests_simple_within))]
 fn simple_in(alloc: Global, tokens: &[Token], around: usize) -> Result<(Box<Stmt>, &[Token]), Stop>
     ensures follows { (st : List Frame) → Follows result (nests_simple tokens.now around st) (λ p. verdict p.1.now (HaveSimple (stmt_tree p.0.value)) st) }
@@ -107,7 +107,7 @@ pub fn second(alloc: Global, tokens: &[Token]) -> Result<(Option<Expr>, &[Token]
     Ok((Some(condition), rest))
 }
 
-/// What a `for` does after each turn, with its `)`. So many statements stand around the `for`.
+/// What a `for` does after each turn, with its `)`. The `for` is inside so many statements.
 #[tactic(auto, using(crate::proofs::StmtSteps::third_simple, crate::proofs::StmtSteps::had_third))]
 pub fn third(
     alloc: Global,

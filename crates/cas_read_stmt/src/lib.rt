@@ -1,4 +1,4 @@
-//! The reader of statements. As the reader of expressions, each function follows the machine of `cas_parse`. It stands on
+//! The reader of statements. As the reader of expressions, each function follows the machine of `cas_parse`. It depends on
 //! `cas_base`, `cas_lex`, `cas_syntax`, `cas_parse` and `cas_read_expr`.
 #![tactic(auto)]
 

@@ -17,7 +17,7 @@ use cas_read_expr::stop::{Stop, left_out, next_token, past_limit, unexpected};
 use cas_syntax::{DEPTH_LIMIT, Ident, Init, Stmt, StmtForm};
 use std::alloc::Global;
 
-/// Locals that stand in so many statements, up to `;`, which are put behind all, and what stands behind.
+/// Locals inside so many statements, up to `;`, which are pushed to all, and the rest.
 #[tactic(auto, using(crate::proofs::StmtSteps::listed_kind, crate::proofs::StmtSteps::listed_too_deep, crate::proofs::StmtSteps::had_locals_kind))]
 pub fn locals_in<'a>(
     alloc: Global,
@@ -36,7 +36,7 @@ pub fn locals_in<'a>(
     locals(alloc, kind, rest, all)
 }
 
-/// Locals of this kind up to `;`, which are put behind all, and what stands behind.
+/// Locals of this kind up to `;`, which are pushed to all, and the rest.
 #[tactic(auto, using(crate::proofs::Steps::had_local, crate::proofs::Trees::stmts_push))]
 pub fn locals<'a>(
     alloc: Global,
@@ -76,7 +76,7 @@ pub fn local(alloc: Global, kind: Kind, tokens: &[Token]) -> Result<(Stmt, &[Tok
     }
 }
 
-// A variable or an array, behind its name.
+// A variable or an array, after its name.
 fn variable(
     alloc: Global,
     kind: Kind,
@@ -94,7 +94,7 @@ fn variable(
     }
 }
 
-// A pointer, behind `*`.
+// A pointer, after `*`.
 fn pointer(alloc: Global, kind: Kind, tokens: &[Token]) -> Result<(Stmt, &[Token]), Stop>
     ensures follows { (st : List Frame) → Follows result (verdict tokens.now (LocalStar kind) st) (λ p. verdict p.1.now (HaveLocal (stmt_tree p.0)) st) }
     ensures shorter { IfOk result (λ p. length p.1.now < length tokens.now) }
@@ -110,7 +110,7 @@ fn pointer(alloc: Global, kind: Kind, tokens: &[Token]) -> Result<(Stmt, &[Token
     }
 }
 
-// A pointer, behind its name.
+// A pointer, after its name.
 fn named_pointer(
     alloc: Global,
     kind: Kind,
@@ -128,7 +128,7 @@ fn named_pointer(
     }
 }
 
-// An array, behind `[`.
+// An array, after `[`.
 fn array(kind: Kind, name: Ident, tokens: &[Token]) -> Result<(Stmt, &[Token]), Stop>
     ensures follows { (st : List Frame) → Follows result (verdict tokens.now (LocalLength kind name) st) (λ p. verdict p.1.now (HaveLocal (stmt_tree p.0)) st) }
     ensures shorter { IfOk result (λ p. length p.1.now < length tokens.now) }
@@ -153,7 +153,7 @@ fn array(kind: Kind, name: Ident, tokens: &[Token]) -> Result<(Stmt, &[Token]), 
     }
 }
 
-// A local that begins with a value, behind `=`.
+// A local that begins with a value, after `=`.
 #[tactic(auto, using(crate::proofs::Steps::begun_value))]
 fn begun(alloc: Global, ty: Ty, name: Ident, tokens: &[Token]) -> Result<(Stmt, &[Token]), Stop>
     ensures follows { (st : List Frame) → Follows result (verdict tokens.now (WantValue (Begun ty name)) st) (λ p. verdict p.1.now (HaveLocal (stmt_tree p.0)) st) }

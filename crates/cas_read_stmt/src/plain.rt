@@ -1,4 +1,4 @@
-//! Statements in which no other stands.
+//! Statements in which there is no other.
 
 ghost use Rattle.std.specs.Prelude.{◌≡◌, ◌≢◌, ◌<◌, ◌∷◌, length, List, IfOk, IfErr, true, false};
 ghost use Rattle.cas_base.specs.declared.place.Place.{Place};
@@ -41,7 +41,7 @@ pub fn opened(alloc: Global, tokens: &[Token]) -> Result<(Expr, usize, &[Token])
     outermost(alloc, rest)
 }
 
-/// A `print`, behind its word.
+/// A `print`, after its word.
 #[tactic(auto, using(crate::proofs::StmtSteps::given_printed))]
 pub fn print_stmt(alloc: Global, place: Place, tokens: &[Token]) -> Result<(Stmt, &[Token]), Stop>
     ensures follows { (st : List Frame) → Follows result (verdict tokens.now (Expect true sg.OpenParen WantOutermost) (PrintValue place ∷ st)) (λ p. verdict p.1.now (HaveStmt (stmt_tree p.0)) st) }
@@ -54,7 +54,7 @@ pub fn print_stmt(alloc: Global, place: Place, tokens: &[Token]) -> Result<(Stmt
     Ok((Stmt { place, form }, rest))
 }
 
-/// A `return`, behind its word.
+/// A `return`, after its word.
 #[tactic(auto, using(crate::proofs::StmtSteps::returns_value, crate::proofs::StmtSteps::given_returned))]
 pub fn return_stmt(alloc: Global, place: Place, tokens: &[Token]) -> Result<(Stmt, &[Token]), Stop>
     ensures follows { (st : List Frame) → Follows result (verdict tokens.now (AfterReturn place) st) (λ p. verdict p.1.now (HaveStmt (stmt_tree p.0)) st) }
@@ -70,7 +70,7 @@ pub fn return_stmt(alloc: Global, place: Place, tokens: &[Token]) -> Result<(Stm
     Ok((Stmt { place, form }, rest))
 }
 
-/// A `lock`, behind its word.
+/// A `lock`, after its word.
 pub fn lock_stmt(alloc: Global, place: Place, tokens: &[Token]) -> Result<(Stmt, &[Token]), Stop>
     ensures follows { (st : List Frame) → Follows result (verdict tokens.now (Expect true sg.OpenParen (LockName place)) st) (λ p. verdict p.1.now (HaveStmt (stmt_tree p.0)) st) }
     ensures shorter { IfOk result (λ p. length p.1.now < length tokens.now) }
@@ -81,7 +81,7 @@ pub fn lock_stmt(alloc: Global, place: Place, tokens: &[Token]) -> Result<(Stmt,
     Ok((Stmt { place, form }, rest))
 }
 
-/// An `unlock`, behind its word.
+/// An `unlock`, after its word.
 pub fn unlock_stmt(alloc: Global, place: Place, tokens: &[Token]) -> Result<(Stmt, &[Token]), Stop>
     ensures follows { (st : List Frame) → Follows result (verdict tokens.now (Expect true sg.OpenParen (UnlockName place)) st) (λ p. verdict p.1.now (HaveStmt (stmt_tree p.0)) st) }
     ensures shorter { IfOk result (λ p. length p.1.now < length tokens.now) }
@@ -108,7 +108,7 @@ fn lock_name(alloc: Global, tokens: &[Token]) -> Result<(Ident, &[Token]), Stop>
     Ok((name, rest))
 }
 
-/// A `break`, behind its word.
+/// A `break`, after its word.
 pub fn break_stmt(place: Place, tokens: &[Token]) -> Result<(Stmt, &[Token]), Stop>
     ensures follows { (st : List Frame) → Follows result (verdict tokens.now (Expect true sg.Semicolon (HaveStmt (tree.break_ place))) st) (λ p. verdict p.1.now (HaveStmt (stmt_tree p.0)) st) }
     ensures shorter { IfOk result (λ p. length p.1.now < length tokens.now) }
@@ -119,7 +119,7 @@ pub fn break_stmt(place: Place, tokens: &[Token]) -> Result<(Stmt, &[Token]), St
     Ok((Stmt { place, form }, rest))
 }
 
-/// A `continue`, behind its word.
+/// A `continue`, after its word.
 pub fn continue_stmt(place: Place, tokens: &[Token]) -> Result<(Stmt, &[Token]), Stop>
     ensures follows { (st : List Frame) → Follows result (verdict tokens.now (Expect true sg.Semicolon (HaveStmt (tree.continue_ place))) st) (λ p. verdict p.1.now (HaveStmt (stmt_tree p.0)) st) }
     ensures shorter { IfOk result (λ p. length p.1.now < length tokens.now) }

@@ -72,7 +72,7 @@ fn named(alloc: Global, name: Ident, tokens: &[Token]) -> Result<(Stmt, &[Token]
     }
 }
 
-// A variable that is given a value, behind `=`.
+// A variable that is given a value, after `=`.
 #[tactic(auto, using(crate::proofs::Steps::assigned_value))]
 fn given(alloc: Global, name: Ident, tokens: &[Token]) -> Result<(Stmt, &[Token]), Stop>
     ensures follows { (st : List Frame) → Follows result (verdict tokens.now (WantValue (Assigned name)) st) (λ p. verdict p.1.now (HaveSimple (stmt_tree p.0)) st) }
@@ -87,7 +87,7 @@ fn given(alloc: Global, name: Ident, tokens: &[Token]) -> Result<(Stmt, &[Token]
     Ok((Stmt { place, form }, rest))
 }
 
-// What is assigned to a target, behind it; the statement's place is given.
+// What is assigned to a target, after it; the statement's place is given.
 #[tactic(auto, using(crate::proofs::Steps::given_assigned))]
 fn changed(
     alloc: Global,
@@ -105,7 +105,7 @@ fn changed(
     }
 }
 
-// How the sign that stands here changes what stands before it.
+// How the next sign changes what precedes it.
 fn change_at(tokens: &[Token]) -> Result<(Change, &[Token]), Stop>
     ensures follows { (q : Place) (target : TargetTree) (st : List Frame) → Follows result (verdict tokens.now (AfterTarget q target) st) (λ p. changes p.0 p.1.now q target st) }
     ensures shorter { IfOk result (λ p. length p.1.now < length tokens.now) }
@@ -123,7 +123,7 @@ fn change_at(tokens: &[Token]) -> Result<(Change, &[Token]), Stop>
     }
 }
 
-// The assignment of an expression, behind its sign.
+// The assignment of an expression, after its sign.
 #[tactic(auto, using(crate::proofs::Steps::given_assigned))]
 fn assigned(
     alloc: Global,

@@ -1,4 +1,4 @@
-//! Statements, and what stands in them.
+//! Statements, and what is in them.
 
 ghost use Rattle.std.specs.Prelude.{◌≡◌, ◌<◌, ◌≤◌, ◌+◌, ◌∷◌, ◌++◌, [], length, List, IfOk, true, false};
 ghost use Rattle.cas_base.specs.declared.decl.Form.{Form};
@@ -28,7 +28,7 @@ use cas_read_expr::stop::{Stop, fault, next_token, unexpected};
 use cas_syntax::{DEPTH_LIMIT, Stmt, StmtForm};
 use std::alloc::Global;
 
-// A statement that stands in so many others.
+// A statement inside so many others.
 #[cycle(stmt)]
 #[tactic(auto, using(crate::proofs::StmtSteps::wants_stmt_within))]
 fn stmt(alloc: Global, tokens: &[Token], around: usize) -> Result<(Stmt, &[Token]), Stop>
@@ -44,7 +44,7 @@ fn stmt(alloc: Global, tokens: &[Token], around: usize) -> Result<(Stmt, &[Token
     }
 }
 
-// A statement that stands in so many others, in its own place in memory.
+// A statement inside so many others, in its own place in memory.
 #[cycle(stmt)]
 fn inner(alloc: Global, tokens: &[Token], around: usize) -> Result<(Box<Stmt>, &[Token]), Stop>
     requires { around ≤ DEPTH_LIMIT }
@@ -55,7 +55,7 @@ fn inner(alloc: Global, tokens: &[Token], around: usize) -> Result<(Box<Stmt>, &
     Ok((boxed(alloc, stmt)?, rest))
 }
 
-// A statement that may stand in so many others.
+// A statement that may be inside so many others.
 #[cycle(stmt)]
 #[tactic(auto, using(crate::proofs::StmtSteps::starts_as_simple))]
 fn started(alloc: Global, tokens: &[Token], around: usize) -> Result<(Stmt, &[Token]), Stop>
@@ -94,7 +94,7 @@ fn started(alloc: Global, tokens: &[Token], around: usize) -> Result<(Stmt, &[To
     }
 }
 
-// The statements up to `}` that stand in so many others, the place of the `}`, and what stands behind it.
+// The statements up to `}` inside so many others, the place of the `}`, and the rest.
 #[cycle(stmt)]
 #[tactic(auto, using(crate::proofs::StmtSteps::goes_on_in_list))]
 fn list(
@@ -122,7 +122,7 @@ fn list(
     }
 }
 
-// A statement or the locals of a list, which are put behind all, and what stands behind.
+// A statement or the locals of a list, which are pushed to all, and the rest.
 #[cycle(stmt)]
 #[tactic(auto, using(crate::proofs::StmtSteps::listed_stmt, crate::proofs::StmtSteps::had_listed, crate::proofs::Trees::stmts_push))]
 fn listed<'a>(
@@ -143,7 +143,7 @@ fn listed<'a>(
     Ok(rest)
 }
 
-// An `if`, behind its word.
+// An `if`, after its word.
 #[cycle(stmt)]
 #[tactic(auto, using(crate::proofs::StmtSteps::given_if))]
 fn conditional(
@@ -163,7 +163,7 @@ fn conditional(
     Ok((if_stmt(place, condition, chosen, other), rest))
 }
 
-// What stands behind the first statement of an `if`: the other one, where `else` stands.
+// The rest after the first statement of an `if`: the other one, if there is an `else`.
 #[cycle(stmt)]
 #[tactic(auto, using(crate::proofs::StmtSteps::no_else, crate::proofs::StmtSteps::had_else))]
 fn otherwise(
@@ -182,7 +182,7 @@ fn otherwise(
     Ok((Some(other), rest))
 }
 
-// A `while`, behind its word.
+// A `while`, after its word.
 #[cycle(stmt)]
 #[tactic(auto, using(crate::proofs::StmtSteps::given_while, crate::proofs::StmtSteps::had_while))]
 fn while_loop(
@@ -201,7 +201,7 @@ fn while_loop(
     Ok((while_stmt(place, condition, body), rest))
 }
 
-// A `do`, behind its word.
+// A `do`, after its word.
 #[cycle(stmt)]
 fn do_loop(
     alloc: Global,
@@ -218,7 +218,7 @@ fn do_loop(
     Ok((do_stmt(place, body, condition), rest))
 }
 
-// A `for`, behind its word.
+// A `for`, after its word.
 #[cycle(stmt)]
 #[tactic(auto, using(crate::proofs::StmtSteps::had_for))]
 fn for_loop(
@@ -239,7 +239,7 @@ fn for_loop(
     Ok((for_stmt(place, first, condition, after, body), rest))
 }
 
-/// The body of a function, behind `{`: its statements, the place of its `}`, and what stands behind.
+/// The body of a function, after `{`: its statements, the place of its `}`, and the rest.
 pub fn body(alloc: Global, tokens: &[Token]) -> Result<(Vec<Stmt>, Place, &[Token]), Stop>
     ensures follows { (x : Ident) (f : Form) (xs : List Ident) (held : List Place) (items : List ItemTree) (st : List Frame) → Follows result (verdict tokens.now (InList 0 no_more) (BodyOf x f xs held items ∷ st)) (λ r. verdict r.2.now (InItems (items ++ machine.closing_of_function x f xs held (stmt_trees r.0.items) r.1 ∷ [])) st) }
     ensures shorter { IfOk result (λ r. length r.2.now < length tokens.now) }

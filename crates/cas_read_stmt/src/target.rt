@@ -14,7 +14,7 @@ use cas_read_expr::stop::{Stop, next_token, unexpected};
 use cas_syntax::{Expr, Ident, LValue};
 use std::alloc::Global;
 
-/// What is pointed to, behind `*`.
+/// What is pointed to, after `*`.
 #[tactic(auto, using(crate::proofs::Steps::given_target_behind))]
 pub fn pointed_to(alloc: Global, tokens: &[Token]) -> Result<(LValue, &[Token]), Stop>
     ensures follows { (usage : Use) (st : List Frame) → Follows result (verdict tokens.now (AfterStar usage) st) (λ p. reaches p.1.now usage (target_tree p.0) st) }
@@ -35,7 +35,7 @@ pub fn pointed_to(alloc: Global, tokens: &[Token]) -> Result<(LValue, &[Token]),
     }
 }
 
-/// An element, behind `[`.
+/// An element, after `[`.
 #[tactic(auto, using(crate::proofs::Steps::given_target_index))]
 pub fn element(alloc: Global, name: Ident, tokens: &[Token]) -> Result<(LValue, &[Token]), Stop>
     ensures follows { (usage : Use) (st : List Frame) → Follows result (verdict tokens.now WantOutermost (TargetIndex usage name ∷ st)) (λ p. reaches p.1.now usage (target_tree p.0) st) }

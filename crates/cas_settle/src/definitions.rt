@@ -55,7 +55,7 @@ impl<'a> Model for Definitions<'a> {
 }
 
 impl<'a> Definitions<'a> {
-    /// The definitions of the units. Refused where a name is defined twice.
+    /// The definitions of the units. Refused if a name is defined twice.
     pub fn of(alloc: Global, units: &'a Roster) -> Result<Definitions<'a>, LinkFault>
         requires few_units { length units.now < 2 ^ 32 }
         requires few_functions { All (λ unit. length (functions_of unit) < 2 ^ 32) units.now }

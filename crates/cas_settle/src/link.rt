@@ -77,7 +77,7 @@ impl fmt::Display for Count {
 /// Why units don't fit together.
 #[derive(Debug, Drop, PartialEq, Eq)]
 pub enum LinkFault {
-    /// Want of memory.
+    /// It ran out of memory.
     Memory,
     /// L1: no unit defines this name.
     NotDefined(Name),
@@ -239,7 +239,7 @@ fn entry_place(
     })
 }
 
-// Checks a count against its limit. The count stands still at the greatest `u64`.
+// Checks a count against its limit. The count stays at the greatest `u64`.
 fn check_limit(what: Count, limit: u64, counted: u64) -> Result<(), LinkFault>
     requires { limit < 2 ^ 64 - 1 }
     ensures { (count : ℕ) → counted ≡ min count (2 ^ 64 - 1) → IsRefusedBy result (limit_fault what limit count) }

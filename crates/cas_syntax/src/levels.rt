@@ -14,7 +14,7 @@ pub const OR_LEVEL: u8 = 2;
 /// The level of `&&`.
 pub const AND_LEVEL: u8 = 3;
 
-/// The level of an operand with what stands before it. Each operator between two operands binds less tightly.
+/// The level of an operand with what precedes it. Each operator between two operands binds less tightly.
 pub const OPERAND_LEVEL: u8 = 12;
 
 /// The level of an operator that always takes both operands.

@@ -1,7 +1,7 @@
-//! The text of modules: their trees, and the grammar that relates tokens to trees. The definitions stand in
+//! The text of modules: their trees, and the grammar that relates tokens to trees. The definitions are in
 //! `specs/`: the trees as plain data (`Tree`), equality but for places (`Alike`), the grammar (`Expressions`,
 //! `Statements`, `Items`, over `Tokens`, `Operators` and `Limits`), the first fault of a text and what a text is
-//! read as (`Reading`). It stands on `cas_base` and `cas_lex`.
+//! read as (`Reading`). It depends on `cas_base` and `cas_lex`.
 #![tactic(auto)]
 
 mod levels;

@@ -5,7 +5,7 @@ ghost use Rattle.std.specs.Prelude.{◌≡◌, IfOk};
 use cas_base::{Decl, Kind, Name, NoMemory, Place, Seq, Ty};
 use std::alloc::Global;
 
-/// A name where a text has it.
+/// A name at its place in a text.
 #[derive(Debug, Drop)]
 pub struct Ident {
     pub name: Name,
@@ -93,9 +93,9 @@ pub enum Expr {
     /// `(int) e`, and so for each kind
     Cast(Kind, Box<Expr>),
     Binary(BinaryOperator, Box<Expr>, Box<Expr>),
-    /// `a && b`, which takes its second operand only where the first is true.
+    /// `a && b`, which takes its second operand only if the first is true.
     And(Box<Expr>, Box<Expr>),
-    /// `a || b`, which takes its second operand only where the first is false.
+    /// `a || b`, which takes its second operand only if the first is false.
     Or(Box<Expr>, Box<Expr>),
     /// `a ? b : c`
     Cond(Box<Expr>, Box<Expr>, Box<Expr>),

@@ -68,7 +68,7 @@ fn form(alloc: Global, sort: &str, words: &mut SplitWhitespace<'_>) -> Result<Fo
     }
 }
 
-// A declaration as it is printed, behind `extern` where it isn't a definition.
+// A declaration as it is printed, after `extern` where it isn't a definition.
 fn decl(alloc: Global, line: &str) -> Result<Decl, Fail> {
     let (defined, line) = match line.strip_prefix("extern ") {
         Some(rest) => (false, rest),
