@@ -1,5 +1,5 @@
 -- Each step keeps what holds of the states of a machine.
-use Rattle.std.proofs.Common.{◌≡◌, ℕ, zero, suc, ◌+◌, ◌<◌, ◌≤◌, Bool, true, false, if◌then◌else◌, nat_eq, List, [], ◌∷◌, ◌++◌, length, slice_get, set, Option, Some, None, ◌⊎◌, inl, inr, ⊎_elim, refl, sym, ap, ◌∙◌, subst, arith, length-append, length-set}
+use Rattle.std.proofs.Common.{◌≡◌, ℕ, zero, suc, ◌+◌, ◌<◌, ◌≤◌, Bool, true, false, if◌then◌else◌, nat_eq, List, [], ◌∷◌, ◌++◌, length, slice_get, set, Some, None, ◌⊎◌, inl, inr, ⊎_elim, refl, sym, ap, ◌∙◌, subst, arith, length-append, length-set}
 use Rattle.std.proofs.lemmas.Bool.{eqb-false}
 use Rattle.cas_base.specs.Word.{word_sub}
 use Rattle.cas_asm.specs.declared.ask.Ask.{Ask}
@@ -8,8 +8,8 @@ use Rattle.cas_tso.specs.Asking.{IsAmongWords}
 use Rattle.cas_tso.specs.Counted.{IsCounted, IsKept, IsKeptThread, all_outs, most_fuel}
 use Rattle.cas_tso.specs.Run.{first_thread, start_state, threads_from, Run}
 use Rattle.cas_tso.specs.Run.{at_start, and_step}
-use Rattle.cas_tso.specs.State.{Setup, State, Thread, room}
-use Rattle.cas_tso.specs.Step.{Act, plain, forwarded, loaded, stored, drained, decremented, printed, stopped, Takes, Step, after, after_decrement, after_forward, after_load, after_out, after_plain, after_store, asks, end_after, memory_after, output_after}
+use Rattle.cas_tso.specs.State.{Setup, State, Thread}
+use Rattle.cas_tso.specs.Step.{Act, plain, forwarded, loaded, stored, drained, decremented, printed, stopped, Takes, Step, after_decrement, after_forward, after_load, after_out, after_plain, after_store, asks, end_after, memory_after, output_after}
 use Rattle.cas_tso.specs.declared.end.End.{End}
 use Rattle.cas_tso.specs.declared.end.End.TheVariants as end
 use Rattle.cas_tso.specs.declared.options.Options.{Options}

@@ -3,3 +3,4 @@ pub mod Asking
 pub mod Going
 pub mod Keeping
 pub mod Machines
+pub mod Rounding

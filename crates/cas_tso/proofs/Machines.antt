@@ -1,11 +1,13 @@
 -- From what one thread does to a step of the machine.
-use Rattle.std.proofs.Common.{◌≡◌, ℕ, zero, suc, ◌+◌, ◌*◌, ◌<◌, ◌≤◌, List, [], ◌∷◌, length, slice_get, get_or, set, Option, Some, None, refl, sym, ap, ◌∙◌, subst, arith, length-set}
+use Rattle.std.proofs.Common.{◌≡◌, ℕ, zero, suc, ◌+◌, ◌*◌, ◌<◌, ◌≤◌, List, [], ◌∷◌, length, slice_get, get_or, set, Option, Some, refl, sym, ap, ◌∙◌, subst, arith, length-set, append_assoc, add-one, drop-cons, drop, ◌++◌}
+use Rattle.std.proofs.lemmas.List.{append-nil, drop_all}
 use Rattle.std.proofs.Math.Nat.{mul-suc}
 use Rattle.std.specs.Prelude.{Result, Ok, Err, OnErr, OnOk}
-use Rattle.cas_tso.specs.Counted.{IsKept, IsKeptThread, all_outs, most_fuel}
-use Rattle.cas_tso.specs.Refusal.{Acts, Drains, Goes, IsDrain, Part, StepsAs, part}
+use Rattle.cas_tso.specs.Counted.{IsKept, all_outs, most_fuel}
+use Rattle.cas_tso.specs.Refusal.{Acts, Drains, Goes, Part, StepsAs, part}
+use Rattle.cas_tso.specs.Run.{first_thread, threads_from}
 use Rattle.cas_tso.specs.State.{Setup, State, Thread}
-use Rattle.cas_tso.specs.Step.{Act, Step, after}
+use Rattle.cas_tso.specs.Step.{Act, Step}
 use Rattle.cas_tso.specs.declared.refused.Choice.TheVariants as choice
 use Rattle.cas_tso.specs.declared.refused.Refused.{Refused}
 use Rattle.cas_tso.proofs.Keeping.{step_kept}
@@ -99,3 +101,20 @@ goes_steps p s i c d m o at g = (g.0, g.1, act_steps p s i c d m o g.0 at g.2)
 pub drains_steps : (p : Setup) (s : State) (i : ℕ) (c d : Thread) (m : List ℕ) (o : List (ℕ × ℕ)) → slice_get s.threads i ≡ Some c →
     Drains p i (part c s.memory s.output) (part d m o) → StepsAs p s (choice.Drain i) (with_part s i d m o)
 drains_steps p s i c d m o at g = (g.0, g.1, act_steps p s i c d m o g.0 at g.2)
+
+-- the threads from one on are that one and those after it
+pub threads_step : (p : Setup) (ts : List Thread) (k : ℕ) (es : List ℕ) (x : Thread) → k < length es → x ≡ first_thread p k →
+    (ts ++ x ∷ []) ++ threads_from p (k + 1) (drop (k + 1) es) ≡ ts ++ threads_from p k (drop k es)
+threads_step p ts k es x lt is =
+    append_assoc ts (x ∷ []) (threads_from p (k + 1) (drop (k + 1) es))
+    ∙ (ap (λ (u : Thread). ts ++ u ∷ threads_from p (k + 1) (drop (k + 1) es)) is
+    ∙ (ap (λ (n : ℕ). ts ++ first_thread p k ∷ threads_from p (k + 1) (drop n es)) (add-one k)
+    ∙ ap (λ (fs : List ℕ). ts ++ threads_from p k fs) (sym (drop-cons es k 0 lt))))
+
+pub threads_whole : (p : Setup) (ts : List Thread) (k : ℕ) (es : List ℕ) → length es ≤ k → ts ++ threads_from p k (drop k es) ≡ ts
+threads_whole p ts k es le = ap (λ (fs : List ℕ). ts ++ threads_from p k fs) (drop_all k es le) ∙ append-nil ts
+
+pub item_there : (ts : List Thread) (i : ℕ) → i < length ts → (c : Thread) × (slice_get ts i ≡ Some c)
+item_there [] i lt = absurd (omega arith)
+item_there (x ∷ xs) zero lt = (x, refl)
+item_there (x ∷ xs) (suc i) lt = item_there xs i (omega arith)

@@ -1,5 +1,5 @@
 -- A machine in code.
-use Rattle.std.specs.Prelude.{ℕ, ◌*◌, ◌≤◌, length, vec_capacity}
+use Rattle.std.specs.Prelude.{◌*◌, ◌≤◌, length, vec_capacity}
 use Rattle.cas_tso.specs.Counted.{IsKept, most_fuel}
 use Rattle.cas_tso.specs.Machine.{Machine}
 use Rattle.cas_tso.specs.State.{setup}

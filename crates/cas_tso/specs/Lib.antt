@@ -8,3 +8,4 @@ pub mod Core
 pub mod Asking
 pub mod Machine
 pub mod Inside
+pub mod Rounds

@@ -1,5 +1,5 @@
 -- Timed runs: each store stays in its buffer until it is due, and is drained then.
-use Rattle.std.specs.Prelude.{◌≡◌, ℕ, ◌-◌, Bool, true, false, ◌||◌, List, [], ◌∷◌, length, Option, Some, None, nat_lt, nat_le, slice_get}
+use Rattle.std.specs.Prelude.{◌≡◌, ℕ, ◌-◌, Bool, true, false, ◌||◌, List, [], ◌∷◌, length, Option, Some, None, nat_eq, nat_lt, nat_le, slice_get}
 use Rattle.cas_asm.specs.Ask.{ask_of}
 use Rattle.cas_asm.specs.declared.ask.Ask.{Ask}
 use Rattle.cas_asm.specs.declared.ask.Ask.TheVariants as ask
@@ -18,16 +18,17 @@ must_drain (ask.Store at value) b = nat_le room (length b)
 must_drain (ask.LockedDec at) b = nat_lt 0 (length b)
 must_drain _ b = false
 
--- the thread's oldest store, which is this, is due: the thread is Done, or it has no end, and `hold` further instructions were
--- executed after it, or it must be drained before the next
-abbrev pub is_oldest_due : Image → (hold : ℕ) → Thread → Pending → Option End → Bool
-is_oldest_due m hold c x None = nat_le hold (c.counts.executed - x.entered) || must_drain (ask_of m c.cpu None) c.buffer
-is_oldest_due m hold c x (Some end.Done) = true
-is_oldest_due m hold c x (Some _) = false
+-- whether the oldest of these stores is due, by the thread's end: the thread is Done, or it has no end, and `hold` further
+-- instructions were executed after it, or it must be drained before the next
+abbrev pub is_due_at : Image → (hold : ℕ) → Thread → List Pending → Option End → Bool
+is_due_at m hold c [] ended = false
+is_due_at m hold c (x ∷ xs) None = nat_le hold (c.counts.executed - x.entered) || must_drain (ask_of m c.cpu None) (x ∷ xs)
+is_due_at m hold c (x ∷ xs) (Some end.Done) = true
+is_due_at m hold c (x ∷ xs) (Some _) = false
 
 -- a store of the thread is due; stores become due in the order in which they entered, so this is the oldest
 abbrev pub is_due : Image → (hold : ℕ) → Thread → Bool
-is_due m hold c = elim c.buffer [ [] ↦ false | x ∷ xs ↦ is_oldest_due m hold c x c.ended ]
+is_due m hold c = is_due_at m hold c c.buffer c.ended
 
 -- the thread may do this in time: a store that is due is drained before all else, and no other is drained
 abbrev pub IsInTime : Setup → Thread → Act → Type 0
@@ -44,10 +45,23 @@ pub data TimedRun (p : Setup) : List (ℕ × Act) → State → Type 0 where
   and_step : {steps : List (ℕ × Act)} {s : State} → TimedRun p steps s →
       (i : ℕ) (a : Act) (t : State) → TimedStep p s i a t → TimedRun p ((i, a) ∷ steps) t
 
--- the thread has an end, and nothing of it is left to drain if it is Done
-abbrev pub HasFinished : Thread → Type 0
-HasFinished c = (e : End) × (c.ended ≡ Some e) × (e ≡ end.Done → c.buffer ≡ [])
+-- nothing is left to drain of a thread with this end: its buffer is empty if it is Done, and else it drains no more
+abbrev pub is_drained : End → List Pending → Bool
+is_drained end.Done b = nat_eq (length b) 0
+is_drained _ b = true
+
+-- the thread has an end, and nothing is left to drain of it
+abbrev pub has_finished_at : Option End → List Pending → Bool
+has_finished_at None b = false
+has_finished_at (Some e) b = is_drained e b
+
+abbrev pub has_finished : Thread → Bool
+has_finished c = has_finished_at c.ended c.buffer
+
+-- each of these threads has an end, and nothing is left to drain of it
+abbrev pub AreFinished : List Thread → Type 0
+AreFinished ts = (i : ℕ) (c : Thread) → slice_get ts i ≡ Some c → has_finished c ≡ true
 
 -- each thread has an end, and each Done thread's buffer is empty
 abbrev pub IsEnded : State → Type 0
-IsEnded s = (i : ℕ) (c : Thread) → slice_get s.threads i ≡ Some c → HasFinished c
+IsEnded s = AreFinished s.threads

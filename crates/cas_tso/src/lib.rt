@@ -8,6 +8,7 @@ mod machine;
 mod options;
 mod pending;
 mod refused;
+mod rounds;
 mod thread;
 
 pub use end::End;

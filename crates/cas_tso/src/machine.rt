@@ -1,11 +1,13 @@
 //! The machine.
 
 ghost use Rattle.std.specs.Prelude.{◌≡◌, ◌*◌, ◌<◌, ◌≤◌, ℕ, Some, None, IfOk, OnErr, OnOk, MatchResult, length, slice_get};
-ghost use Rattle.cas_tso.specs.Counted.{most_fuel};
+ghost use Rattle.std.specs.Bool.{MatchBool};
+ghost use Rattle.cas_tso.specs.Counted.{IsKept, most_fuel};
 ghost use Rattle.cas_tso.specs.Machine.{machine};
 ghost use Rattle.cas_tso.specs.Refusal.{StepsAs, refused_choice, refused_drain, refused_run, thread_of};
 ghost use Rattle.cas_tso.specs.Run.{start_state, threads_from};
 ghost use Rattle.cas_tso.specs.State.{Thread, setup};
+ghost use Rattle.cas_tso.specs.Timed.{AreFinished, IsEnded, is_due};
 ghost use Rattle.cas_tso.specs.declared.refused.Choice.TheVariants as choice;
 
 use crate::instruction::{drain_oldest, run_next};
@@ -40,6 +42,31 @@ impl<'a> Model for Tso<'a> {
 }
 
 impl<'a> Tso<'a> {
+    /// The machine of an image at its start, with one thread for each entry. All memory that it ever needs is taken here.
+    ///
+    /// # Errors
+    ///
+    /// `NoMemory` for want of memory.
+    pub fn start(alloc: Global, image: &'a Image, options: &Options) -> Result<Tso<'a>, NoMemory>
+        requires fuel { options.now.fuel ≤ most_fuel }
+        requires least { 16 ≤ options.now.stack }
+        requires most { options.now.stack ≤ 1048576 }
+        requires outs { options.now.outs * length image.now.entries ≤ 16777216 }
+        ensures { IfOk result (λ t. t ≡ machine (setup image.now options.now) (start_state (setup image.now options.now))) }
+    {
+        let memory = Vec::from_slice(alloc, image.words.as_slice())?;
+        let outs = options.outs as usize * image.entries.as_slice().len();
+        let output = Vec::with_capacity(alloc, outs)?;
+        let threads = first_threads(alloc, image, options)?;
+        Ok(Tso {
+            image,
+            options: *options,
+            memory,
+            output,
+            threads,
+        })
+    }
+
     /// How many threads there are. They have the numbers from 0 on.
     pub fn threads(&self) -> u32
         ensures { result ≡ length self.now.state.threads }
@@ -47,10 +74,30 @@ impl<'a> Tso<'a> {
         self.threads.len() as u32
     }
 
+    /// Whether a store of the thread is due.
+    pub(crate) fn is_due(&self, thread: u32, hold: u32) -> bool
+        requires { thread < length self.now.state.threads }
+        ensures due { (c : Thread) → slice_get self.now.state.threads thread ≡ Some c → result ≡ is_due self.now.setup.image hold c }
+        ensures kept { IsKept self.now.setup self.now.state }
+        ensures fuel { self.now.setup.options.fuel ≤ most_fuel }
+    {
+        self.threads[thread as usize].is_due(self.image, hold)
+    }
+
+    /// Whether each thread has an end and each Done thread's buffer is empty.
+    pub fn is_ended(&self) -> bool
+        ensures ended { MatchBool result (IsEnded self.now.state) (IsEnded self.now.state → ⊥) }
+        ensures kept { IsKept self.now.setup self.now.state }
+        ensures fuel { self.now.setup.options.fuel ≤ most_fuel }
+    {
+        are_finished(&self.threads)
+    }
+
     // The thread executes its next instruction, or ends in place of it.
-    fn run(&mut self, thread: u32) -> Result<(), Refused>
+    pub(crate) fn run(&mut self, thread: u32) -> Result<(), Refused>
         requires { thread < length self.old.state.threads }
         ensures setup { self.new.setup ≡ self.old.setup }
+        ensures threads { length self.new.state.threads ≡ length self.old.state.threads }
         ensures answer { (c : Thread) → slice_get self.old.state.threads thread ≡ Some c → MatchResult result (λ _. refused_run self.old.setup.image c c.ended ≡ None) (λ why. refused_run self.old.setup.image c c.ended ≡ Some why) }
         ensures steps { OnOk result (StepsAs self.old.setup self.old.state (choice.Run thread) self.new.state) }
         ensures still { OnErr result (self.new ≡ self.old) }
@@ -67,9 +114,10 @@ impl<'a> Tso<'a> {
     }
 
     // The thread's oldest store goes to memory.
-    fn drain(&mut self, thread: u32) -> Result<(), Refused>
+    pub(crate) fn drain(&mut self, thread: u32) -> Result<(), Refused>
         requires { thread < length self.old.state.threads }
         ensures setup { self.new.setup ≡ self.old.setup }
+        ensures threads { length self.new.state.threads ≡ length self.old.state.threads }
         ensures answer { (c : Thread) → slice_get self.old.state.threads thread ≡ Some c → MatchResult result (λ _. refused_drain c.buffer ≡ None) (λ why. refused_drain c.buffer ≡ Some why) }
         ensures steps { OnOk result (StepsAs self.old.setup self.old.state (choice.Drain thread) self.new.state) }
         ensures still { OnErr result (self.new ≡ self.old) }
@@ -89,6 +137,7 @@ impl<'a> Tso<'a> {
     pub fn step(&mut self, choice: Choice) -> Result<(), Refused>
         requires { thread_of choice < length self.old.state.threads }
         ensures setup { self.new.setup ≡ self.old.setup }
+        ensures threads { length self.new.state.threads ≡ length self.old.state.threads }
         ensures answer { (c : Thread) → slice_get self.old.state.threads (thread_of choice) ≡ Some c → MatchResult result (λ _. refused_choice self.old.setup.image c choice ≡ None) (λ why. refused_choice self.old.setup.image c choice ≡ Some why) }
         ensures steps { OnOk result (StepsAs self.old.setup self.old.state choice self.new.state) }
         ensures still { OnErr result (self.new ≡ self.old) }
@@ -98,4 +147,33 @@ impl<'a> Tso<'a> {
             Choice::Drain(thread) => self.drain(thread),
         }
     }
+}
+
+// Whether each of these threads has an end, and nothing is left to drain of it.
+fn are_finished(threads: &[ThreadCore]) -> bool
+    ensures { MatchBool result (AreFinished threads.now) (AreFinished threads.now → ⊥) }
+{
+    for core in threads {
+        if !core.has_finished() {
+            return false;
+        }
+    }
+    true
+}
+
+// The threads before their first instructions.
+fn first_threads(
+    alloc: Global,
+    image: &Image,
+    options: &Options,
+) -> Result<Vec<ThreadCore>, NoMemory>
+    requires least { 16 ≤ options.now.stack }
+    requires most { options.now.stack ≤ 1048576 }
+    ensures { IfOk result (λ threads. threads.items ≡ threads_from (setup image.now options.now) 0 image.now.entries) }
+{
+    let mut threads = Vec::new(alloc);
+    for thread in 0..image.entries.as_slice().len() as u32 {
+        threads.push(ThreadCore::start(alloc, image, options, thread)?)?;
+    }
+    Ok(threads)
 }

@@ -8,7 +8,7 @@ ghost use Rattle.cas_tso.specs.Run.{first_end, first_thread};
 ghost use Rattle.cas_tso.specs.State.{Setup, newest, room, setup};
 ghost use Rattle.cas_tso.specs.Step as act;
 ghost use Rattle.cas_tso.specs.Step.{IsRunning, IsPlain, Takes, end_after, after_stop, stop_of};
-ghost use Rattle.cas_tso.specs.Timed.{is_due, must_drain};
+ghost use Rattle.cas_tso.specs.Timed.{has_finished, is_due, must_drain};
 
 use crate::end::End;
 use crate::options::Options;
@@ -93,6 +93,17 @@ impl ThreadCore {
         ensures { result ≡ self.now.ended }
     {
         self.end
+    }
+
+    /// Whether the thread has an end and nothing is left to drain of it.
+    pub fn has_finished(&self) -> bool
+        ensures { result ≡ has_finished self.now }
+    {
+        match self.end {
+            None => false,
+            Some(End::Done) => self.buffer.len() == 0,
+            Some(_) => true,
+        }
     }
 
     /// How many stores are in the buffer.

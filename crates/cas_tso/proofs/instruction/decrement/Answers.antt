@@ -1,4 +1,4 @@
-use Rattle.std.proofs.Common.{◌≡◌, ◌∙◌, ℕ, List, slice_get, sym, ap, refl}
+use Rattle.std.proofs.Common.{◌∙◌, ℕ, List, slice_get, sym, ap, refl}
 use Rattle.std.specs.Prelude.{slice_set}
 use Rattle.cas_tso.specs.Step.{decremented}
 use Rattle.cas_tso.proofs.instruction.decrement.Goals as goal

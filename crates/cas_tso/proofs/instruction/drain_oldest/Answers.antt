@@ -1,4 +1,4 @@
-use Rattle.std.proofs.Common.{◌≡◌, ◌∙◌, ◌<◌, Some, slice_get, sym, refl, subst, length, ap}
+use Rattle.std.proofs.Common.{◌∙◌, ◌<◌, sym, refl, subst}
 use Rattle.cas_tso.specs.Step.{drained}
 use Rattle.cas_tso.proofs.Buffers.{drains_first}
 use Rattle.cas_tso.proofs.instruction.drain_oldest.Goals as goal

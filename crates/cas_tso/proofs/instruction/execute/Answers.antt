@@ -1,4 +1,4 @@
-use Rattle.std.proofs.Common.{◌≡◌, ◌∙◌, ℕ, List, sym, ap, refl, subst}
+use Rattle.std.proofs.Common.{◌∙◌, ℕ, List, sym, ap, refl, subst}
 use Rattle.cas_tso.specs.Refusal.{Goes, part}
 use Rattle.cas_tso.specs.State.{setup}
 use Rattle.cas_tso.specs.Step.{plain, stop_of, stored, stopped, unread}

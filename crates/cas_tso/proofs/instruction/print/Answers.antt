@@ -1,4 +1,4 @@
-use Rattle.std.proofs.Common.{◌≡◌, ◌∙◌, length, sym, ap, refl}
+use Rattle.std.proofs.Common.{◌∙◌, length, sym, ap, refl}
 use Rattle.cas_tso.specs.Step.{printed, stop_of, stopped, unread}
 use Rattle.cas_tso.proofs.instruction.print.Goals as goal
 

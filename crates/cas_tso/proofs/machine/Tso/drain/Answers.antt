@@ -1,11 +1,11 @@
-use Rattle.std.proofs.Common.{◌≡◌, ◌<◌, ℕ, List, length, Option, Some, None, slice_get, sym, ap, ◌∙◌, refl, subst, arith, length-set}
+use Rattle.std.proofs.Common.{◌≡◌, ◌<◌, length, Some, None, slice_get, sym, refl, subst, arith}
 use Rattle.std.specs.Prelude.{MatchResult, OnOk, vec_capacity}
 use Rattle.cas_tso.specs.Machine.{Machine}
 use Rattle.cas_tso.specs.Refusal.{StepsAs, part, refused_drain}
-use Rattle.cas_tso.specs.State.{Setup, State, Thread, setup}
+use Rattle.cas_tso.specs.State.{Thread}
 use Rattle.cas_tso.specs.Inside.{machine_in}
 use Rattle.cas_tso.specs.declared.refused.Choice.TheVariants as choice
-use Rattle.cas_tso.proofs.Machines.{DrainsAnyhow, drains_moves, drains_steps, item_at, kept_after, on_err, on_ok, one_item, room_after, room_left, with_part}
+use Rattle.cas_tso.proofs.Machines.{DrainsAnyhow, drains_moves, drains_steps, item_at, kept_after, on_err, on_ok, one_item, room_after, with_part}
 use Rattle.cas_tso.proofs.machine.Tso.drain.Goals as goal
 
 pub drain_oldest-requires : goal.drain_oldest-requires

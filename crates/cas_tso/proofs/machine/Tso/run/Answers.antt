@@ -1,8 +1,8 @@
-use Rattle.std.proofs.Common.{◌≡◌, ◌<◌, ℕ, List, length, Option, Some, None, slice_get, sym, ap, ◌∙◌, subst, arith, length-set}
+use Rattle.std.proofs.Common.{◌≡◌, ◌<◌, length, Some, None, slice_get, sym, subst, arith}
 use Rattle.std.specs.Prelude.{MatchResult, OnOk, vec_capacity}
 use Rattle.cas_tso.specs.Machine.{Machine}
-use Rattle.cas_tso.specs.Refusal.{Goes, StepsAs, part, refused_run}
-use Rattle.cas_tso.specs.State.{Setup, State, Thread, setup}
+use Rattle.cas_tso.specs.Refusal.{StepsAs, part, refused_run}
+use Rattle.cas_tso.specs.State.{Thread}
 use Rattle.cas_tso.specs.Inside.{machine_in}
 use Rattle.cas_tso.specs.declared.refused.Choice.TheVariants as choice
 use Rattle.cas_tso.proofs.Machines.{goes_moves, goes_steps, item_at, kept_after, on_ok, one_item, room_after, room_left, with_part}

@@ -1,4 +1,4 @@
-use Rattle.std.proofs.Common.{◌≡◌, Option, Some, None, slice_get, sym, subst}
+use Rattle.std.proofs.Common.{◌≡◌, Some, None, slice_get, sym, subst}
 use Rattle.std.specs.Prelude.{MatchResult}
 use Rattle.cas_tso.specs.Refusal.{refused_choice, thread_of}
 use Rattle.cas_tso.specs.State.{Thread}
