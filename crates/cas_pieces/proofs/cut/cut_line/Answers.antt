@@ -1,4 +1,3 @@
-
 use Rattle.std.specs.List.{prefix_len}
 use Rattle.std.proofs.Common.{◌∙◌, take, drop, ap, ℕ}
 use Rattle.cas_pieces.specs.Lines.{is_inner}
