@@ -25,7 +25,7 @@ use Rattle.cas_runs.specs.Bounds.{total, most_of}
 use Rattle.cas_runs.specs.Access.{Accesses, Writes, Stores, Then, with_value, length_of as size_in}
 use Rattle.cas_runs.specs.Calls.{Last, Takes, Gives, Puts, Calls}
 use Rattle.cas_runs.specs.Unit.{Setting}
-use Rattle.cas_runs.specs.Passing.{Relation, AllMatch, relation}
+use Rattle.cas_runs.specs.Passing.{Relation, AllMatch}
 use Rattle.cas_runs.proofs.Cells.{set_same, set_length}
 use Rattle.cas_mid.specs.declared.tree.CsharpFun.{CsharpFun}
 use Rattle.cas_mid.specs.Trees as st
@@ -43,7 +43,22 @@ use Rattle.cas_cshmgen.proofs.Values.{cell_of, word_amounts, element_amounts, va
 
 -- the relation, as far as steps know it
 abbrev pub R : Setting → List CsharpFun → List ClightFun → Relation CsharpFun CsharpState ClightFun ClightState
-R setting ts ss = relation csharpminor clight.clight (λ f g. IsMade [] f g) (λ us layout. layout) (λ setting ts ss v w. v ≡ w) (λ setting ts ss p h q k. Unit {0}) (λ setting ts ss p h q k. Unit {0}) (λ setting ts ss n h k u v. Unit {0}) (λ setting ts ss f g n x h b y k c. Unit {0}) ts ss setting
+R setting ts ss = record {
+  target = csharpminor;
+  source = clight.clight;
+  setting = setting;
+  placed = setting.layout;
+  targets = ts;
+  sources = ss;
+  by = record {
+    made = λ f g. IsMade [] f g;
+    match_values = λ v w. v ≡ w;
+    match_memory = λ p h q k. Unit {0};
+    settled = λ p h q k. Unit {0};
+    frame = λ n h k u v. Unit {0};
+    match_states = λ f g n x y. Unit {0};
+  };
+}
 
 -- the most nodes, and the most cells
 abbrev pub nodes_in : List ClightFun → ℕ

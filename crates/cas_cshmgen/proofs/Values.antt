@@ -43,7 +43,7 @@ cell_of o p = (o, p)
 abbrev loading_of : Object × ℕ → Asks Object (asks.Value Object)
 loading_of c = asks.loads c.0 c.1 asks.gives
 
-module _ {F G : Type 0} (r : Relation F CsharpState G ClightState) (w : Held F CsharpState G ClightState) (numbers : (i : ℕ) → r.match_values (Number i) (Number i)) (act : Activation F G) (fn : ClightFun) (serial : ℕ) (temps : List Value) where
+module _ {F G : Type 0} (r : Relation F CsharpState G ClightState) (w : Held F CsharpState G ClightState) (numbers : (i : ℕ) → r.by.match_values (Number i) (Number i)) (act : Activation F G) (fn : ClightFun) (serial : ℕ) (temps : List Value) where
   abbrev T : Type 0
   T = Accesses (Last CsharpState)
 

@@ -1,15 +1,20 @@
 -- Where blocks are moved, the outside leaves both threads alike, and what they hold keeps to the layer of calls.
 use Rattle.std.proofs.Common.{◌≡◌, ℕ, zero, suc, ◌+◌, ◌<◌, ◌≤◌, List, [], ◌∷◌, Option, Some, None, Bool, true, false, if◌then◌else◌, length, slice_get, slice_set, nat_eq, nat_lt, inl, inr, refl, sym, ap, ◌∙◌, subst, ⊎_elim, arith, eqb-true}
 use Rattle.std.proofs.lemmas.Option.{slice_get_within}
-use Rattle.cas_runs.specs.Label.{NameBytes, Shown, Word, Place, Object, Crossing}
+use Rattle.cas_runs.specs.Label.{NameBytes, Shown, Word, Place, Object}
 use Rattle.cas_runs.specs.Naming.{Home, Own, Theirs, Value, Number, Pointer, Hidden, Part, Layout, parts_at, some_reaches, Named, Naming, Memory, and_then, all_named_by, reaches, reached_in, can_show, can_show_all, same_home, objects_of, same_objects, value_at, taken, all_taken, written, with_block, left_in, new_block, Crossed, brought}
-use Rattle.cas_runs.specs.Machine.{Block}
+use Rattle.cas_runs.specs.Machine.{Names}
 use Rattle.cas_runs.specs.Access.{Holding, with_lock, without_lock, value_in, length_of}
-use Rattle.cas_runs.specs.Forms.{LengthsAlike, Stored, MemoryKeeps, AlikeSince}
+use Rattle.cas_runs.specs.Forms.{LengthsAlike, Stored, MemoryKeeps}
+use Rattle.cas_runs.specs.Edge.{Edge}
 use Rattle.cas_runs.specs.Unit.{Setting}
-use Rattle.cas_runs.specs.Calls.{Activations, Past, set_blocks, fresh, gone, without_own, with_share, same_share, if_shown, crosses_as, with_naming}
-use Rattle.cas_runs.specs.Passing.{Relation, AllMatch, MatchIf, brought_in, Keeps}
-use Rattle.cas_runs.specs.Placing.{Spot, Placing, pointer_in, SameMoved, AllMoved, CellsMoved, BlockMoved, ObjectMoved, MemoryMoved, moved_part, NamedMoved, NamingMoved, AlikeMoved, UnplacedKept, IsPlacing, moves_blocks}
+use Rattle.cas_runs.specs.Calls.{Activations, Past, set_blocks, fresh, gone, without_own, if_shown, named_as, with_naming}
+use Rattle.cas_runs.specs.Passing.{Position, Relation, AllMatch, MatchIf, brought_in, Keeps, AllMade, MadeSo, MadeAt, Matching, MadeOf, RunTogether, IsMatching}
+use Rattle.cas_runs.specs.Held.{set_in, stored_at, Activation, Steps, Midway, HoldsBy, with_blocks_of}
+use Rattle.cas_runs.specs.Placing.{Spot, Placing, pointer_in, SameMoved, AllMoved, CellsMoved, BlockMoved, ObjectMoved, MemoryMoved, moved_part, NamedMoved, NamingMoved, AlikeMoved, KeepsUnplaced, IsPlacing, moved_matches, moving, Moved, places, bare, moved_blocks, IsMoved}
+use Rattle.cas_runs.proofs.Words.{all_self}
+use Rattle.cas_runs.proofs.Footing.{step_least}
+use Rattle.cas_runs.proofs.Holding.{held_passes}
 use Rattle.cas_runs.proofs.Showing.{part_reached, reached_by}
 use Rattle.cas_runs.proofs.Tests.{and_both, eq_self, same_home_from}
 use Rattle.cas_runs.proofs.Cells.{set_same, set_other, set_length, get_inside, written_length, written_out}
@@ -160,37 +165,29 @@ module _ {F A G B : Type 0} (target : Activations F A) (source : Activations G B
 
   -- What crosses.
 
-  crosses_moved : (p q : Past) (h k : Holding) → AlikeMoved place sizes p h q k → (vs ws : List Value) → AllMoved place vs ws → (crossing : Crossing) (ns : Naming) → crosses_as layout ws q k crossing ≡ Some ns → (ms : Naming) × (crosses_as placed vs p h crossing ≡ Some ms) × AlikeMoved place sizes (with_naming p ms) h (with_naming q ns) k
-  crosses_moved p q h k a vs ws s crossing ns e = by (same_share k.share crossing.share) refl e
+  crosses_moved : (p q : Past) (h k : Holding) → AlikeMoved place sizes p h q k → (vs ws : List Value) → AllMoved place vs ws → (names : Names) (ns : Naming) → named_as layout ws q k names ≡ Some ns → (ms : Naming) × (named_as placed vs p h names ≡ Some ms) × AlikeMoved place sizes (with_naming p ms) h (with_naming q ns) k
+  crosses_moved p q h k a vs ws s names ns e = named (all_named_by (parts_at layout q.begun) q.naming ws names.values) refl e
     where
-      Found : Type 0
-      Found = (ms : Naming) × (crosses_as placed vs p h crossing ≡ Some ms) × AlikeMoved place sizes (with_naming p ms) h (with_naming q ns) k
-
-      shown : (ms ns' : Naming) → NamingMoved place sizes ms ns' → same_share h.share crossing.share ≡ true → all_named_by (parts_at placed p.begun) p.naming vs crossing.values ≡ Some ms → (u : Bool) → same_objects (objects_of k.memory ns') crossing.objects ≡ u → if_shown u ns' ≡ Some ns → (ms : Naming) × (crosses_as placed vs p h crossing ≡ Some ms) × AlikeMoved place sizes (with_naming p ms) h (with_naming q ns) k
-      shown ms ns' moves share named false i j = absurd (cc j)
-      shown ms ns' moves share named true i j =
+      shown : (ms ns' : Naming) → NamingMoved place sizes ms ns' → all_named_by (parts_at placed p.begun) p.naming vs names.values ≡ Some ms → (u : Bool) → same_objects (objects_of k.memory ns') names.objects ≡ u → if_shown u ns' ≡ Some ns → (ms : Naming) × (named_as placed vs p h names ≡ Some ms) × AlikeMoved place sizes (with_naming p ms) h (with_naming q ns) k
+      shown ms ns' moves found false i j = absurd (cc j)
+      shown ms ns' moves found true i j =
           let same : ns' ≡ ns = cc j in
           let objects = all_shown_same target source made place sizes placed layout is h.memory k.memory a.memory ms ns' moves in (
             ms,
-            ap (λ (t : Bool). if t then and_then (all_named_by (parts_at placed p.begun) p.naming vs crossing.values) (λ v. if_shown (same_objects (objects_of h.memory v) crossing.objects) v) else None) share
-                ∙ ap (λ (o : Option Naming). and_then o (λ v. if_shown (same_objects (objects_of h.memory v) crossing.objects) v)) named
-                ∙ ap (λ os. if_shown (same_objects os crossing.objects) ms) objects ∙ ap (λ u. if_shown u ms) i,
+            ap (λ (o : Option Naming). and_then o (λ v. if_shown (same_objects (objects_of h.memory v) names.objects) v)) found
+                ∙ ap (λ os. if_shown (same_objects os names.objects) ms) objects ∙ ap (λ u. if_shown u ms) i,
             record { begun = a.begun; share = a.share; memory = a.memory; naming = subst (λ v. NamingMoved place sizes ms v) same moves },
           )
 
-      names : same_share h.share crossing.share ≡ true → (o : Option Naming) → all_named_by (parts_at layout q.begun) q.naming ws crossing.values ≡ o → and_then o (λ v. if_shown (same_objects (objects_of k.memory v) crossing.objects) v) ≡ Some ns → (ms : Naming) × (crosses_as placed vs p h crossing ≡ Some ms) × AlikeMoved place sizes (with_naming p ms) h (with_naming q ns) k
-      names share None i j = absurd (cc j)
-      names share (Some ns') i j =
-          let m = all_names_too target source made place sizes placed layout is q.begun vs ws s p.naming q.naming a.naming crossing.values ns' i in
-          shown m.0 ns' m.2 share (subst (λ n. all_named_by (parts_at placed n) p.naming vs crossing.values ≡ Some m.0) (sym a.begun) m.1) (same_objects (objects_of k.memory ns') crossing.objects) refl j
+      named : (o : Option Naming) → all_named_by (parts_at layout q.begun) q.naming ws names.values ≡ o → and_then o (λ v. if_shown (same_objects (objects_of k.memory v) names.objects) v) ≡ Some ns → (ms : Naming) × (named_as placed vs p h names ≡ Some ms) × AlikeMoved place sizes (with_naming p ms) h (with_naming q ns) k
+      named None i j = absurd (cc j)
+      named (Some ns') i j =
+          let m = all_names_too target source made place sizes placed layout is q.begun vs ws s p.naming q.naming a.naming names.values ns' i in
+          shown m.0 ns' m.2 (subst (λ n. all_named_by (parts_at placed n) p.naming vs names.values ≡ Some m.0) (sym a.begun) m.1) (same_objects (objects_of k.memory ns') names.objects) refl j
 
-      by : (t : Bool) → same_share k.share crossing.share ≡ t → (if t then and_then (all_named_by (parts_at layout q.begun) q.naming ws crossing.values) (λ v. if_shown (same_objects (objects_of k.memory v) crossing.objects) v) else None) ≡ Some ns → (ms : Naming) × (crosses_as placed vs p h crossing ≡ Some ms) × AlikeMoved place sizes (with_naming p ms) h (with_naming q ns) k
-      by false i j = absurd (cc j)
-      by true i j = names (subst (λ v. same_share v crossing.share ≡ true) (sym a.share) i) (all_named_by (parts_at layout q.begun) q.naming ws crossing.values) refl j
-
-module _ {F A G B : Type 0} (target : Activations F A) (source : Activations G B) (setting : Setting) (placed : Layout) (ts : List F) (ss : List G) (made : F → G → Type 0) (place : Placing) (sizes : NameBytes → ℕ → ℕ) (match : F → G → ℕ → A → Holding → Block → B → Holding → Block → Type 0) (is : IsPlacing target source made place sizes placed setting.layout) where
+module _ {F A G B : Type 0} (target : Activations F A) (source : Activations G B) (setting : Setting) (placed : Layout) (ts : List F) (ss : List G) (made : F → G → Type 0) (place : Placing) (sizes : NameBytes → ℕ → ℕ) (match : F → G → ℕ → Position A → Position B → Type 0) (is : IsPlacing target source made place sizes placed setting.layout) where
   abbrev R : Relation F A G B
-  R = moves_blocks target source setting placed ts ss made place sizes match
+  R = record { target = target; source = source; setting = setting; placed = placed; targets = ts; sources = ss; by = moved_matches place sizes made match }
 
   pub to_moved : (vs ws : List Value) → AllMatch R vs ws → AllMoved place vs ws
   to_moved [] [] h = tt
@@ -234,32 +231,48 @@ module _ {F A G B : Type 0} (target : Activations F A) (source : Activations G B
   moved_keeps = record {
     names = λ f g m. is.names f g m;
     numbers = λ w word. refl;
-    first = record { begun = refl; share = refl; memory = record { own = λ f a b to e. refl; theirs = λ k. tt; have_sizes = λ f a b ws e. absurd (cc e) }; naming = tt };
-    alikes = λ p q h k a. a;
-    begun = λ p q h k a. a.begun;
-    shares = λ p q h k a. a.share;
-    at_once = λ n h k f a b less none. refl;
-    then_later = λ n h k h' k' h'' k'' l m f a b less none. m f a b less none ∙ l f a b less none;
-    fewer = λ m n h k h' k' le l f a b less none. l f a b (omega (arith, le, less)) none;
-    locks = λ n p q h k a lock words g. record { match_memory = with_memory p q h k (with_share h (with_lock h.share lock words)) (with_share k (with_lock k.share lock words)) a (ap (λ v. with_lock v lock words) a.share) a.memory; frame = λ f a b less none. refl };
-    unlocks = λ n p q h k a lock. record { match_memory = with_memory p q h k (with_share h (without_lock h.share lock)) (with_share k (without_lock k.share lock)) a (ap (λ v. without_lock v lock) a.share) a.memory; frame = λ f a b less none. refl };
-    begins = λ f g m p q h k a. record {
-      match_memory = record { begun = ap (λ n. n + 1) a.begun; share = a.share; memory = subst (λ v. MemoryMoved place sizes (set_blocks (fresh v) h.memory (target.name f) p.begun 0 (target.blocks f)) (set_blocks (fresh source.first_word) k.memory (source.name g) q.begun 0 (source.blocks g))) (sym is.first_words) (blocks_moved target source made place sizes placed setting.layout is (fresh source.first_word) begin f g m p.begun q.begun a.begun h.memory k.memory a.memory); naming = a.naming };
-      frame = λ f' a' b' less none. other_home target source made place sizes placed setting.layout is (fresh source.first_word) k.memory (source.name g) q.begun (source.blocks g) f' a' (λ d b'' e. let same : a' ≡ q.begun = cc e in let begun = a.begun in omega (arith, same, begun, less)) b';
+    is_frame = record {
+      at_once = λ n h k f a b less none. refl;
+      then_later = λ n h k h' k' h'' k'' l m f a b less none. m f a b less none ∙ l f a b less none;
+      fewer = λ m n h k h' k' le l f a b less none. l f a b (omega (arith, le, less)) none;
     };
-    ends = λ n f g m p q h k a. record {
-      settled = with_memory p q h k (without_own target f n h) (without_own source g n k) a a.share (blocks_moved target source made place sizes placed setting.layout is gone end f g m n n refl h.memory k.memory a.memory);
-      frame = λ f' a' b' less none. other_home target source made place sizes placed setting.layout is gone k.memory (source.name g) n (source.blocks g) f' a' (λ d b'' e. let same : a' ≡ n = cc e in omega (arith, same, less)) b';
+    is_match = record {
+      first = record { begun = refl; share = refl; memory = record { own = λ f a b to e. refl; theirs = λ k. tt; have_sizes = λ f a b ws e. absurd (cc e) }; naming = tt };
+      matches = λ p q h k a. record { begun = a.begun; share = a.share; naming = a.naming };
+      begun = λ p q h k a. a.begun;
+      shares = λ p q h k a. a.share;
     };
-    shows = λ p q h k a vs ws s e. subst (λ n. can_show_all (parts_at placed n) p.naming vs ≡ true) (sym a.begun) (all_show_too target source made place sizes placed setting.layout is q.begun p.naming q.naming a.naming vs ws (to_moved vs ws s) e);
-    crosses = λ p q h k a vs ws s crossing ns e. crosses_moved target source made place sizes placed setting.layout is p q h k a vs ws (to_moved vs ws s) crossing ns e;
-    receives = λ n p q h k a types crossing brings typed.
-        let both = left target source made place sizes placed setting.layout is crossing.objects h.memory k.memory a.memory p.naming q.naming a.naming 0 in (
-          record { settled = record { begun = a.begun; share = refl; memory = both.memory; naming = both.naming }; frame = λ f a' b less none. unplaced_stay crossing.objects k.memory p.naming q.naming a.naming 0 f a' b none },
-          same_if (all_taken (brought_in R p h crossing).naming crossing.values) (all_taken (brought_in R q k crossing).naming crossing.values)
-              (all_taken_too target source made place sizes placed setting.layout is (brought_in R p h crossing).naming (brought_in R q k crossing).naming both.naming crossing.values),
-        );
+    steps = record {
+      locks = λ m a lock words g. record { match_memory = record { begun = a.begun; share = ap (λ v. with_lock v lock words) a.share; naming = a.naming }; frame = λ f a b less none. refl };
+      unlocks = λ m a lock. record { match_memory = record { begun = a.begun; share = ap (λ v. without_lock v lock) a.share; naming = a.naming }; frame = λ f a b less none. refl };
+      begins = λ f g m p q h k a. record {
+        match_memory = record { begun = ap (λ n. n + 1) a.begun; share = a.share; naming = a.naming };
+        frame = λ f' a' b' less none. other_home target source made place sizes placed setting.layout is (fresh source.first_word) k.memory (source.name g) q.begun (source.blocks g) f' a' (λ d b'' e. let same : a' ≡ q.begun = cc e in let begun = a.begun in omega (arith, same, begun, less)) b';
+      };
+      ends = λ m so a. record {
+        settled = with_memory m.t_past m.s_past m.t_holding m.s_holding (without_own target m.t_function m.serial m.t_holding) (without_own source m.s_function m.serial m.s_holding) a a.share
+            (blocks_moved target source made place sizes placed setting.layout is gone end m.t_function m.s_function so m.serial m.serial refl m.t_holding.memory m.s_holding.memory a.memory);
+        frame = λ f' a' b' less none. other_home target source made place sizes placed setting.layout is gone m.s_holding.memory (source.name m.s_function) m.serial (source.blocks m.s_function) f' a' (λ d b'' e. let same : a' ≡ m.serial = cc e in omega (arith, same, less)) b';
+      };
+    };
+    crossings = record {
+      shows = λ p q h k a vs ws s e. subst (λ n. can_show_all (parts_at placed n) p.naming vs ≡ true) (sym a.begun) (all_show_too target source made place sizes placed setting.layout is q.begun p.naming q.naming a.naming vs ws (to_moved vs ws s) e);
+      crosses = λ p q h k a vs ws s names ns e. crosses_moved target source made place sizes placed setting.layout is p q h k a vs ws (to_moved vs ws s) names ns e;
+      receives = λ n p q h k a types crossing brings typed.
+          let both = left target source made place sizes placed setting.layout is crossing.objects h.memory k.memory a.memory p.naming q.naming a.naming 0 in (
+            record { begun = a.begun; share = refl; memory = both.memory; naming = both.naming },
+            λ f a' b less none. unplaced_stay crossing.objects k.memory p.naming q.naming a.naming 0 f a' b none,
+            same_if (all_taken (brought_in R p h crossing).naming crossing.values) (all_taken (brought_in R q k crossing).naming crossing.values)
+                (all_taken_too target source made place sizes placed setting.layout is (brought_in R p h crossing).naming (brought_in R q k crossing).naming both.naming crossing.values),
+          );
+    };
   }
+
+  -- memories stay moved where activations begin
+  pub moved_begin : (f : F) (g : G) → made f g → (n : ℕ) (t s : Memory) → MemoryMoved place sizes t s → MemoryMoved place sizes (with_blocks_of target f n t) (with_blocks_of source g n s)
+  moved_begin f g m n t s a =
+      subst (λ v. MemoryMoved place sizes (set_blocks (fresh v) t (target.name f) n 0 (target.blocks f)) (set_blocks (fresh source.first_word) s (source.name g) n 0 (source.blocks g))) (sym is.first_words)
+      (blocks_moved target source made place sizes placed setting.layout is (fresh source.first_word) begin f g m n n refl t s a)
 
   -- Loads and stores.
 
@@ -396,17 +409,51 @@ module _ {F A G B : Type 0} (target : Activations F A) (source : Activations G B
       let gone : None ≡ Some (Pointer home at) = subst (λ o. pointer_in g c o at' ≡ Some (Pointer home at)) nowhere p in
       cc gone
 
-  -- loads and stores keep the memories alike, and the blocks that the target doesn't have as they were
-  pub memory_keeps_since : (before : Memory) → MemoryKeeps (SameMoved place) AnySize (AlikeSince (MemoryMoved place sizes) (UnplacedKept place) before)
-  memory_keeps_since before = record {
-    loads = λ t s a home home' at at' p w g. loads_moved t s a.0 home home' at at' p w g;
-    stores = λ t s a home home' at at' p v w same ws g less.
-        let stored = stores_moved t s a.0 home home' at at' p v w same ws g less in
+  -- loads and stores keep the memories moved
+  pub memory_moved : MemoryKeeps (SameMoved place) AnySize (MemoryMoved place sizes)
+  memory_moved = record {
+    loads = λ t s a home home' at at' p w g. loads_moved t s a home home' at at' p w g;
+    stores = λ t s a home home' at at' p v w same ws g less. stores_moved t s a home home' at at' p v w same ws g less;
+    lengths = λ t s a home home' at at' p. lengths_moved t s a home home' at at' p;
+  }
+
+  -- and the blocks that the target doesn't have as they were
+  pub stores_placed : (n : ℕ) (s : Memory) (home home' : Home) (at at' : ℕ) (v : Value) → SameMoved place (Pointer home at) (Pointer home' at') → KeepsUnplaced place n s (stored_at s home' at' v)
+  stores_placed n s home home' at at' v p f c b less none = with_elsewhere s home' (Own f c b) (set_in (s home') at' v) (placed_elsewhere home home' at at' p f c b none)
+
+-- what threads hold matches by the shares alone, and is settled where memories are moved
+pub moved_holds : {F A G B : Type 0} (target : Activations F A) (source : Activations G B) (setting : Setting) (placed : Layout) (ts : List F) (ss : List G) (made : F → G → Type 0) (place : Placing) (sizes : NameBytes → ℕ → ℕ) (match : F → G → ℕ → Position A → Position B → Type 0) (match_states : Activation F G → A → Memory → B → Memory → Type 0) → HoldsBy (record { target = target; source = source; setting = setting; placed = placed; targets = ts; sources = ss; by = moved_matches place sizes made match }) (moving place sizes match_states)
+moved_holds target source setting placed ts ss made place sizes match match_states = record {
+  words = λ p q h k a. all_self (SameMoved place) (λ w. refl) k.share;
+  again = λ p q h k h' k' a share words. record { begun = a.begun; share = share; naming = a.naming };
+  settles = λ p q h k a memory. record { begun = a.begun; share = a.share; memory = memory; naming = a.naming };
+  memories = λ p q h k a. a.memory;
+  frame = λ n h k h' k' tk sk. sk;
+  frames = λ n h k h' k' l. (tt, l);
+  conditions = (record { itself = λ n m. tt; then = λ n m m' m'' a b. tt }, record { itself = λ n m f c b less none. refl; then = λ n m m' m'' x y f c b less none. y f c b less none ∙ x f c b less none });
+}
+
+-- A pass that puts blocks elsewhere, by what it names and shows.
+module _ {F A G B : Type 0} (p : Moved F A G B) (is : IsMoved p) where
+  so_from : (edge : Edge) (ts : List F) (ss : List G) → AllMade (MadeAt edge p.made) ts ss → AllMade (MadeSo p.made) ts ss
+  so_from edge [] [] h = tt
+  so_from edge [] (g ∷ gs) h = absurd h
+  so_from edge (f ∷ fs) [] h = absurd h
+  so_from edge (f ∷ fs) (g ∷ gs) h = let at = h.0 in ((at.decls, at.is_made), so_from edge fs gs h.1)
+
+  pub moved_is : IsMatching (moved_blocks p)
+  moved_is = record {
+    names = is.names;
+    laid_out_too = is.laid_out_too;
+    passes = λ setting decls ts ss run.
+        let made = MadeOf (moved_blocks p) setting ts ss in
+        let R0 = bare p setting ts ss made in
+        let w = places p setting ts ss in
+        let placed = p.naming ss setting.layout in
+        let keeps = moved_keeps p.target p.source setting placed ts ss made (p.place ss) (p.sizes ss) (Midway R0 w) (is.is_placing setting decls ts ss run) in
         record {
-          block = stored.block;
-          there = stored.there;
-          within = stored.within;
-          after = (stored.after, λ f c b none. with_elsewhere s home' (Own f c b) (Some (slice_set ws at' w)) (placed_elsewhere home home' at at' p f c b none) ∙ a.1 f c b none);
+          keeps = keeps;
+          pays = record { prices = is.prices; waits = is.waits ts ss (so_from setting.edge ts ss run.all) };
+          passes = held_passes R0 w (moved_holds p.target p.source setting placed ts ss made (p.place ss) (p.sizes ss) (λ f g n x y. Unit {0}) (p.match_states setting ts ss)) (λ x. step_least p.target.tariff ts x is.prices) (is.steps setting decls ts ss run) keeps run.edge_is;
         };
-    lengths = λ t s a home home' at at' p. lengths_moved t s a.0 home home' at at' p;
   }

@@ -35,7 +35,7 @@ module _ {F A : Type 0} (l : Activations F A) (setting : Setting) (fs : List F) 
   abbrev ClosedAct : Act (Thread F A) → Type 0
   ClosedAct (Quiet y) = Closed y
   ClosedAct (Emits event y) = Closed y
-  ClosedAct (Crosses next) = ⊥
+  ClosedAct (Crosses f share next) = ⊥
   ClosedAct (Locks lock next) = (ws : List ℕ) → Closed (next ws)
   ClosedAct (Receives next) = ⊥
   ClosedAct Bad = Unit {0}
@@ -77,8 +77,8 @@ module _ {F A : Type 0} (l : Activations F A) (setting : Setting) (fs : List F) 
   acts_closed : (o : Option (Last A)) (f : F) (n : ℕ) (stack : List (Frame F A)) (p : Past) (h : Holding) → AllWait stack → ClosedAct (acts l setting scene o f n stack p h)
   acts_closed None f n stack p h w = tt
   acts_closed (Some (Goes next)) f n stack p h w = w
-  acts_closed (Some (Takes lock next)) f n stack p h w = takes_closed (guard_of setting.edge setting.words lock) next f n stack p h w
-  acts_closed (Some (Gives lock next)) f n stack p h w = gives_closed (guard_of setting.edge setting.words lock) next f n stack p h w
+  acts_closed (Some (Takes lock next)) f n stack p h w = takes_closed (guard_of setting.edge lock) next f n stack p h w
+  acts_closed (Some (Gives lock next)) f n stack p h w = gives_closed (guard_of setting.edge lock) next f n stack p h w
   acts_closed (Some (Puts word next)) f n stack p h w = w
   acts_closed (Some (Calls function values next)) f n stack p h w = calls_closed function values (Waits f n (results_of setting.edge function) next ∷ stack) p h w (find l fs function)
   acts_closed (Some (Tails function values)) f n stack p h w = calls_closed function values stack p (without_own l f n h) w (find l fs function)
@@ -104,7 +104,7 @@ module _ {F A : Type 0} (l : Activations F A) (setting : Setting) (fs : List F) 
   after : (ls : List RunLabel) (a : Act (Thread F A)) (k : RunLabel) (y : Thread F A) → ClosedAct a → StepsTo setting.edge ls a k y → After k y
   after ls (Quiet z) k y c e = absurd e
   after ls (Emits event z) k y c e = subst (λ v. After v y) e.0 (subst (λ v. After (label_of event) v) e.1 (said_after event z c))
-  after ls (Crosses next) k y c e = absurd c
+  after ls (Crosses f share next) k y c e = absurd c
   after ls (Locks lock next) k y c e = subst (λ v. After v y) (sym e.1) (subst (λ v. After (Lock lock e.0) v) e.3 (record { plain_one = plain.Lock lock; is_plain = refl; closed = c e.0 }))
   after ls (Receives next) k y c e = absurd c
   after ls Bad k y c e = absurd e
@@ -139,13 +139,11 @@ threads_plain l setting fs entry thread ls bs b x r =
 
 -- so no Call and no Leave of it has two labels
 thread_names_alone : {F A : Type 0} (l : Activations F A) (setting : Setting) (fs : List F) (entry : NameBytes) (thread : ℕ) → NamesAlone setting.edge ((language l).thread setting fs entry thread)
-thread_names_alone {F = F} {A = A} l setting fs entry thread = record {
-  alone = λ ls bs b x r next e j k y z cj ej ck ek.
-      let start = starts l (find l fs entry) thread in
-      let h = plain_run l setting fs start (starts_closed l setting fs thread (find l fs entry) start) r in
-      let no : ClosedAct l setting fs start (Crosses next) = subst (λ (v : Act (Thread F A)). ClosedAct l setting fs start v) e (act_closed l setting fs start x h.closed) in
-      absurd no;
-}
+thread_names_alone {F = F} {A = A} l setting fs entry thread ls bs b x r function share next e n m y z d g =
+    let start = starts l (find l fs entry) thread in
+    let h = plain_run l setting fs start (starts_closed l setting fs thread (find l fs entry) start) r in
+    let no : ClosedAct l setting fs start (Crosses function share next) = subst (λ (v : Act (Thread F A)). ClosedAct l setting fs start v) e (act_closed l setting fs start x h.closed) in
+    absurd no
 
 -- what a thread refines keeps each of its runs
 pub thread_each_kept : {F A S : Type 0} (l : Activations F A) (setting : Setting) (fs : List F) (entry : NameBytes) (thread : ℕ) (s : Machine S) → Refines setting.edge ((language l).thread setting fs entry thread) s → EachKept setting.edge ((language l).thread setting fs entry thread) s

@@ -11,8 +11,7 @@ use Rattle.cas_base.specs.Decl.{functions_of}
 use Rattle.cas_base.specs.Unit.{IsInOrder}
 use Rattle.cas_runs.specs.Label.{NameBytes, same_name}
 use Rattle.cas_runs.specs.Edge.{Edge, Signature}
-use Rattle.cas_runs.specs.Access.{Words}
-use Rattle.cas_runs.specs.Unit.{Stack, Code, Language, defined_as, defines, has_function, AreDefined, OnlyInside, all_decls, all_functions, FitsUnit}
+use Rattle.cas_runs.specs.Unit.{Setting, Language, defined_as, defines, has_function, AreDefined, OnlyInside, all_decls, all_functions, FitsUnit}
 
 -- one of the declarations has this name
 abbrev has_named : List Decl → NameBytes → Bool
@@ -77,6 +76,6 @@ module _ {F S : Type 0} (l : Language F S) (decl_of : F → Decl) (names : (f : 
   only_these test other same [] h = tt
   only_these test other same (g ∷ gs) h = (h.0 ∙ same g.name, only_these test other same gs h.1)
 
-  pub entered_functions : (unit : UnitOf F) → IsInOrder decl_of unit → (edge : Edge) (words : Words) (stack : Stack) (code : Code) → FitsUnit edge words stack code unit.decls unit.globals → OnlyInside (has_function l unit.funs) edge.functions
-  entered_functions unit order edge words stack code fits =
-      only_these (defines unit.decls) (has_function l unit.funs) (λ name. sym (in_order_defined unit order name)) edge.functions fits.entered
+  pub entered_functions : (unit : UnitOf F) → IsInOrder decl_of unit → (setting : Setting) → FitsUnit setting unit.decls unit.globals → OnlyInside (has_function l unit.funs) setting.edge.functions
+  entered_functions unit order setting fits =
+      only_these (defines unit.decls) (has_function l unit.funs) (λ name. sym (in_order_defined unit order name)) setting.edge.functions fits.entered

@@ -1,13 +1,12 @@
 -- The small language of critical sections keeps the rules.
 use Rattle.std.specs.Prelude.{slice_get}
-use Rattle.std.proofs.Common.{◌≡◌, ℕ, ◌≤◌, List, [], ◌∷◌, Option, Some, None, refl, sym, ap, subst}
+use Rattle.std.proofs.Common.{◌≡◌, ℕ, ◌≤◌, List, [], ◌∷◌, Option, Some, None, refl, sym, ap, subst, inl, inr}
 use Rattle.cas_base.specs.declared.kind.Kind.TheVariants.{U32}
-use Rattle.cas_runs.specs.Label.{RunLabel, Lock, Unlock, Out, Done}
+use Rattle.cas_runs.specs.Label.{NameBytes, Share, RunLabel, Lock, Unlock, Out, Done}
 use Rattle.cas_runs.specs.Edge.{LockWord, AreGuarded, AreUnder, IsOfKind}
 use Rattle.cas_runs.specs.Outside.{IsAmong, first, later}
-use Rattle.cas_runs.specs.Machine.{Act, Quiet, Emits, Crosses, Locks, Receives, Bad, Stops, CanCross, Halt, Ended, Taken, Event, Unlocks, Prints, Ends, label_of, StepsTo, Block, Run, starts, quiet, labelled}
-use Rattle.cas_runs.specs.Rules.{and_lock, except_lock, locks_after, IsShared, MayEmit, HasEnded, MayHalt, HasCrossed, IsReceiving, KeepsRules, EmitsInKind, KeepsKinds, KeepsLocks}
-use Rattle.cas_runs.proofs.Composing.{said_stays}
+use Rattle.cas_runs.specs.Machine.{Act, Quiet, Emits, Crosses, Locks, Receives, Bad, Stops, Names, Event, Unlocks, Prints, Ends, label_of, StepsTo, Block, Run, starts, quiet, labelled}
+use Rattle.cas_runs.specs.Rules.{and_lock, except_lock, locks_after, IsShared, HasEnded, HasCrossed, MayAct, OpensBy, KeepsRules, EmitsInKind, EmitsLocks, KeepsKinds, KeepsLocks}
 use Rattle.cas_runs.specs.Sections.{Instruction, Take, Give, Load, Store, Print, Spin, Standing, At, Over, one_lock, first_of_words, act_of, act_at, footprint_at, sections, StoresWords}
 
 -- what holds where the program stands, after these labels
@@ -45,14 +44,14 @@ locked_holds ls rest register s r k [] g = let none = g.kinds in absurd none
 locked_holds ls rest register s r k (w ∷ ws) g = let one = g.kinds in taken s r one.0 (ap (λ v. and_lock 0 v) k)
 
 label_holds : (ls : List RunLabel) (l : RunLabel) (x y : Standing) → Holds ls x → StepsTo one_lock ls (act_at x) l y → Holds (l ∷ ls) y
-label_holds ls l x y (free {rest = []} s r k) e = same_locks ls Done l Over y e.0 (over refl) e.1
+label_holds ls l x y (free {rest = []} s r k) e = same_locks ls Done l Over y e.0 (over tt) e.1
 label_holds ls l x y (free {rest = Take ∷ rest} {register = register} s r k) e = same_locks ls (Lock 0 e.0) l (At rest register (first_of_words e.0)) y (sym e.1) (locked_holds ls rest register s r k e.0 e.2) e.3
 label_holds ls l x y (free {rest = Give ∷ rest} s r k) e = absurd e
 label_holds ls l x y (free {rest = Load ∷ rest} s r k) e = absurd e
 label_holds ls l x y (free {rest = Store w ∷ rest} s r k) e = absurd e
 label_holds ls l x y (free {rest = Print ∷ rest} {register = register} s r k) e = same_locks ls (Out register) l (At rest register None) y e.0 (free s r k) e.1
 label_holds ls l x y (free {rest = Spin ∷ rest} s r k) e = absurd e
-label_holds ls l x y (taken {rest = []} s r v k) e = same_locks ls Done l Over y e.0 (over refl) e.1
+label_holds ls l x y (taken {rest = []} s r v k) e = same_locks ls Done l Over y e.0 (over tt) e.1
 label_holds ls l x y (taken {rest = Take ∷ rest} s r v k) e = absurd e
 label_holds ls l x y (taken {rest = Give ∷ rest} {register = register} {w = w} s r v k) e = same_locks ls (Unlock 0 (w ∷ [])) l (At rest register None) y e.0 (free s r (ap (λ v. except_lock 0 v) k)) e.1
 label_holds ls l x y (taken {rest = Load ∷ rest} s r v k) e = absurd e
@@ -103,109 +102,84 @@ writes_shared ls x (free {rest = Print ∷ rest} s r k) w h = elim h [ ]
 writes_shared ls x (free {rest = Spin ∷ rest} s r k) w h = elim h [ ]
 writes_shared ls x (over e) w h = elim h [ ]
 
-says_allowed : (ls : List RunLabel) (x : Standing) → Holds ls x → (event : Event) (y : Standing) → act_at x ≡ Emits event y → MayEmit one_lock ls (label_of event)
-says_allowed ls x (free {rest = []} s r k) event y e = subst (λ v. MayEmit one_lock ls (label_of v)) (let same : Ends ≡ event = cc e in same) tt
-says_allowed ls x (free {rest = Take ∷ rest} s r k) event y e = absurd (cc e)
-says_allowed ls x (free {rest = Give ∷ rest} s r k) event y e = absurd (cc e)
-says_allowed ls x (free {rest = Load ∷ rest} s r k) event y e = absurd (cc e)
-says_allowed ls x (free {rest = Store w ∷ rest} s r k) event y e = absurd (cc e)
-says_allowed ls x (free {rest = Print ∷ rest} {register = register} s r k) event y e = subst (λ v. MayEmit one_lock ls (label_of v)) (let same : Prints register ≡ event = cc e in same) tt
-says_allowed ls x (free {rest = Spin ∷ rest} s r k) event y e = absurd (cc e)
-says_allowed ls x (taken {rest = []} s r v k) event y e = subst (λ v. MayEmit one_lock ls (label_of v)) (let same : Ends ≡ event = cc e in same) tt
-says_allowed ls x (taken {rest = Take ∷ rest} s r v k) event y e = absurd (cc e)
-says_allowed ls x (taken {rest = Give ∷ rest} {w = w} s r v k) event y e =
-    let same : Unlocks 0 (w ∷ []) ≡ event = cc e in
-    let held : IsAmong 0 (locks_after ls) = subst (λ v. IsAmong 0 v) (sym k) first in
-    let words : AreUnder one_lock 0 (w ∷ []) = record { is_lock = refl; count = refl } in
-    subst (λ v. MayEmit one_lock ls (label_of v)) same (held, words)
-says_allowed ls x (taken {rest = Load ∷ rest} s r v k) event y e = absurd (cc e)
-says_allowed ls x (taken {rest = Store w ∷ rest} s r v k) event y e = absurd (cc e)
-says_allowed ls x (taken {rest = Print ∷ rest} {register = register} s r v k) event y e = subst (λ v. MayEmit one_lock ls (label_of v)) (let same : Prints register ≡ event = cc e in same) tt
-says_allowed ls x (taken {rest = Spin ∷ rest} s r v k) event y e = absurd (cc e)
-says_allowed ls x (over h) event y e = absurd (cc e)
-
-says_kinds : (ls : List RunLabel) (x : Standing) → Holds ls x → (event : Event) (y : Standing) → act_at x ≡ Emits event y → EmitsInKind one_lock ls (label_of event)
-says_kinds ls x (free {rest = []} s r k) event y e = subst (λ v. EmitsInKind one_lock ls (label_of v)) (let same : Ends ≡ event = cc e in same) tt
-says_kinds ls x (free {rest = Take ∷ rest} s r k) event y e = absurd (cc e)
-says_kinds ls x (free {rest = Give ∷ rest} s r k) event y e = absurd (cc e)
-says_kinds ls x (free {rest = Load ∷ rest} s r k) event y e = absurd (cc e)
-says_kinds ls x (free {rest = Store w ∷ rest} s r k) event y e = absurd (cc e)
-says_kinds ls x (free {rest = Print ∷ rest} {register = register} s r k) event y e = subst (λ v. EmitsInKind one_lock ls (label_of v)) (let same : Prints register ≡ event = cc e in same) r
-says_kinds ls x (free {rest = Spin ∷ rest} s r k) event y e = absurd (cc e)
-says_kinds ls x (taken {rest = []} s r v k) event y e = subst (λ v. EmitsInKind one_lock ls (label_of v)) (let same : Ends ≡ event = cc e in same) tt
-says_kinds ls x (taken {rest = Take ∷ rest} s r v k) event y e = absurd (cc e)
-says_kinds ls x (taken {rest = Give ∷ rest} {w = w} s r v k) event y e =
-    let same : Unlocks 0 (w ∷ []) ≡ event = cc e in
-    subst (λ v. EmitsInKind one_lock ls (label_of v)) same (v, tt)
-says_kinds ls x (taken {rest = Load ∷ rest} s r v k) event y e = absurd (cc e)
-says_kinds ls x (taken {rest = Store w ∷ rest} s r v k) event y e = absurd (cc e)
-says_kinds ls x (taken {rest = Print ∷ rest} {register = register} s r v k) event y e = subst (λ v. EmitsInKind one_lock ls (label_of v)) (let same : Prints register ≡ event = cc e in same) r
-says_kinds ls x (taken {rest = Spin ∷ rest} s r v k) event y e = absurd (cc e)
-says_kinds ls x (over h) event y e = absurd (cc e)
-
 no_lock : (l : ℕ) → IsAmong l [] → ⊥
 no_lock l h = elim h [ ]
 
-locks_free : (ls : List RunLabel) (x : Standing) → Holds ls x → (lock : ℕ) (next : List ℕ → Standing) → act_at x ≡ Locks lock next → IsAmong lock (locks_after ls) → ⊥
-locks_free ls x (free {rest = []} s r k) lock next e h = absurd (cc e)
-locks_free ls x (free {rest = Take ∷ rest} s r k) lock next e h = no_lock lock (subst (λ v. IsAmong lock v) k h)
-locks_free ls x (free {rest = Give ∷ rest} s r k) lock next e h = absurd (cc e)
-locks_free ls x (free {rest = Load ∷ rest} s r k) lock next e h = absurd (cc e)
-locks_free ls x (free {rest = Store u ∷ rest} s r k) lock next e h = absurd (cc e)
-locks_free ls x (free {rest = Print ∷ rest} s r k) lock next e h = absurd (cc e)
-locks_free ls x (free {rest = Spin ∷ rest} s r k) lock next e h = absurd (cc e)
-locks_free ls x (taken {rest = []} s r v k) lock next e h = absurd (cc e)
-locks_free ls x (taken {rest = Take ∷ rest} s r v k) lock next e h = absurd (cc e)
-locks_free ls x (taken {rest = Give ∷ rest} s r v k) lock next e h = absurd (cc e)
-locks_free ls x (taken {rest = Load ∷ rest} s r v k) lock next e h = absurd (cc e)
-locks_free ls x (taken {rest = Store u ∷ rest} s r v k) lock next e h = absurd (cc e)
-locks_free ls x (taken {rest = Print ∷ rest} s r v k) lock next e h = absurd (cc e)
-locks_free ls x (taken {rest = Spin ∷ rest} s r v k) lock next e h = absurd (cc e)
-locks_free ls x (over o) lock next e h = absurd (cc e)
+may_act : (ls : List RunLabel) (x : Standing) → Holds ls x → MayAct one_lock ls (act_at x)
+may_act ls x (free {rest = []} s r k) = tt
+may_act ls x (free {rest = Take ∷ rest} s r k) = (refl, λ h. no_lock 0 (subst (λ v. IsAmong 0 v) k h))
+may_act ls x (free {rest = Give ∷ rest} s r k) = tt
+may_act ls x (free {rest = Load ∷ rest} s r k) = tt
+may_act ls x (free {rest = Store w ∷ rest} s r k) = tt
+may_act ls x (free {rest = Print ∷ rest} s r k) = tt
+may_act ls x (free {rest = Spin ∷ rest} s r k) = tt
+may_act ls x (taken {rest = []} s r v k) = tt
+may_act ls x (taken {rest = Take ∷ rest} s r v k) = subst (λ v. IsAmong 0 v) (sym k) first
+may_act ls x (taken {rest = Give ∷ rest} s r v k) = (subst (λ v. IsAmong 0 v) (sym k) first, record { is_lock = refl; count = refl })
+may_act ls x (taken {rest = Load ∷ rest} s r v k) = tt
+may_act ls x (taken {rest = Store w ∷ rest} s r v k) = tt
+may_act ls x (taken {rest = Print ∷ rest} s r v k) = tt
+may_act ls x (taken {rest = Spin ∷ rest} s r v k) = tt
+may_act ls x (over h) = h
 
-crossing_none : (rest : List Instruction) (register : ℕ) (held : Option ℕ) (next : RunLabel → Option Standing) → act_of rest register held ≡ Crosses next → ⊥
-crossing_none [] register held next e = cc e
-crossing_none (Take ∷ rest) register None next e = cc e
-crossing_none (Take ∷ rest) register (Some w) next e = cc e
-crossing_none (Give ∷ rest) register None next e = cc e
-crossing_none (Give ∷ rest) register (Some w) next e = cc e
-crossing_none (Load ∷ rest) register None next e = cc e
-crossing_none (Load ∷ rest) register (Some w) next e = cc e
-crossing_none (Store u ∷ rest) register None next e = cc e
-crossing_none (Store u ∷ rest) register (Some w) next e = cc e
-crossing_none (Print ∷ rest) register held next e = cc e
-crossing_none (Spin ∷ rest) register held next e = cc e
+-- what an act of a section does is in kind, crosses nothing, and waits for no outside
+abbrev Inner : List RunLabel → Act Standing → Type 0
+Inner ls (Emits event y) = EmitsInKind one_lock ls (label_of event) × EmitsLocks one_lock ls (label_of event)
+Inner ls (Crosses f share next) = ⊥
+Inner ls (Receives next) = ⊥
+Inner ls _ = Unit {0}
 
-halts_allowed : (ls : List RunLabel) (x : Standing) → Holds ls x → (why : Halt) → act_at x ≡ Stops why → MayHalt ls why
-halts_allowed ls x (free {rest = []} s r k) why e = absurd (cc e)
-halts_allowed ls x (free {rest = Take ∷ rest} s r k) why e = absurd (cc e)
-halts_allowed ls x (free {rest = Give ∷ rest} s r k) why e = absurd (cc e)
-halts_allowed ls x (free {rest = Load ∷ rest} s r k) why e = absurd (cc e)
-halts_allowed ls x (free {rest = Store u ∷ rest} s r k) why e = absurd (cc e)
-halts_allowed ls x (free {rest = Print ∷ rest} s r k) why e = absurd (cc e)
-halts_allowed ls x (free {rest = Spin ∷ rest} s r k) why e = absurd (cc e)
-halts_allowed ls x (taken {rest = []} s r v k) why e = absurd (cc e)
-halts_allowed ls x (taken {rest = Take ∷ rest} s r v k) why e = subst (λ v. MayHalt ls v) (let same : Taken 0 ≡ why = cc e in same) (subst (λ v. IsAmong 0 v) (sym k) first)
-halts_allowed ls x (taken {rest = Give ∷ rest} s r v k) why e = absurd (cc e)
-halts_allowed ls x (taken {rest = Load ∷ rest} s r v k) why e = absurd (cc e)
-halts_allowed ls x (taken {rest = Store u ∷ rest} s r v k) why e = absurd (cc e)
-halts_allowed ls x (taken {rest = Print ∷ rest} s r v k) why e = absurd (cc e)
-halts_allowed ls x (taken {rest = Spin ∷ rest} s r v k) why e = absurd (cc e)
-halts_allowed ls x (over o) why e = subst (λ v. MayHalt ls v) (let same : Ended ≡ why = cc e in same) o
+inner : (ls : List RunLabel) (x : Standing) → Holds ls x → Inner ls (act_at x)
+inner ls x (free {rest = []} s r k) = (tt, tt)
+inner ls x (free {rest = Take ∷ rest} s r k) = tt
+inner ls x (free {rest = Give ∷ rest} s r k) = tt
+inner ls x (free {rest = Load ∷ rest} s r k) = tt
+inner ls x (free {rest = Store w ∷ rest} s r k) = tt
+inner ls x (free {rest = Print ∷ rest} s r k) = (r, tt)
+inner ls x (free {rest = Spin ∷ rest} s r k) = tt
+inner ls x (taken {rest = []} s r v k) = (tt, tt)
+inner ls x (taken {rest = Take ∷ rest} s r v k) = tt
+inner ls x (taken {rest = Give ∷ rest} s r v k) = ((v, tt), tt)
+inner ls x (taken {rest = Load ∷ rest} s r v k) = tt
+inner ls x (taken {rest = Store w ∷ rest} s r v k) = tt
+inner ls x (taken {rest = Print ∷ rest} s r v k) = (r, tt)
+inner ls x (taken {rest = Spin ∷ rest} s r v k) = tt
+inner ls x (over h) = tt
 
-takes_lock : (x : Standing) → (lock : ℕ) (next : List ℕ → Standing) → act_at x ≡ Locks lock next → slice_get one_lock.cells lock ≡ Some LockWord
-takes_lock (At [] register held) lock next e = absurd (cc e)
-takes_lock (At (Take ∷ rest) register None) lock next e = subst (λ v. slice_get one_lock.cells v ≡ Some LockWord) (let same : 0 ≡ lock = cc e in same) refl
-takes_lock (At (Take ∷ rest) register (Some w)) lock next e = absurd (cc e)
-takes_lock (At (Give ∷ rest) register None) lock next e = absurd (cc e)
-takes_lock (At (Give ∷ rest) register (Some w)) lock next e = absurd (cc e)
-takes_lock (At (Load ∷ rest) register None) lock next e = absurd (cc e)
-takes_lock (At (Load ∷ rest) register (Some w)) lock next e = absurd (cc e)
-takes_lock (At (Store u ∷ rest) register None) lock next e = absurd (cc e)
-takes_lock (At (Store u ∷ rest) register (Some w)) lock next e = absurd (cc e)
-takes_lock (At (Print ∷ rest) register held) lock next e = absurd (cc e)
-takes_lock (At (Spin ∷ rest) register held) lock next e = absurd (cc e)
-takes_lock Over lock next e = absurd (cc e)
+event_stays : (event : Event) (ls : List RunLabel) → HasCrossed (label_of event ∷ ls) → ⊥
+event_stays (Unlocks lock ws) ls c = c
+event_stays (Prints w) ls c = c
+event_stays Ends ls c = c
+
+inner_stays : (ls : List RunLabel) (a : Act Standing) (l : RunLabel) (y : Standing) → Inner ls a → StepsTo one_lock ls a l y → HasCrossed (l ∷ ls) → ⊥
+inner_stays ls (Emits event z) l y h e c = event_stays event ls (subst (λ v. HasCrossed (v ∷ ls)) (sym e.0) c)
+inner_stays ls (Locks lock next) l y h e c = let no : ⊥ = subst (λ v. HasCrossed (v ∷ ls)) e.1 c in no
+inner_stays ls (Crosses f share next) l y h e c = h
+inner_stays ls (Receives next) l y h e c = h
+inner_stays ls (Quiet z) l y h e c = e
+inner_stays ls Bad l y h e c = e
+inner_stays ls (Stops why) l y h e c = e
+
+inner_label : (ls : List RunLabel) (a : Act Standing) (l : RunLabel) (y : Standing) → Inner ls a → StepsTo one_lock ls a l y → EmitsInKind one_lock ls l × EmitsLocks one_lock ls l
+inner_label ls (Emits event z) l y h e = subst (λ v. EmitsInKind one_lock ls v × EmitsLocks one_lock ls v) e.0 h
+inner_label ls (Locks lock next) l y h e = subst (λ v. EmitsInKind one_lock ls v × EmitsLocks one_lock ls v) (sym e.1) (tt, tt)
+inner_label ls (Crosses f share next) l y h e = absurd h
+inner_label ls (Receives next) l y h e = absurd h
+inner_label ls (Quiet z) l y h e = absurd e
+inner_label ls Bad l y h e = absurd e
+inner_label ls (Stops why) l y h e = absurd e
+
+-- no function is open, in whatever act
+opens_label : (ls : List RunLabel) (a : Act Standing) (l : RunLabel) (y : Standing) → Inner ls a → StepsTo one_lock ls a l y → OpensBy l None [] []
+opens_label ls (Emits (Unlocks lock ws) z) l y h e = subst (λ v. OpensBy v None [] []) e.0 (refl, refl)
+opens_label ls (Emits (Prints w) z) l y h e = subst (λ v. OpensBy v None [] []) e.0 (refl, refl)
+opens_label ls (Emits Ends z) l y h e = subst (λ v. OpensBy v None [] []) e.0 (refl, refl, inl refl)
+opens_label ls (Locks lock next) l y h e = subst (λ v. OpensBy v None [] []) (sym e.1) (refl, refl)
+opens_label ls (Crosses f share next) l y h e = absurd h
+opens_label ls (Receives next) l y h e = absurd h
+opens_label ls (Quiet z) l y h e = absurd e
+opens_label ls Bad l y h e = absurd e
+opens_label ls (Stops why) l y h e = absurd e
 
 module _ (price : ℕ) (program : List Instruction) (words : StoresWords program) where
   holds_at : {ls : List RunLabel} {bs : List Block} {b : Block} {x : Standing} → Run one_lock (sections price program) ls bs b x → Holds ls x
@@ -213,57 +187,44 @@ module _ (price : ℕ) (program : List Instruction) (words : StoresWords program
   holds_at (quiet {ls = ls} {x = x} y r e) = quiet_holds ls x y (holds_at r) e
   holds_at (labelled {ls = ls} {x = x} l y r e) = label_holds ls l x y (holds_at r) e
 
-  not_crossing : (x : Standing) (next : RunLabel → Option Standing) → act_at x ≡ Crosses next → ⊥
-  not_crossing (At rest register held) next e = crossing_none rest register held next e
-  not_crossing Over next e = cc e
-
-  not_hearing : (x : Standing) → IsReceiving (act_at x) → ⊥
-  not_hearing (At [] register held) h = h
-  not_hearing (At (Take ∷ rest) register None) h = h
-  not_hearing (At (Take ∷ rest) register (Some w)) h = h
-  not_hearing (At (Give ∷ rest) register None) h = h
-  not_hearing (At (Give ∷ rest) register (Some w)) h = h
-  not_hearing (At (Load ∷ rest) register None) h = h
-  not_hearing (At (Load ∷ rest) register (Some w)) h = h
-  not_hearing (At (Store u ∷ rest) register None) h = h
-  not_hearing (At (Store u ∷ rest) register (Some w)) h = h
-  not_hearing (At (Print ∷ rest) register held) h = h
-  not_hearing (At (Spin ∷ rest) register held) h = h
-  not_hearing Over h = h
-
-  -- the label of an act that is no Call and no Leave
-  stays_inside : (ls : List RunLabel) (a : Act Standing) (l : RunLabel) (y : Standing) → ((next : RunLabel → Option Standing) → a ≡ Crosses next → ⊥) → (IsReceiving a → ⊥) → StepsTo one_lock ls a l y → CanCross l → ⊥
-  stays_inside ls (Emits event z) l y n m e c = said_stays event (subst CanCross (sym e.0) c)
-  stays_inside ls (Locks lock next) l y n m e c = let no : ⊥ = subst CanCross e.1 c in no
-  stays_inside ls (Crosses next) l y n m e c = n next refl
-  stays_inside ls (Receives next) l y n m e c = m tt
-  stays_inside ls (Quiet z) l y n m e c = e
-  stays_inside ls Bad l y n m e c = e
-  stays_inside ls (Stops why) l y n m e c = e
-
   never_crossed : {ls : List RunLabel} {bs : List Block} {b : Block} {x : Standing} → Run one_lock (sections price program) ls bs b x → HasCrossed ls → ⊥
   never_crossed starts c = c
   never_crossed (quiet y r e) c = never_crossed r c
-  never_crossed (labelled {ls = ls} {x = x} l y r e) c = stays_inside ls (act_at x) l y (not_crossing x) (not_hearing x) e c
+  never_crossed (labelled {ls = ls} {x = x} l y r e) c = inner_stays ls (act_at x) l y (inner ls x (holds_at r)) e c
+
+not_crossing : (rest : List Instruction) (register : ℕ) (held : Option ℕ) (f : Option NameBytes) (share : Share) (next : Names → Option Standing) → act_of rest register held ≡ Crosses f share next → ⊥
+not_crossing [] register held f share next e = cc e
+not_crossing (Take ∷ rest) register None f share next e = cc e
+not_crossing (Take ∷ rest) register (Some w) f share next e = cc e
+not_crossing (Give ∷ rest) register None f share next e = cc e
+not_crossing (Give ∷ rest) register (Some w) f share next e = cc e
+not_crossing (Load ∷ rest) register None f share next e = cc e
+not_crossing (Load ∷ rest) register (Some w) f share next e = cc e
+not_crossing (Store u ∷ rest) register None f share next e = cc e
+not_crossing (Store u ∷ rest) register (Some w) f share next e = cc e
+not_crossing (Print ∷ rest) register held f share next e = cc e
+not_crossing (Spin ∷ rest) register held f share next e = cc e
+
+never_crosses : (x : Standing) (f : Option NameBytes) (share : Share) (next : Names → Option Standing) → act_at x ≡ Crosses f share next → ⊥
+never_crosses (At rest register held) f share next e = not_crossing rest register held f share next e
+never_crosses Over f share next e = cc e
 
 pub sections_keep : (price : ℕ) (program : List Instruction) → 1 ≤ price → StoresWords program → KeepsRules one_lock (sections price program)
 sections_keep price program p words = record {
-  proceeds = record { costs = λ x. p; named = λ x next e. absurd (not_crossing price program words x next e) };
+  proceeds = record { costs = λ x. p; named = λ x f share next e. absurd (never_crosses x f share next e) };
   reads = λ ls bs b x r. reads_shared ls x (holds_at price program words r);
   writes = λ ls bs b x r. writes_shared ls x (holds_at price program words r);
-  emits = λ ls bs b x r. says_allowed ls x (holds_at price program words r);
-  locks = λ ls bs b x r lock next e. (takes_lock x lock next e, locks_free ls x (holds_at price program words r) lock next e);
-  crosses = λ ls bs b x r next e. absurd (not_crossing price program words x next e);
-  receives = λ ls bs b x r h. absurd (not_hearing price program words x h);
+  acts = λ ls bs b x r. may_act ls x (holds_at price program words r);
   listens = λ ls bs b x r c. absurd (never_crossed price program words r c);
-  halts = λ ls bs b x r. halts_allowed ls x (holds_at price program words r);
+  opens = record {
+    first = inr (inl refl);
+    quietly = λ ls bs b x r y e. inr (inl refl);
+    by_label = λ ls bs b x r l y e. inr (opens_label ls (act_at x) l y (inner ls x (holds_at price program words r)) e);
+  };
 }
 
 pub sections_in_kind : (price : ℕ) (program : List Instruction) → StoresWords program → KeepsKinds one_lock (sections price program)
-sections_in_kind price program words = record {
-  emits = λ ls bs b x r. says_kinds ls x (holds_at price program words r);
-  crosses = λ ls bs b x r next e. absurd (not_crossing price program words x next e);
-}
+sections_in_kind price program words ls bs b x r l y e = let both = inner_label ls (act_at x) l y (inner ls x (holds_at price program words r)) e in both.0
 
 pub sections_hold : (price : ℕ) (program : List Instruction) → StoresWords program → KeepsLocks one_lock (sections price program)
-sections_hold price program words = record { crosses = λ ls bs b x r next e. absurd (not_crossing price program words x next e) }
+sections_hold price program words ls bs b x r l y e = let both = inner_label ls (act_at x) l y (inner ls x (holds_at price program words r)) e in both.1

@@ -1,8 +1,8 @@
 -- What a thread's memory and its naming of objects keep, whatever its activations do.
 use Rattle.std.proofs.Common.{◌≡◌, ℕ, zero, suc, ◌+◌, ◌<◌, ◌≤◌, List, [], ◌∷◌, ◌++◌, ◌⊎◌, Option, Some, None, Bool, true, false, ◌&&◌, if◌then◌else◌, length, slice_get, nat_eq, nat_lt, inl, inr, refl, sym, ap, ◌∙◌, subst, ⊎_elim, arith, ltb-true}
-use Rattle.cas_runs.specs.Label.{NameBytes, Shown, Word, Place, Owner, Inside, Object}
+use Rattle.cas_runs.specs.Label.{Each, NameBytes, Shown, Word, Place, Owner, Inside, Object}
 use Rattle.cas_runs.specs.Outside.{ChangesTo, Changes, Continues}
-use Rattle.cas_runs.specs.Rules.{LeavesContents, OwnContents, IsOwn, AreOwn, LeavesAll}
+use Rattle.cas_runs.specs.Rules.{LeavesContents, OwnContents, IsOwn, LeavesAll}
 use Rattle.cas_runs.specs.Naming.{Home, Own, Theirs, Value, Number, Pointer, Hidden, Part, Layout, ArePlaced, parts_at, Named, Naming, Memory, same_home, is_place, part_by, number_of, again, if_new, first_time, named_by, and_then, all_named_by, cells, contents, contents_in, owner_of, object_of, objects_of, with_block, left_in, written, filled, new_block, Crossed, brought}
 use Rattle.cas_runs.specs.Calls.{so_many, set_blocks, fresh, gone}
 use Rattle.cas_runs.proofs.Cells.{so_many_length, written_length, filled_length}
@@ -348,7 +348,7 @@ module _ (layout : Layout) where
   is_own n m i s (Own f a b) part k h = record { owner = refl; contents = own_contents n m i s (Own f a b) part k (m (Own f a b)) refl }
   is_own n m i s (Theirs j) part k h = absurd h
 
-  all_are_own : (n : ℕ) (m : Memory) (i : ℕ) → SoundMemory n m → (ms : Naming) → SoundNaming n m i ms → AllOwn ms → AreOwn (objects_of m ms)
+  all_are_own : (n : ℕ) (m : Memory) (i : ℕ) → SoundMemory n m → (ms : Naming) → SoundNaming n m i ms → AllOwn ms → Each IsOwn (objects_of m ms)
   all_are_own n m i s [] k h = tt
   all_are_own n m i s (x ∷ ms) k h = (is_own n m i s x.home x.part k.0 h.0, all_are_own n m (i + 1) s ms k.1 h.1)
 

@@ -8,7 +8,7 @@ use Rattle.cas_runs.specs.Machine.{Act, Quiet, Emits, Crosses, Locks, Receives, 
 use Rattle.cas_runs.specs.Rules.{CallsOut}
 use Rattle.cas_runs.specs.Access.{Holding, words_in, with_lock, without_lock}
 use Rattle.cas_runs.specs.Unit.{Setting, guard_of, has_function, OnlyInside}
-use Rattle.cas_runs.specs.Calls.{Last, Goes, Takes, Gives, Puts, Calls, Tails, Returns, Activations, Frame, Waits, Outer, Past, Thread, Away, Runs, Leaves, Over, Wrong, can_cross, crosses_as, to_outside, calls_by, leaves_by, crosses_if, kept_results, leaves_with, goes_back, returns, with_share, takes_lock, takes, gives_lock, gives, find, without_own, calls_in, step_at, calls, acts, machine, of_unit, outside_first, language}
+use Rattle.cas_runs.specs.Calls.{Last, Goes, Takes, Gives, Puts, Calls, Tails, Returns, Activations, Frame, Waits, Outer, Past, Thread, Away, Runs, Leaves, Over, Wrong, can_cross, named_as, to_outside, crosses_if, kept_results, leaves_with, goes_back, returns, with_share, takes_lock, takes, gives_lock, gives, find, without_own, calls_in, step_at, calls, acts, machine, of_unit, outside_first, language}
 use Rattle.cas_runs.specs.Edge.{results_of}
 use Rattle.cas_runs.proofs.Tests.{same_name_from}
 use Rattle.cas_runs.proofs.Objects.{ShowsAll}
@@ -81,13 +81,8 @@ module _ {F A : Type 0} (l : Activations F A) (setting : Setting) (fs : List F) 
 
   -- a Call is of a function that the unit doesn't have
   abbrev Out : Act (Thread F A) → Type 0
-  Out (Crosses next) = (function : NameBytes) (crossing : Crossing) (y : Thread F A) → next (Call function crossing) ≡ Some y → has_function (language l) fs function ≡ false
-  Out (Quiet y) = Unit {0}
-  Out (Emits event y) = Unit {0}
-  Out (Locks lock next) = Unit {0}
-  Out (Receives next) = Unit {0}
-  Out Bad = Unit {0}
-  Out (Stops why) = Unit {0}
+  Out (Crosses (Some function) share next) = has_function (language l) fs function ≡ false
+  Out _ = Unit {0}
 
   not_there : (gs : List F) (name : NameBytes) → find l gs name ≡ None → has_function (language l) gs name ≡ false
   not_there [] name e = refl
@@ -97,8 +92,8 @@ module _ {F A : Type 0} (l : Activations F A) (setting : Setting) (fs : List F) 
       by true more h = absurd (cc h)
       by false more h = more h
 
-  leaves_out : (values : List Value) (stack : List (Frame F A)) (p : Past) (h : Holding) (t : Bool) → Out (crosses_if t (leaves_by setting.layout values stack p h))
-  leaves_out values stack p h true = λ function crossing y e. absurd (cc e)
+  leaves_out : (values : List Value) (stack : List (Frame F A)) (p : Past) (h : Holding) (t : Bool) → Out (crosses_if t None h.share (λ names. to_outside stack p h (named_as setting.layout values p h names)))
+  leaves_out values stack p h true = tt
   leaves_out values stack p h false = tt
 
   back_out : (f : F) (n : ℕ) (o : Option A) (stack : List (Frame F A)) (p : Past) (h : Holding) → Out (goes_back f n o stack p h)
@@ -122,12 +117,8 @@ module _ {F A : Type 0} (l : Activations F A) (setting : Setting) (fs : List F) 
       by (Some a) = tt
   calls_out_of function values stack p h None e = by (can_cross setting.layout p values)
     where
-      named : (name : NameBytes) (crossing : Crossing) (y : Thread F A) (t : Bool) → same_name name function ≡ t → (if t then to_outside stack p h (crosses_as setting.layout values p h crossing) else None) ≡ Some y → has_function (language l) fs name ≡ false
-      named name crossing y true i g = subst (λ v. has_function (language l) fs v ≡ false) (sym (same_name_from name function i)) (not_there fs function e)
-      named name crossing y false i g = absurd (cc g)
-
-      by : (t : Bool) → Out (crosses_if t (calls_by setting.layout function values stack p h))
-      by true = λ name crossing y g. named name crossing y (same_name name function) refl g
+      by : (t : Bool) → Out (crosses_if t (Some function) h.share (λ names. to_outside stack p h (named_as setting.layout values p h names)))
+      by true = not_there fs function e
       by false = tt
 
   takes_out : (o : Option ℕ) (a : A) (f : F) (n : ℕ) (stack : List (Frame F A)) (p : Past) (h : Holding) → Out (takes o a f n stack p h)
@@ -149,8 +140,8 @@ module _ {F A : Type 0} (l : Activations F A) (setting : Setting) (fs : List F) 
   acts_out : (o : Option (Last A)) (f : F) (n : ℕ) (stack : List (Frame F A)) (p : Past) (h : Holding) → Out (acts l setting (of_unit fs) o f n stack p h)
   acts_out None f n stack p h = tt
   acts_out (Some (Goes next)) f n stack p h = tt
-  acts_out (Some (Takes lock next)) f n stack p h = takes_out (guard_of setting.edge setting.words lock) next f n stack p h
-  acts_out (Some (Gives lock next)) f n stack p h = gives_out (guard_of setting.edge setting.words lock) next f n stack p h
+  acts_out (Some (Takes lock next)) f n stack p h = takes_out (guard_of setting.edge lock) next f n stack p h
+  acts_out (Some (Gives lock next)) f n stack p h = gives_out (guard_of setting.edge lock) next f n stack p h
   acts_out (Some (Puts word next)) f n stack p h = tt
   acts_out (Some (Calls function values next)) f n stack p h = calls_out_of function values (Waits f n (results_of setting.edge function) next ∷ stack) p h (find l fs function) refl
   acts_out (Some (Tails function values)) f n stack p h = calls_out_of function values stack p (without_own l f n h) (find l fs function) refl
@@ -175,8 +166,6 @@ module _ {F A : Type 0} (l : Activations F A) (setting : Setting) (fs : List F) 
       by false i more h = more h
 
   pub unit_calls_out : OnlyInside (has_function (language l) fs) setting.edge.functions → CallsOut setting.edge M
-  unit_calls_out only = record {
-    outside = λ ls bs b x r next e function crossing y g f known.
-        let out : Out (Crosses next) = subst (λ (v : Act (Thread F A)). Out v) e (act_out x) in
-        inside_as (has_function (language l) fs) setting.edge.functions only function f known ∙ out function crossing y g;
-  }
+  unit_calls_out only ls bs b x r function share next e f known =
+      let out : Out (Crosses (Some function) share next) = subst (λ (v : Act (Thread F A)). Out v) e (act_out x) in
+      inside_as (has_function (language l) fs) setting.edge.functions only function f known ∙ out

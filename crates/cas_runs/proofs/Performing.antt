@@ -1,11 +1,11 @@
 -- Forms that are alike do the same.
 use Rattle.std.proofs.Common.{◌≡◌, ℕ, List, ◌∷◌, Option, Some, None, Bool, true, false, if◌then◌else◌, length, slice_get, slice_set, nat_lt, inl, inr, ⊎_elim, refl, sym, ap, subst, ltb-true, lt-ltb, ◌⊎◌}
 use Rattle.cas_runs.specs.Label.{Share}
-use Rattle.cas_runs.specs.Edge.{Cell, LockWord, SharedWord, TableWord}
+use Rattle.cas_runs.specs.Edge.{Edge, Cell, LockWord, SharedWord, TableWord}
 use Rattle.cas_runs.specs.Outside.{IsAmong, first, later}
 use Rattle.cas_runs.specs.Naming.{Home, Value, Number, Pointer, Memory}
 use Rattle.cas_runs.specs.Machine.{Footprint}
-use Rattle.cas_runs.specs.Access.{Words, Accesses, words_in, with_words, place_among, word_in, Doing, has_read, has_written, has_stored, Performed, failed, reads_as, reads_cell, writes_in, writes_cell, number_in, reads_word, writes_word, value_in, loads_as, stores_in, length_of, performed}
+use Rattle.cas_runs.specs.Access.{Accesses, words_in, with_words, place_among, word_in, Doing, has_read, has_written, has_stored, Performed, failed, reads_as, reads_cell, writes_in, writes_cell, number_in, reads_word, writes_word, value_in, loads_as, stores_in, length_of, performed}
 use Rattle.cas_runs.proofs.Words.{self_get, self_set, self_found, self_with}
 use Rattle.cas_runs.specs.Forms.{FormAlike, reads, writes, loads, stores, looks, drops_read, drops_load, drops_look, last, never, LengthsAlike, MemoryKeeps, AlikeSince, AreSelfSame, ShareSelfSame, PerformAlike, FootIn}
 
@@ -38,7 +38,7 @@ reads_more w v xs ys zs h m = by m h
 
 -- the accesses of both forms, by cases, where a goal holds once the source's step fails
 
-module _ {L M : Type 0} (same : Value → Value → Type 0) (same_size : ℕ → ℕ → Type 0) (alike : Memory → Memory → Type 0) (keeps : MemoryKeeps same same_size alike) (cells : List Cell) (tables : (word value : ℕ) → slice_get cells word ≡ Some (TableWord value) → same (Number value) (Number value)) (words : Words) (Both : Performed L → Performed M → Type 0) (bad : (p : Performed L) (q : Performed M) → q.last ≡ None → Both p q) where
+module _ {L M : Type 0} (same : Value → Value → Type 0) (same_size : ℕ → ℕ → Type 0) (alike : Memory → Memory → Type 0) (keeps : MemoryKeeps same same_size alike) (cells : List Cell) (tables : (word value : ℕ) → slice_get cells word ≡ Some (TableWord value) → same (Number value) (Number value)) (Both : Performed L → Performed M → Type 0) (bad : (p : Performed L) (q : Performed M) → q.last ≡ None → Both p q) where
   pub both_read : (d e : Doing) → DoingAlike same alike d e → (word : ℕ) → DoingAlike same alike (has_read d word) (has_read e word)
   both_read d e h word = record { share = h.share; words = h.words; memory = h.memory; footprint = record { writes = h.footprint.writes; reads = λ v m. reads_more word v d.footprint.reads e.footprint.reads e.footprint.writes (h.footprint.reads v) m } }
 
@@ -140,7 +140,7 @@ module _ {L M : Type 0} (same : Value → Value → Type 0) (same_size : ℕ →
 
 -- forms that are alike
 
-module _ {L M : Type 0} (same : Value → Value → Type 0) (same_size : ℕ → ℕ → Type 0) (same_last : L → M → Type 0) (alike : Memory → Memory → Type 0) (keeps : MemoryKeeps same same_size alike) (cells : List Cell) (tables : (word value : ℕ) → slice_get cells word ≡ Some (TableWord value) → same (Number value) (Number value)) (words : Words) where
+module _ {L M : Type 0} (same : Value → Value → Type 0) (same_size : ℕ → ℕ → Type 0) (same_last : L → M → Type 0) (alike : Memory → Memory → Type 0) (keeps : MemoryKeeps same same_size alike) (edge : Edge) (tables : (word value : ℕ) → slice_get edge.cells word ≡ Some (TableWord value) → same (Number value) (Number value)) where
   abbrev pub Both : Performed L → Performed M → Type 0
   Both p q = PerformAlike same alike same_last p q
 
@@ -153,21 +153,21 @@ module _ {L M : Type 0} (same : Value → Value → Type 0) (same_size : ℕ →
   looked next next' (Some n) None none some h = absurd h
   looked next next' (Some n) (Some m) none some h = some n m h
 
-  pub performed_alike : {x : Accesses L} {y : Accesses M} → FormAlike same same_size same_last x y → (d e : Doing) → DoingAlike same alike d e → Both (performed cells words x d) (performed cells words y e)
-  performed_alike (reads {global = global} {offset = offset} f) d e h = words_read same same_size alike keeps cells tables words Both bad d e h _ _ (λ v self d' e' h'. performed_alike (f v self) d' e' h') (number_in (words global) offset)
-  performed_alike (writes {global = global} {offset = offset} {word = word} self f) d e h = words_written same same_size alike keeps cells tables words Both bad d e h _ _ (λ d' e' h'. performed_alike f d' e' h') word self (number_in (words global) offset)
-  performed_alike (loads {home = home} {home' = home'} {at = at} {at' = at'} p f) d e h = loads_too same same_size alike keeps cells tables words Both bad d e h home home' at at' p _ _ (λ v w s. performed_alike (f v w s) d e h) (value_in (e.holding.memory home') at') refl
-  performed_alike (stores {home = home} {home' = home'} {at = at} {at' = at'} {v = v} {w = w} p s f) d e h = stores_too same same_size alike keeps cells tables words Both bad d e h home home' at at' p v w s _ _ (λ d' e' h'. performed_alike f d' e' h') (e.holding.memory home') refl
+  pub performed_alike : {x : Accesses L} {y : Accesses M} → FormAlike same same_size same_last x y → (d e : Doing) → DoingAlike same alike d e → Both (performed edge x d) (performed edge y e)
+  performed_alike (reads {global = global} {offset = offset} f) d e h = words_read same same_size alike keeps edge.cells tables Both bad d e h _ _ (λ v self d' e' h'. performed_alike (f v self) d' e' h') (number_in (edge.words global) offset)
+  performed_alike (writes {global = global} {offset = offset} {word = word} self f) d e h = words_written same same_size alike keeps edge.cells tables Both bad d e h _ _ (λ d' e' h'. performed_alike f d' e' h') word self (number_in (edge.words global) offset)
+  performed_alike (loads {home = home} {home' = home'} {at = at} {at' = at'} p f) d e h = loads_too same same_size alike keeps edge.cells tables Both bad d e h home home' at at' p _ _ (λ v w s. performed_alike (f v w s) d e h) (value_in (e.holding.memory home') at') refl
+  performed_alike (stores {home = home} {home' = home'} {at = at} {at' = at'} {v = v} {w = w} p s f) d e h = stores_too same same_size alike keeps edge.cells tables Both bad d e h home home' at at' p v w s _ _ (λ d' e' h'. performed_alike f d' e' h') (e.holding.memory home') refl
   performed_alike (looks {home = home} {home' = home'} at at' {next = next} {next' = next'} p none some) d e h =
       by (length_of (d.holding.memory home)) (length_of (e.holding.memory home')) (λ a. performed_alike none d e h) (λ n m s. performed_alike (some n m s) d e h) (keeps.lengths d.holding.memory e.holding.memory h.memory home home' at at' p)
     where
-      by : (o o' : Option ℕ) → (Unit {0} → Both (performed cells words (next None) d) (performed cells words (next' None) e)) → ((n m : ℕ) → same_size n m → Both (performed cells words (next (Some n)) d) (performed cells words (next' (Some m)) e)) → LengthsAlike same_size o o' → Both (performed cells words (next o) d) (performed cells words (next' o') e)
+      by : (o o' : Option ℕ) → (Unit {0} → Both (performed edge (next None) d) (performed edge (next' None) e)) → ((n m : ℕ) → same_size n m → Both (performed edge (next (Some n)) d) (performed edge (next' (Some m)) e)) → LengthsAlike same_size o o' → Both (performed edge (next o) d) (performed edge (next' o') e)
       by None None f g l = f tt
       by None (Some m) f g l = absurd l
       by (Some n) None f g l = absurd l
       by (Some n) (Some m) f g l = g n m l
-  performed_alike {x = x} (drops_read {global = global} {offset = offset} f) d e h = words_dropped same same_size alike keeps cells tables words Both bad d e h (performed cells words x d) _ (λ v self e' h'. performed_alike (f v self) d e' h') (number_in (words global) offset)
-  performed_alike {x = x} (drops_load {home = home} {at = at} f) d e h = loads_dropped same same_size alike keeps cells tables words Both bad e (performed cells words x d) _ (λ w. performed_alike (f w) d e h) (value_in (e.holding.memory home) at)
+  performed_alike {x = x} (drops_read {global = global} {offset = offset} f) d e h = words_dropped same same_size alike keeps edge.cells tables Both bad d e h (performed edge x d) _ (λ v self e' h'. performed_alike (f v self) d e' h') (number_in (edge.words global) offset)
+  performed_alike {x = x} (drops_load {home = home} {at = at} f) d e h = loads_dropped same same_size alike keeps edge.cells tables Both bad e (performed edge x d) _ (λ w. performed_alike (f w) d e h) (value_in (e.holding.memory home) at)
   performed_alike (drops_look {home = home} f) d e h = performed_alike (f (length_of (e.holding.memory home))) d e h
   performed_alike (last {l = l} {m = m} s) d e h = inr (record { t_last = l; s_last = m; t_does = refl; s_does = refl; lasts = s; share = h.share; words = h.words; memory = h.memory; footprint = h.footprint })
   performed_alike never d e h = inl refl

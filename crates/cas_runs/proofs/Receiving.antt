@@ -3,10 +3,10 @@ use Rattle.std.proofs.Common.{◌≡◌, ⊎_elim, ℕ, zero, suc, ◌+◌, ◌�
 use Rattle.cas_base.specs.declared.kind.Kind.{Kind}
 use Rattle.cas_base.specs.declared.kind.Ty.{Ty}
 use Rattle.cas_base.specs.declared.kind.Ty.TheVariants.{Void, Int, Ptr, Array}
-use Rattle.cas_runs.specs.Label.{Shown, Word, Place, Object, Share, Crossing, RunLabel, locks_of}
+use Rattle.cas_runs.specs.Label.{Each, Shown, Word, Place, Object, Share, Crossing, RunLabel, locks_of}
 use Rattle.cas_runs.specs.Edge.{Cell, LockWord, Edge, guarded, AreOfKinds, IsShare, HasContents, IsPlace, IsOfType, AreOfTypes, returned, most_cells, most_live}
-use Rattle.cas_runs.specs.Outside.{crossed, AreWordsOf, Fills, ChangesTo, Changes, NewContents, IsNew, Continues, numbered, live_cells, Brings, IsAmong, first, later, Holds}
-use Rattle.cas_runs.specs.Rules.{LeavesContents, OwnContents, AreOwn, LeavesAll, Carries, ShowsWords, AllShowWords, AreSized, CrossInKind}
+use Rattle.cas_runs.specs.Outside.{Called, pending, crossed, AreWordsOf, Fills, ChangesTo, Changes, NewContents, IsNew, Continues, numbered, live_cells, Brings, IsAmong, first, later, Holds}
+use Rattle.cas_runs.specs.Rules.{LeavesContents, OwnContents, IsOwn, LeavesAll, Carries, ShowsWords, AllShowWords, AreSized, CrossInKind}
 use Rattle.cas_runs.specs.Receiving.{at_number, renumbered, AreRenumbered, Lasts, IsAgain, IsEmitted, IsReceivedAs, CallsAreReceived, ReturnsAreReceived}
 
 -- locks
@@ -51,7 +51,7 @@ shown_words o None ws h e = absurd (cc e)
 abbrev ShowsAll : Object → Type 0
 ShowsAll o = (ws : List (Option ℕ)) → o.contents ≡ Some ws → length ws ≡ o.size
 
-all_own : (news : List Object) → AreOwn news → (i : ℕ) (o : Object) → slice_get news i ≡ Some o → ShowsAll o
+all_own : (news : List Object) → Each IsOwn news → (i : ℕ) (o : Object) → slice_get news i ≡ Some o → ShowsAll o
 all_own [] h i o at = absurd (cc at)
 all_own (n ∷ ns) h zero o at = let same : n ≡ o = cc at in subst ShowsAll same (λ ws e. own_length n n.contents ws h.0.contents e)
 all_own (n ∷ ns) h (suc i) o at = all_own ns h.1 i o at
@@ -76,8 +76,8 @@ HasSize o = (1 ≤ o.size) × (o.size ≤ most_cells)
 
 all_sized : (os : List Object) → AreSized os → (i : ℕ) (o : Object) → slice_get os i ≡ Some o → HasSize o
 all_sized [] h i o at = absurd (cc at)
-all_sized (p ∷ ps) h zero o at = let same : p ≡ o = cc at in subst HasSize same (h.0, h.1)
-all_sized (p ∷ ps) h (suc i) o at = all_sized ps h.2 i o at
+all_sized (p ∷ ps) h zero o at = let same : p ≡ o = cc at in subst HasSize same h.0
+all_sized (p ∷ ps) h (suc i) o at = all_sized ps h.1 i o at
 
 -- what is heard of them
 
@@ -156,7 +156,7 @@ module _ (emitted received : Crossing) (seen : List Object) (is : IsReceivedAs e
     changed j old new before_at at = ⊎_elim (λ h. h) again (is.stays j old new before_at at)
       where
         again : IsAgain old new × IsEmitted emitted is.number j new → Changes old new
-        again (a, s) = record { owner = a.owner; kind = a.kind; size = a.size; contents = changes_to old old.contents new.contents a.lasts (fills new old j s a.kind a.size) }
+        again (a, s) = record { owner = a.owner; kind = a.kind; size = a.size; contents = changes_to old old.contents new.contents a.contents (fills new old j s a.kind a.size) }
 
     is_new : (j : ℕ) (new : Object) → length seen ≤ j → slice_get received.objects j ≡ Some new → IsNew new
     is_new j new past at =
@@ -187,9 +187,9 @@ calls_are_received edge other before earlier function emitted received known ins
       signature = known.there;
       known = known.known_there;
       inside = inside;
-      values = subst (λ (tys : List Ty). AreOfTypes received.objects tys received.values) (sym known.params) (typed emitted received (crossed earlier) is edge other known.cells before crosses known.here.params in_kind);
+      values = subst (λ (tys : List Ty). AreOfTypes received.objects tys received.values) (sym known.params) (typed emitted received (crossed earlier) is edge other known.cells before crosses.carries known.here.params in_kind);
       holds = subst (λ (share : Share). Holds (locks_of share) known.there.holds) (sym is.share) (holds_all (locks_of emitted.share) known.here.holds known.there.holds (locks known.here known.known_here) known.holds);
-      brings = brings emitted received (crossed earlier) is edge other known.cells before crosses known.here.params in_kind room;
+      brings = brings emitted received (crossed earlier) is edge other known.cells before crosses.carries known.here.params in_kind room;
     }
 
 pub returns_are_received : ReturnsAreReceived
@@ -197,12 +197,10 @@ returns_are_received edge other before earlier function held older callers emitt
     let in_kind = kinds function held older known.here entered known.known_here in
     record {
       function = function;
-      locks = held;
       older = callers;
-      newest = called;
+      newest = subst (λ (ls : List ℕ). pending earlier ≡ Called function ls ∷ callers) (sym (ap locks_of is.share ∙ locks function held older entered)) called;
       signature = known.there;
       known = known.known_there;
-      values = subst (λ (ty : Ty). AreOfTypes received.objects (returned ty) received.values) (sym known.ret) (typed emitted received (crossed earlier) is edge other known.cells before crosses.1 (returned known.here.ret) in_kind);
-      same_locks = ap locks_of is.share ∙ locks function held older entered;
-      brings = brings emitted received (crossed earlier) is edge other known.cells before crosses.1 (returned known.here.ret) in_kind room;
+      values = subst (λ (ty : Ty). AreOfTypes received.objects (returned ty) received.values) (sym known.ret) (typed emitted received (crossed earlier) is edge other known.cells before crosses.carries (returned known.here.ret) in_kind);
+      brings = brings emitted received (crossed earlier) is edge other known.cells before crosses.carries (returned known.here.ret) in_kind room;
     }

@@ -1,19 +1,20 @@
 -- The machines of the layer of calls keep the rules, whatever the activations do.
-use Rattle.std.proofs.Common.{◌≡◌, ℕ, zero, suc, ◌+◌, ◌≤◌, List, [], ◌∷◌, Option, Some, None, Bool, true, false, if◌then◌else◌, length, slice_get, refl, sym, ap, ◌∙◌, subst, arith}
+use Rattle.std.proofs.Common.{◌≡◌, ℕ, zero, suc, ◌+◌, ◌≤◌, List, [], ◌∷◌, ◌⊎◌, inl, inr, Option, Some, None, Bool, true, false, if◌then◌else◌, length, slice_get, refl, sym, ap, ◌∙◌, subst, arith}
 use Rattle.cas_runs.specs.Label.{NameBytes, same_name, Share, Object, Crossing, RunLabel, Lock, Unlock, Out, Done, Enter, Back, Call, Leave, locks_of}
-use Rattle.cas_runs.specs.Edge.{Cell, LockWord, SharedWord, TableWord, Edge, AreGuarded, IsOrdered, results_of}
+use Rattle.cas_runs.specs.Edge.{Cell, LockWord, SharedWord, TableWord, Stretch, Edge, AreGuarded, IsOrdered, results_of}
 use Rattle.cas_runs.specs.Outside.{Pending, Called, Entered, without_newest, pending, crossed, numbered, IsAmong, Brings, MayBring}
 use Rattle.cas_runs.specs.Naming.{Value, Number, ArePlaced, Part, parts_at, Naming, and_then, all_named_by, objects_of, same_objects, all_taken, brought}
-use Rattle.cas_runs.specs.Machine.{Act, Quiet, Emits, Crosses, Locks, Receives, Bad, Stops, label_of, Machine, CanCross, StepsTo, Block, Run, starts as begins_run, quiet, labelled}
-use Rattle.cas_runs.specs.Rules.{and_lock, locks_after, IsShared, Leaves, LeavesAll, Carries, IsReturn, MayEmit, MayCross, HasEnded, MayHalt, Proceeds, KeepsRules}
+use Rattle.cas_runs.specs.Machine.{Act, Quiet, Emits, Crosses, Locks, Receives, Bad, Stops, Names, label_of, crossing_by, Machine, StepsTo, IsBad, Block, Run, starts as begins_run, quiet, labelled}
+use Rattle.cas_runs.specs.Rules.{and_lock, locks_after, IsShared, Leaves, LeavesAll, Carries, IsReturnFor, NameOne, MayEmit, MayCrossBy, HasEnded, MayHalt, MayReceive, MayAct, IsReceiving, OpensFirst, Opens, Proceeds, KeepsRules}
 use Rattle.cas_runs.specs.Rules as rules
 use Rattle.cas_runs.specs.Bounds.{IsTariff}
-use Rattle.cas_runs.specs.Access.{Stretch, Holding, words_in, with_lock, without_lock}
+use Rattle.cas_runs.specs.Access.{Holding, words_in, with_lock, without_lock}
 use Rattle.cas_runs.specs.Unit.{Setting, AreLaidOut, IsLayout, lock_at, lock_number, guard_of}
-use Rattle.cas_runs.specs.Calls.{Last, Goes, Takes, Gives, Puts, Calls, Tails, Returns, Activations, Scene, Frame, Waits, Outer, Past, Thread, Away, Runs, Leaves as LeavesNow, Over, Wrong, nothing_touched, same_share, if_shown, crosses_as, can_cross, with_naming, to_outside, calls_by, leaves_by, crosses_if, leaves, kept_results, leaves_with, leaves_later, goes_back, returns, resumes, comes_back, with_share, takes_lock, takes, gives_lock, gives, find, with_own, without_own, one_begun, calls_in, enters_at, enters, step_at, calls_out, calls, acts, receives, machine, no_past, no_holding, outside_first, starts, language}
+use Rattle.cas_runs.specs.Calls.{Last, Goes, Takes, Gives, Puts, Calls, Tails, Returns, Activations, Scene, Frame, Waits, Outer, Past, Thread, Away, Runs, Leaves as LeavesNow, Over, Wrong, nothing_touched, named_as, can_cross, with_naming, to_outside, crosses_if, crosses_out, kept_results, leaves_with, leaves_later, goes_back, returns, resumes, comes_back, with_share, takes_lock, takes, gives_lock, gives, find, with_own, without_own, one_begun, calls_in, enters_at, enters, step_at, calls_out, calls, acts, receives, machine, no_past, no_holding, outside_first, starts, language}
 use Rattle.cas_runs.proofs.Found.{found_named}
-use Rattle.cas_runs.proofs.Tests.{objects_from, share_from, same_name_self}
-use Rattle.cas_runs.proofs.Showing.{some_crossing}
+use Rattle.cas_runs.proofs.Showing.{some_names, named_so}
+use Rattle.cas_runs.proofs.Agreeing.{names_agree}
+use Rattle.cas_runs.proofs.Opening.{opens_so}
 use Rattle.cas_runs.proofs.Lifting.{step_costs, waiting_costs}
 use Rattle.cas_runs.proofs.Outgoing.{all_count, objects_count, shown_count}
 use Rattle.cas_runs.proofs.Turns.{hears_outside, listens_after}
@@ -68,7 +69,7 @@ module _ {F A : Type 0} (l : Activations F A) (setting : Setting) (scene : Scene
   abbrev Sound : List RunLabel → Act (Thread F A) → Type 0
   Sound ls (Quiet y) = Inv ls y
   Sound ls (Emits event y) = MayEmit E ls (label_of event) × Inv (label_of event ∷ ls) y
-  Sound ls (Crosses next) = (k : RunLabel) (y : Thread F A) → CanCross k → next k ≡ Some y → MayCross E ls k × Inv (k ∷ ls) y
+  Sound ls (Crosses f share next) = MayCrossBy E ls f share next × ((n : Names) (y : Thread F A) → next n ≡ Some y → Inv (crossing_by f share n ∷ ls) y)
   Sound ls (Locks lock next) = (slice_get E.cells lock ≡ Some LockWord) × (IsAmong lock (locks_after ls) → ⊥) × ((ws : List ℕ) → AreGuarded E lock ws → Inv (Lock lock ws ∷ ls) (next ws))
   Sound ls (Receives next) = (k : RunLabel) → MayBring E ls k → Inv (k ∷ ls) (next k)
   Sound ls Bad = Unit {0}
@@ -114,90 +115,62 @@ module _ {F A : Type 0} (l : Activations F A) (setting : Setting) (scene : Scene
 
   -- What crosses.
 
-  record CrossedSo (ls : List RunLabel) (p : Past) (h : Holding) (crossing : Crossing) (ns : Naming) : Type 0 where
-    carries : Carries E ls crossing
-    share : h.share ≡ crossing.share
-    objects : objects_of h.memory ns ≡ crossing.objects
+  record CrossedSo (ls : List RunLabel) (p : Past) (h : Holding) (names : Names) (ns : Naming) : Type 0 where
+    carries : Carries E ls (record { values = names.values; share = h.share; objects = names.objects })
+    objects : objects_of h.memory ns ≡ names.objects
     naming : SoundNaming setting.layout p.begun h.memory 0 ns
 
-  crossed_so : (ls : List RunLabel) (p : Past) (h : Holding) → Common ls p h → (values : List Value) (crossing : Crossing) (ns : Naming) → crosses_as setting.layout values p h crossing ≡ Some ns → CrossedSo ls p h crossing ns
-  crossed_so ls p h c values crossing ns e = by (same_share h.share crossing.share) refl e
-    where
-      shown : h.share ≡ crossing.share → (ms : Naming) → all_named_by (parts_at setting.layout p.begun) p.naming values crossing.values ≡ Some ms → (t : Bool) → same_objects (objects_of h.memory ms) crossing.objects ≡ t → if_shown t ms ≡ Some ns → CrossedSo ls p h crossing ns
-      shown share ms named false i g = absurd (cc g)
-      shown share ms named true i g =
-          let same : ms ≡ ns = cc g in
-          let grown = all_grown setting.layout p.begun h.memory values crossing.values p.naming c.naming ms named in
-          let objects = objects_from (objects_of h.memory ms) crossing.objects i in
-          let count : numbered (length (crossed ls)) crossing.values ≡ Some (length crossing.objects) =
-          ap (λ n. numbered n crossing.values) (shown_count setting.layout (crossed ls) h.memory p.naming c.shows) ∙ all_count (parts_at setting.layout p.begun) values crossing.values p.naming ms named ∙ ap (λ n. Some n) (sym (objects_count h.memory ms)) ∙ ap (λ (os : List Object). Some (length os)) objects in
-          let leave : LeavesAll (crossed ls) crossing.objects = subst (λ os. LeavesAll (crossed ls) os) objects (leaves_all setting.layout p.begun h.memory c.memory 0 (crossed ls) p.naming ms grown.sound grown.more c.shows) in
-          subst (λ v. CrossedSo ls p h crossing v) same
-          (record { carries = record { share = subst (λ v. IsOrdered E v) share c.ordered; same_locks = ap locks_of (sym share) ∙ c.locks; objects = leave; numbers = count }; share = share; objects = objects; naming = grown.sound })
+  crossed_so : (ls : List RunLabel) (p : Past) (h : Holding) → Common ls p h → (values : List Value) (names : Names) (ns : Naming) → named_as setting.layout values p h names ≡ Some ns → CrossedSo ls p h names ns
+  crossed_so ls p h c values names ns e =
+      let s = named_so setting.layout values p h names ns e in
+      let grown = all_grown setting.layout p.begun h.memory values names.values p.naming c.naming ns s.values_named in
+      let count : numbered (length (crossed ls)) names.values ≡ Some (length names.objects) =
+      ap (λ n. numbered n names.values) (shown_count setting.layout (crossed ls) h.memory p.naming c.shows) ∙ all_count (parts_at setting.layout p.begun) values names.values p.naming ns s.values_named ∙ ap (λ n. Some n) (sym (objects_count h.memory ns)) ∙ ap (λ (os : List Object). Some (length os)) s.objects in
+      let leave : LeavesAll (crossed ls) names.objects = subst (λ os. LeavesAll (crossed ls) os) s.objects (leaves_all setting.layout p.begun h.memory c.memory 0 (crossed ls) p.naming ns grown.sound grown.more c.shows) in
+      record { carries = record { share = c.ordered; same_locks = c.locks; objects = leave; numbers = count }; objects = s.objects; naming = grown.sound }
 
-      names : h.share ≡ crossing.share → (o : Option Naming) → all_named_by (parts_at setting.layout p.begun) p.naming values crossing.values ≡ o → and_then o (λ v. if_shown (same_objects (objects_of h.memory v) crossing.objects) v) ≡ Some ns → CrossedSo ls p h crossing ns
-      names share None i g = absurd (cc g)
-      names share (Some ms) i g = shown share ms i (same_objects (objects_of h.memory ms) crossing.objects) refl g
-
-      by : (t : Bool) → same_share h.share crossing.share ≡ t → (if t then and_then (all_named_by (parts_at setting.layout p.begun) p.naming values crossing.values) (λ v. if_shown (same_objects (objects_of h.memory v) crossing.objects) v) else None) ≡ Some ns → CrossedSo ls p h crossing ns
-      by false i g = absurd (cc g)
-      by true i g = names (share_from h.share crossing.share i) (all_named_by (parts_at setting.layout p.begun) p.naming values crossing.values) refl g
-
-  -- after a label that shows this crossing
-  out_common : (ls : List RunLabel) (k : RunLabel) (p : Past) (h : Holding) → Common ls p h → (crossing : Crossing) (ns : Naming) → CrossedSo ls p h crossing ns → crossed (k ∷ ls) ≡ crossing.objects → locks_after (k ∷ ls) ≡ locks_of crossing.share → Common (k ∷ ls) (with_naming p ns) h × ExactAll setting.layout (crossed (k ∷ ls)) h.memory ns
-  out_common ls k p h c crossing ns s e g =
+  -- after a label that shows this
+  out_common : (ls : List RunLabel) (k : RunLabel) (p : Past) (h : Holding) → Common ls p h → (names : Names) (ns : Naming) → CrossedSo ls p h names ns → crossed (k ∷ ls) ≡ names.objects → locks_after (k ∷ ls) ≡ locks_of h.share → Common (k ∷ ls) (with_naming p ns) h × ExactAll setting.layout (crossed (k ∷ ls)) h.memory ns
+  out_common ls k p h c names ns s e g =
       let objects : objects_of h.memory ns ≡ crossed (k ∷ ls) = s.objects ∙ sym e in (
-        record { ordered = c.ordered; locks = ap locks_of s.share ∙ sym g; memory = c.memory; naming = s.naming; shows = subst (λ os. ShowsAll setting.layout os h.memory ns) objects (shows_now setting.layout h.memory ns) },
+        record { ordered = c.ordered; locks = sym g; memory = c.memory; naming = s.naming; shows = subst (λ os. ShowsAll setting.layout os h.memory ns) objects (shows_now setting.layout h.memory ns) },
         subst (λ os. ExactAll setting.layout os h.memory ns) objects (exact_now setting.layout h.memory ns),
       )
 
-  -- a call that crosses, by its label
-  call_sound : (ls : List RunLabel) (p : Past) (h : Holding) → Common ls p h → (values : List Value) (stack : List (Frame F A)) → RunsFor (pending ls) stack → (function : NameBytes) (k : RunLabel) (y : Thread F A) → CanCross k → calls_by setting.layout function values stack p h k ≡ Some y → MayCross E ls k × Inv (k ∷ ls) y
-  call_sound ls p h c values stack w function (Call name crossing) y can e = named (same_name name function) e
+  -- a Call or a Leave, by its names
+  crosses_sound : (ls : List RunLabel) (p : Past) (h : Holding) → Common ls p h → (function : Option NameBytes) (values : List Value) (stack : List (Frame F A)) → IsReturnFor function ls → ((n : Names) → crossed (crossing_by function h.share n ∷ ls) ≡ n.objects) → ((n : Names) → locks_after (crossing_by function h.share n ∷ ls) ≡ locks_of h.share) → ((n : Names) → (ps : List Pending) × (pending (crossing_by function h.share n ∷ ls) ≡ ps) × AwayFor ps stack) → Sound ls (crosses_out setting.layout function values stack p h)
+  crosses_sound ls p h c function values stack returns shows locks waits = by (can_cross setting.layout p values) refl
     where
-      shown : (o : Option Naming) → crosses_as setting.layout values p h crossing ≡ o → to_outside stack p h o ≡ Some y → MayCross E ls (Call name crossing) × Inv (Call name crossing ∷ ls) y
-      shown None i g = absurd (cc g)
-      shown (Some ns) i g =
-          let s = crossed_so ls p h c values crossing ns i in
-          let out = out_common ls (Call name crossing) p h c crossing ns s refl refl in
-          let there : Away stack (with_naming p ns) h ≡ y = cc g in
-          (s.carries, subst (λ v. Inv (Call name crossing ∷ ls) v) there (away (Called name (locks_of crossing.share) ∷ pending ls) out.0 out.1 refl (at_call w)))
+      to_of : (n : Names) (y : Thread F A) (o : Option Naming) → named_as setting.layout values p h n ≡ o → to_outside stack p h o ≡ Some y → (ns : Naming) × (named_as setting.layout values p h n ≡ Some ns) × (Away stack (with_naming p ns) h ≡ y)
+      to_of n y None i g = absurd (cc g)
+      to_of n y (Some ns) i g = (ns, i, cc g)
 
-      named : (t : Bool) → (if t then to_outside stack p h (crosses_as setting.layout values p h crossing) else None) ≡ Some y → MayCross E ls (Call name crossing) × Inv (Call name crossing ∷ ls) y
-      named true g = shown (crosses_as setting.layout values p h crossing) refl g
-      named false g = absurd (cc g)
-  call_sound ls p h c values stack w function (Leave crossing) y can e = absurd (cc e)
-  call_sound ls p h c values stack w function (Lock lock ws) y can e = absurd can
-  call_sound ls p h c values stack w function (Unlock lock ws) y can e = absurd can
-  call_sound ls p h c values stack w function (Out word) y can e = absurd can
-  call_sound ls p h c values stack w function Done y can e = absurd can
-  call_sound ls p h c values stack w function (Enter name crossing) y can e = absurd can
-  call_sound ls p h c values stack w function (Back crossing) y can e = absurd can
+      to : (n : Names) (y : Thread F A) → to_outside stack p h (named_as setting.layout values p h n) ≡ Some y → (ns : Naming) × (named_as setting.layout values p h n ≡ Some ns) × (Away stack (with_naming p ns) h ≡ y)
+      to n y g = to_of n y (named_as setting.layout values p h n) refl g
 
-  leave_sound : (ls : List RunLabel) (p : Past) (h : Holding) → Common ls p h → (values : List Value) (stack : List (Frame F A)) (g : NameBytes) (locks : List ℕ) (older : List Pending) → pending ls ≡ Entered g locks ∷ older → AwayFor older stack → (k : RunLabel) (y : Thread F A) → CanCross k → leaves_by setting.layout values stack p h k ≡ Some y → MayCross E ls k × Inv (k ∷ ls) y
-  leave_sound ls p h c values stack g locks older newest w (Leave crossing) y can e = shown (crosses_as setting.layout values p h crossing) refl e
-    where
-      shown : (o : Option Naming) → crosses_as setting.layout values p h crossing ≡ o → to_outside stack p h o ≡ Some y → MayCross E ls (Leave crossing) × Inv (Leave crossing ∷ ls) y
-      shown None i j = absurd (cc j)
-      shown (Some ns) i j =
-          let s = crossed_so ls p h c values crossing ns i in
-          let out = out_common ls (Leave crossing) p h c crossing ns s refl refl in
-          let there : Away stack (with_naming p ns) h ≡ y = cc j in
-          ((record { function = g; locks = locks; older = older; newest = newest }, s.carries), subst (λ v. Inv (Leave crossing ∷ ls) v) there (away older out.0 out.1 (ap without_newest newest) w))
-  leave_sound ls p h c values stack g locks older newest w (Call name crossing) y can e = absurd (cc e)
-  leave_sound ls p h c values stack g locks older newest w (Lock lock ws) y can e = absurd can
-  leave_sound ls p h c values stack g locks older newest w (Unlock lock ws) y can e = absurd can
-  leave_sound ls p h c values stack g locks older newest w (Out word) y can e = absurd can
-  leave_sound ls p h c values stack g locks older newest w Done y can e = absurd can
-  leave_sound ls p h c values stack g locks older newest w (Enter name crossing) y can e = absurd can
-  leave_sound ls p h c values stack g locks older newest w (Back crossing) y can e = absurd can
+      by : (t : Bool) → can_cross setting.layout p values ≡ t → Sound ls (crosses_if t function h.share (λ names. to_outside stack p h (named_as setting.layout values p h names)))
+      by false e = tt
+      by true e = (
+        (let some = some_names setting.layout values p h e in record {
+          names = some.names;
+          to = Away stack (with_naming p some.naming) h;
+          has_names = ap (λ (o : Option Naming). to_outside stack p h o) some.named;
+          each = λ n y g. let t = to n y g in let s = crossed_so ls p h c values n t.0 t.1 in record { returns = returns; carries = s.carries };
+          alike = λ n m y z g k. let t = to n y g in let u = to m z k in
+              subst (λ i. NameOne i n m) (sym (shown_count setting.layout (crossed ls) h.memory p.naming c.shows)) (names_agree setting.layout values p h n m t.0 u.0 t.1 u.1);
+        }),
+        λ n y g. let t = to n y g in
+            let s = crossed_so ls p h c values n t.0 t.1 in
+            let out = out_common ls (crossing_by function h.share n) p h c n t.0 s (shows n) (locks n) in
+            let w = waits n in
+            subst (λ v. Inv (crossing_by function h.share n ∷ ls) v) t.2 (away w.0 out.0 out.1 w.1 w.2),
+      )
 
-  leaves_sound : (ls : List RunLabel) (p : Past) (h : Holding) → Common ls p h → (values : List Value) (stack : List (Frame F A)) (g : NameBytes) (locks : List ℕ) (older : List Pending) → pending ls ≡ Entered g locks ∷ older → AwayFor older stack → Sound ls (leaves setting.layout values stack p h)
-  leaves_sound ls p h c values stack g locks older newest w = by (can_cross setting.layout p values)
-    where
-      by : (t : Bool) → Sound ls (crosses_if t (leaves_by setting.layout values stack p h))
-      by true = leave_sound ls p h c values stack g locks older newest w
-      by false = tt
+  call_sound : (ls : List RunLabel) (p : Past) (h : Holding) → Common ls p h → (function : NameBytes) (values : List Value) (stack : List (Frame F A)) → RunsFor (pending ls) stack → Sound ls (crosses_out setting.layout (Some function) values stack p h)
+  call_sound ls p h c function values stack w = crosses_sound ls p h c (Some function) values stack tt (λ n. refl) (λ n. refl) (λ n. (Called function (locks_of h.share) ∷ pending ls, refl, at_call w))
+
+  leaves_sound : (ls : List RunLabel) (p : Past) (h : Holding) → Common ls p h → (values : List Value) (stack : List (Frame F A)) (g : NameBytes) (locks : List ℕ) (older : List Pending) → pending ls ≡ Entered g locks ∷ older → AwayFor older stack → Sound ls (crosses_out setting.layout None values stack p h)
+  leaves_sound ls p h c values stack g locks older newest w = crosses_sound ls p h c None values stack (record { function = g; locks = locks; older = older; newest = newest }) (λ n. refl) (λ n. refl) (λ n. (older, ap without_newest newest, w))
 
   -- Calls and returns.
 
@@ -206,7 +179,7 @@ module _ {F A : Type 0} (l : Activations F A) (setting : Setting) (scene : Scene
   goes_back_sound ls p h c f n stack w (Some a) = runs c w
 
   returns_sound : (ls : List RunLabel) (p : Past) (h : Holding) → Common ls p h → (values : List Value) (ps : List Pending) (stack : List (Frame F A)) → pending ls ≡ ps → RunsFor ps stack → Sound ls (returns setting.layout values stack p h)
-  returns_sound ls p h c values ps stack e at_bottom = (tt, over refl)
+  returns_sound ls p h c values ps stack e at_bottom = (tt, over tt)
   returns_sound ls p h c values ps stack e (at_waits {f = f} {n = n} {results = results} {next = next} {stack = rest} w) = goes_back_sound ls p h c f n rest (subst (λ v. RunsFor v rest) (sym e) w) (and_then (kept_results results values) next)
   returns_sound ls p h c values ps stack e (at_outer {ps = older} {g = g} {locks = locks} {results = results} {stack = rest} w) = by (kept_results results values)
     where
@@ -222,23 +195,19 @@ module _ {F A : Type 0} (l : Activations F A) (setting : Setting) (scene : Scene
   calls_sound ls p h c function values stack w (Some f) e = begins_sound ls p h c f (find_laid scene.within laid_in function f e) stack w (l.enter f p.begun values)
   calls_sound ls p h c function values stack w None e = out scene.crosses
     where
-      crossing : (t : Bool) → Sound ls (crosses_if t (calls_by setting.layout function values stack p h))
-      crossing true = call_sound ls p h c values stack w function
-      crossing false = tt
-
       out : (t : Bool) → Sound ls (calls_out l setting scene t function values stack p h)
-      out true = crossing (can_cross setting.layout p values)
+      out true = call_sound ls p h c function values stack w
       out false = tt
 
   -- Locks.
 
-  takes_sound : (ls : List RunLabel) (p : Past) (h : Holding) → Common ls p h → (a : A) (f : F) (n : ℕ) (stack : List (Frame F A)) → RunsFor (pending ls) stack → (lock : NameBytes) (o : Option ℕ) → guard_of E setting.words lock ≡ o → Sound ls (takes o a f n stack p h)
+  takes_sound : (ls : List RunLabel) (p : Past) (h : Holding) → Common ls p h → (a : A) (f : F) (n : ℕ) (stack : List (Frame F A)) → RunsFor (pending ls) stack → (lock : NameBytes) (o : Option ℕ) → guard_of E lock ≡ o → Sound ls (takes o a f n stack p h)
   takes_sound ls p h c a f n stack w lock None e = tt
   takes_sound ls p h c a f n stack w lock (Some k) e = by (words_in h.share k) refl
     where
       by : (o : Option (List ℕ)) → words_in h.share k ≡ o → Sound ls (takes_lock k o (λ ws. Runs f n a 0 stack p (with_share h (with_lock h.share k ws))))
       by None g = (
-        guard_is E (setting.words lock) k e,
+        guard_is E (E.words lock) k e,
         (λ m. not_found h.share k g (subst (λ v. IsAmong k v) (sym c.locks) m)),
         λ ws guarded.
             let o = with_lock_ordered E h.share c.ordered k ws g (guarded_under E k ws guarded) in
@@ -259,8 +228,8 @@ module _ {F A : Type 0} (l : Activations F A) (setting : Setting) (scene : Scene
 
   -- A step.
 
-  step_kept : (ls : List RunLabel) (p : Past) (h : Holding) → Common ls p h → (a : A) → Kept E setting.words h (step_at l setting a h).holding (step_at l setting a h).footprint
-  step_kept ls p h c a = performed_kept E setting.words h (l.form a) (record { holding = h; footprint = nothing_touched })
+  step_kept : (ls : List RunLabel) (p : Past) (h : Holding) → Common ls p h → (a : A) → Kept E h (step_at l setting a h).holding (step_at l setting a h).footprint
+  step_kept ls p h c a = performed_kept E h (l.form a) (record { holding = h; footprint = nothing_touched })
       (record { ordered = c.ordered; locks_are = refl; memory = λ home. itself (h.memory home); reads = λ v m. elim m [ ]; writes = λ v m. elim m [ ] })
     where
       itself : (o : Option (List Value)) → SameLength o o
@@ -276,8 +245,8 @@ module _ {F A : Type 0} (l : Activations F A) (setting : Setting) (scene : Scene
   acts_sound : (ls : List RunLabel) (p : Past) (h : Holding) → Common ls p h → (f : F) (n : ℕ) (stack : List (Frame F A)) → RunsFor (pending ls) stack → (o : Option (Last A)) → Sound ls (acts l setting scene o f n stack p h)
   acts_sound ls p h c f n stack w None = tt
   acts_sound ls p h c f n stack w (Some (Goes next)) = runs c w
-  acts_sound ls p h c f n stack w (Some (Takes lock next)) = takes_sound ls p h c next f n stack w lock (guard_of E setting.words lock) refl
-  acts_sound ls p h c f n stack w (Some (Gives lock next)) = gives_sound ls p h c next f n stack w (guard_of E setting.words lock)
+  acts_sound ls p h c f n stack w (Some (Takes lock next)) = takes_sound ls p h c next f n stack w lock (guard_of E lock) refl
+  acts_sound ls p h c f n stack w (Some (Gives lock next)) = gives_sound ls p h c next f n stack w (guard_of E lock)
   acts_sound ls p h c f n stack w (Some (Puts word next)) = (tt, runs (share_common ls (Out word ∷ ls) p h h.share c refl c.ordered c.locks) w)
   acts_sound ls p h c f n stack w (Some (Calls function values next)) = calls_sound ls p h c function values (Waits f n (results_of E function) next ∷ stack) (at_waits w) (find l scene.within function) refl
   acts_sound ls p h c f n stack w (Some (Tails function values)) = calls_sound ls p (without_own l f n h) (ends_common ls p h f n c) function values stack w (find l scene.within function) refl
@@ -338,7 +307,7 @@ module _ {F A : Type 0} (l : Activations F A) (setting : Setting) (scene : Scene
   follows : (ls : List RunLabel) (a : Act (Thread F A)) (k : RunLabel) (y : Thread F A) → Sound ls a → StepsTo E ls a k y → Inv (k ∷ ls) y
   follows ls (Quiet z) k y s e = absurd e
   follows ls (Emits event z) k y s e = subst (λ v. Inv (v ∷ ls) y) e.0 (subst (λ v. Inv (label_of event ∷ ls) v) e.1 s.1)
-  follows ls (Crosses next) k y s e = let both = s k y e.0 e.1 in both.1
+  follows ls (Crosses f share next) k y s e = subst (λ v. Inv (v ∷ ls) y) e.1 (s.1 e.0 y e.2)
   follows ls (Locks lock next) k y s e = subst (λ v. Inv (v ∷ ls) y) (sym e.1) (subst (λ v. Inv (Lock lock e.0 ∷ ls) v) e.3 (s.2 e.0 e.2))
   follows ls (Receives next) k y s e = subst (λ v. Inv (k ∷ ls) v) e.1 (s k e.0)
   follows ls Bad k y s e = absurd e
@@ -357,86 +326,71 @@ module _ {F A : Type 0} (l : Activations F A) (setting : Setting) (scene : Scene
     touched ls x (over e) = ((λ v m. elim m [ ]), (λ v m. elim m [ ]))
     touched ls x wrong = ((λ v m. elim m [ ]), (λ v m. elim m [ ]))
 
-  -- What crosses has a label.
+  -- What crosses has names.
 
-  abbrev HasLabel : Act (Thread F A) → Type 0
-  HasLabel (Crosses next) = (k : RunLabel) × (y : Thread F A) × CanCross k × (next k ≡ Some y)
-  HasLabel (Quiet y) = Unit {0}
-  HasLabel (Emits event y) = Unit {0}
-  HasLabel (Locks lock next) = Unit {0}
-  HasLabel (Receives next) = Unit {0}
-  HasLabel Bad = Unit {0}
-  HasLabel (Stops why) = Unit {0}
+  abbrev HasNames : Act (Thread F A) → Type 0
+  HasNames (Crosses f share next) = (n : Names) × (y : Thread F A) × (next n ≡ Some y)
+  HasNames _ = Unit {0}
 
-  leaves_label : (values : List Value) (stack : List (Frame F A)) (p : Past) (h : Holding) (t : Bool) → can_cross setting.layout p values ≡ t → HasLabel (crosses_if t (leaves_by setting.layout values stack p h))
-  leaves_label values stack p h false e = tt
-  leaves_label values stack p h true e = let some = some_crossing setting.layout values p h e in (Leave some.crossing, Away stack (with_naming p some.naming) h, tt, ap (λ (o : Option Naming). to_outside stack p h o) some.crosses)
+  crosses_named : (function : Option NameBytes) (values : List Value) (stack : List (Frame F A)) (p : Past) (h : Holding) (t : Bool) → can_cross setting.layout p values ≡ t → HasNames (crosses_if t function h.share (λ names. to_outside stack p h (named_as setting.layout values p h names)))
+  crosses_named function values stack p h false e = tt
+  crosses_named function values stack p h true e = let some = some_names setting.layout values p h e in (some.names, Away stack (with_naming p some.naming) h, ap (λ (o : Option Naming). to_outside stack p h o) some.named)
 
-  calls_label : (function : NameBytes) (values : List Value) (stack : List (Frame F A)) (p : Past) (h : Holding) (t : Bool) → can_cross setting.layout p values ≡ t → HasLabel (crosses_if t (calls_by setting.layout function values stack p h))
-  calls_label function values stack p h false e = tt
-  calls_label function values stack p h true e =
-      let some = some_crossing setting.layout values p h e in (
-        Call function some.crossing,
-        Away stack (with_naming p some.naming) h,
-        tt,
-        ap (λ (t : Bool). if t then to_outside stack p h (crosses_as setting.layout values p h some.crossing) else None) (same_name_self function) ∙ ap (λ (o : Option Naming). to_outside stack p h o) some.crosses,
-      )
-
-  back_label : (f : F) (n : ℕ) (o : Option A) (stack : List (Frame F A)) (p : Past) (h : Holding) → HasLabel (goes_back f n o stack p h)
+  back_label : (f : F) (n : ℕ) (o : Option A) (stack : List (Frame F A)) (p : Past) (h : Holding) → HasNames (goes_back f n o stack p h)
   back_label f n None stack p h = tt
   back_label f n (Some a) stack p h = tt
 
-  returns_label : (values : List Value) (stack : List (Frame F A)) (p : Past) (h : Holding) → HasLabel (returns setting.layout values stack p h)
+  returns_label : (values : List Value) (stack : List (Frame F A)) (p : Past) (h : Holding) → HasNames (returns setting.layout values stack p h)
   returns_label values [] p h = tt
   returns_label values (Outer results ∷ stack) p h = by (kept_results results values)
     where
-      by : (o : Option (List Value)) → HasLabel (leaves_with setting.layout o stack p h)
+      by : (o : Option (List Value)) → HasNames (leaves_with setting.layout o stack p h)
       by None = tt
-      by (Some kept) = leaves_label kept stack p h (can_cross setting.layout p kept) refl
+      by (Some kept) = crosses_named None kept stack p h (can_cross setting.layout p kept) refl
   returns_label values (Waits f n results next ∷ stack) p h = back_label f n (and_then (kept_results results values) next) stack p h
 
-  any_call_label : (function : NameBytes) (values : List Value) (stack : List (Frame F A)) (p : Past) (h : Holding) (o : Option F) → HasLabel (calls l setting scene o function values stack p h)
+  any_call_label : (function : NameBytes) (values : List Value) (stack : List (Frame F A)) (p : Past) (h : Holding) (o : Option F) → HasNames (calls l setting scene o function values stack p h)
   any_call_label function values stack p h (Some f) = by (l.enter f p.begun values)
     where
-      by : (o : Option A) → HasLabel (calls_in l f o stack p h)
+      by : (o : Option A) → HasNames (calls_in l f o stack p h)
       by None = tt
       by (Some a) = tt
   any_call_label function values stack p h None = by scene.crosses
     where
-      by : (t : Bool) → HasLabel (calls_out l setting scene t function values stack p h)
-      by true = calls_label function values stack p h (can_cross setting.layout p values) refl
+      by : (t : Bool) → HasNames (calls_out l setting scene t function values stack p h)
+      by true = crosses_named (Some function) values stack p h (can_cross setting.layout p values) refl
       by false = tt
 
-  lock_label : (k : ℕ) (o : Option (List ℕ)) (next : List ℕ → Thread F A) → HasLabel (takes_lock k o next)
+  lock_label : (k : ℕ) (o : Option (List ℕ)) (next : List ℕ → Thread F A) → HasNames (takes_lock k o next)
   lock_label k None next = tt
   lock_label k (Some ws) next = tt
 
-  unlock_label : (k : ℕ) (o : Option (List ℕ)) (next : Thread F A) → HasLabel (gives_lock k o next)
+  unlock_label : (k : ℕ) (o : Option (List ℕ)) (next : Thread F A) → HasNames (gives_lock k o next)
   unlock_label k None next = tt
   unlock_label k (Some ws) next = tt
 
-  takes_label : (o : Option ℕ) (a : A) (f : F) (n : ℕ) (stack : List (Frame F A)) (p : Past) (h : Holding) → HasLabel (takes o a f n stack p h)
+  takes_label : (o : Option ℕ) (a : A) (f : F) (n : ℕ) (stack : List (Frame F A)) (p : Past) (h : Holding) → HasNames (takes o a f n stack p h)
   takes_label None a f n stack p h = tt
   takes_label (Some k) a f n stack p h = lock_label k (words_in h.share k) _
 
-  gives_label : (o : Option ℕ) (a : A) (f : F) (n : ℕ) (stack : List (Frame F A)) (p : Past) (h : Holding) → HasLabel (gives o a f n stack p h)
+  gives_label : (o : Option ℕ) (a : A) (f : F) (n : ℕ) (stack : List (Frame F A)) (p : Past) (h : Holding) → HasNames (gives o a f n stack p h)
   gives_label None a f n stack p h = tt
   gives_label (Some k) a f n stack p h = unlock_label k (words_in h.share k) _
 
-  acts_label : (o : Option (Last A)) (f : F) (n : ℕ) (stack : List (Frame F A)) (p : Past) (h : Holding) → HasLabel (acts l setting scene o f n stack p h)
+  acts_label : (o : Option (Last A)) (f : F) (n : ℕ) (stack : List (Frame F A)) (p : Past) (h : Holding) → HasNames (acts l setting scene o f n stack p h)
   acts_label None f n stack p h = tt
   acts_label (Some (Goes next)) f n stack p h = tt
-  acts_label (Some (Takes lock next)) f n stack p h = takes_label (guard_of E setting.words lock) next f n stack p h
-  acts_label (Some (Gives lock next)) f n stack p h = gives_label (guard_of E setting.words lock) next f n stack p h
+  acts_label (Some (Takes lock next)) f n stack p h = takes_label (guard_of E lock) next f n stack p h
+  acts_label (Some (Gives lock next)) f n stack p h = gives_label (guard_of E lock) next f n stack p h
   acts_label (Some (Puts word next)) f n stack p h = tt
   acts_label (Some (Calls function values next)) f n stack p h = any_call_label function values (Waits f n (results_of E function) next ∷ stack) p h (find l scene.within function)
   acts_label (Some (Tails function values)) f n stack p h = any_call_label function values stack p (without_own l f n h) (find l scene.within function)
   acts_label (Some (Returns values)) f n stack p h = returns_label values stack p (without_own l f n h)
 
-  has_label : (x : Thread F A) → HasLabel (M.act x)
+  has_label : (x : Thread F A) → HasNames (M.act x)
   has_label (Away stack p h) = tt
   has_label (Runs f n a e stack p h) = acts_label (step_at l setting a h).last f n stack p (step_at l setting a h).holding
-  has_label (LeavesNow values stack p h) = leaves_label values stack p h (can_cross setting.layout p values) refl
+  has_label (LeavesNow values stack p h) = crosses_named None values stack p h (can_cross setting.layout p values) refl
   has_label Over = tt
   has_label Wrong = tt
 
@@ -448,29 +402,44 @@ module _ {F A : Type 0} (l : Activations F A) (setting : Setting) (scene : Scene
   costs_of Wrong = waiting_costs l.tariff scene.functions
 
   pub proceeds_always : Proceeds M
-  proceeds_always = record { costs = costs_of; named = λ x next e. let P : Act (Thread F A) → Type 0 = HasLabel in subst P e (has_label x) }
+  proceeds_always = record { costs = costs_of; named = λ x f share next e. let P : Act (Thread F A) → Type 0 = HasNames in subst P e (has_label x) }
 
-  rules_kept : Inv [] start → KeepsRules E M
-  rules_kept first = record {
+  may_act : (ls : List RunLabel) (a : Act (Thread F A)) → Sound ls a → (IsReceiving a → MayReceive ls) → MayAct E ls a
+  may_act ls (Quiet y) s r = tt
+  may_act ls (Emits event y) s r = s.0
+  may_act ls (Crosses f share next) s r = s.0
+  may_act ls (Locks lock next) s r = (s.0, s.1)
+  may_act ls (Receives next) s r = r tt
+  may_act ls Bad s r = tt
+  may_act ls (Stops why) s r = s
+
+  rules_kept : Inv [] start → Opens E M → KeepsRules E M
+  rules_kept first opens = record {
     proceeds = proceeds_always;
     reads = λ ls bs b x r. let both = touched first ls x (holds first r) in both.0;
     writes = λ ls bs b x r. let both = touched first ls x (holds first r) in both.1;
-    emits = λ ls bs b x r event y e. let s : Sound ls (Emits event y) = subst (λ (v : Act (Thread F A)). Sound ls v) e (sound ls x (holds first r)) in s.0;
-    locks = λ ls bs b x r lock next e. let s : Sound ls (Locks lock next) = subst (λ (v : Act (Thread F A)). Sound ls v) e (sound ls x (holds first r)) in (s.0, s.1);
-    crosses = λ ls bs b x r next e k y can g. let s : Sound ls (Crosses next) = subst (λ (v : Act (Thread F A)). Sound ls v) e (sound ls x (holds first r)) in let both = s k y can g in both.0;
-    receives = hears_outside l setting scene start;
+    acts = λ ls bs b x r. may_act ls (M.act x) (sound ls x (holds first r)) (hears_outside l setting scene start ls bs b x r);
     listens = listens_after l setting scene start;
-    halts = λ ls bs b x r why e. let s : Sound ls (Stops why) = subst (λ (v : Act (Thread F A)). Sound ls v) e (sound ls x (holds first r)) in s;
+    opens = opens;
   }
 
   nothing_common : Common [] no_past no_holding
   nothing_common = record { ordered = tt; locks = refl; memory = λ f a b ws e. absurd (cc e); naming = tt; shows = tt }
 
   pub outward_rules : start ≡ outside_first → KeepsRules E M
-  outward_rules e = rules_kept (subst (λ v. Inv [] v) (sym e) (away [] nothing_common tt refl at_first))
+  outward_rules e = rules_kept (subst (λ v. Inv [] v) (sym e) (away [] nothing_common tt refl at_first)) (opens_so l setting scene start (inr (inl (sym (ap M.activations e)))))
 
   pub thread_rules : (o : Option F) (thread : ℕ) → ((f : F) → o ≡ Some f → Laid f) → start ≡ starts l o thread → KeepsRules E M
   thread_rules o thread k e = rules_kept (subst (λ v. Inv [] v) (sym e) (enters_inv [] no_past no_holding nothing_common [] at_bottom (Some (Number thread ∷ [])) o k))
+      (opens_so l setting scene start (subst (λ v. IsBad (M.act v) ⊎ OpensFirst (M.activations v)) (sym e) (first o)))
+    where
+      entered : (f : F) (a : Option A) → IsBad (M.act (enters_at l f a [] no_past no_holding)) ⊎ OpensFirst (M.activations (enters_at l f a [] no_past no_holding))
+      entered f None = inl tt
+      entered f (Some a) = inr (inr (l.name f, refl))
+
+      first : (v : Option F) → IsBad (M.act (starts l v thread)) ⊎ OpensFirst (M.activations (starts l v thread))
+      first None = inl tt
+      first (Some f) = entered f (l.enter f 0 (Number thread ∷ []))
 
 -- the three machines of a language
 

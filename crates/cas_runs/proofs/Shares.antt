@@ -9,7 +9,7 @@ use Rattle.cas_runs.specs.Naming.{Home, Value, Memory, with_block}
 use Rattle.cas_runs.specs.Machine.{Footprint}
 use Rattle.cas_runs.specs.Rules.{and_lock, IsShared}
 use Rattle.cas_runs.specs.Rules as rules
-use Rattle.cas_runs.specs.Access.{Words, Accesses, Reads, Writes, Loads, Stores, Looks, Then, Fails, Holding, words_in, with_lock, without_lock, with_words, place_among, word_in, Doing, has_read, has_written, has_stored, Performed, failed, reads_as, reads_cell, writes_in, writes_cell, number_in, reads_word, writes_word, value_in, loads_as, stores_in, length_of, performed}
+use Rattle.cas_runs.specs.Access.{Accesses, Reads, Writes, Loads, Stores, Looks, Then, Fails, Holding, words_in, with_lock, without_lock, with_words, place_among, word_in, Doing, has_read, has_written, has_stored, Performed, failed, reads_as, reads_cell, writes_in, writes_cell, number_in, reads_word, writes_word, value_in, loads_as, stores_in, length_of, performed}
 use Rattle.cas_runs.proofs.Tests.{eq_self}
 use Rattle.cas_runs.proofs.Cells.{set_length}
 use Rattle.cas_runs.proofs.Placing.{with_here, with_elsewhere, same_or_not}
@@ -159,7 +159,7 @@ stored_lengths m home vs ws e n other = ⊎_elim
 
 -- A step.
 
-module _ (edge : Edge) (words : Words) (h : Holding) where
+module _ (edge : Edge) (h : Holding) where
   -- the words are of the share
   abbrev pub Shared : List ℕ → Type 0
   Shared ws = (w : ℕ) → IsAmong w ws → IsShared edge (locks_of h.share) w
@@ -241,9 +241,9 @@ module _ (edge : Edge) (words : Words) (h : Holding) where
   loads_kept d k go more None = k
   loads_kept d k go more (Some v) = more v
 
-  pub performed_kept : {L : Type 0} (x : Accesses L) (d : Doing) → KeptDoing d → KeptAll (performed edge.cells words x d)
-  performed_kept (Reads global offset next) d k = number_read d k _ (λ v e m. performed_kept (next v) e m) (number_in (words global) offset)
-  performed_kept (Writes global offset word next) d k = number_written d k _ (λ e m. performed_kept next e m) word (number_in (words global) offset)
+  pub performed_kept : {L : Type 0} (x : Accesses L) (d : Doing) → KeptDoing d → KeptAll (performed edge x d)
+  performed_kept (Reads global offset next) d k = number_read d k _ (λ v e m. performed_kept (next v) e m) (number_in (edge.words global) offset)
+  performed_kept (Writes global offset word next) d k = number_written d k _ (λ e m. performed_kept next e m) word (number_in (edge.words global) offset)
   performed_kept (Loads home place next) d k = loads_kept d k _ (λ v. performed_kept (next v) d k) (value_in (d.holding.memory home) place)
   performed_kept (Stores home place value next) d k = stores_kept d k _ (λ e m. performed_kept next e m) home place value (d.holding.memory home) refl
   performed_kept (Looks home next) d k = performed_kept (next (length_of (d.holding.memory home))) d k

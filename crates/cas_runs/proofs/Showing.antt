@@ -2,11 +2,12 @@
 use Rattle.std.proofs.Common.{◌≡◌, ℕ, zero, suc, ◌+◌, ◌-◌, ◌≤◌, List, [], ◌∷◌, ◌++◌, length, Bool, true, false, ◌&&◌, if◌then◌else◌, nat_eq, nat_lt, nat_le, slice_get, Option, Some, None, refl, sym, ap, ◌∙◌, subst, arith, eqb-true, leb-true, le-leb, lt-ltb}
 use Rattle.std.proofs.lemmas.Bool.Decides.{nat_tests}
 use Rattle.std.proofs.lemmas.Option.{slice_get_within}
-use Rattle.cas_runs.specs.Label.{NameBytes, Shown, Word, Place, Crossing}
+use Rattle.cas_runs.specs.Label.{NameBytes, Shown, Word, Place}
+use Rattle.cas_runs.specs.Machine.{Names}
 use Rattle.cas_runs.specs.Naming.{Home, Own, Theirs, Value, Number, Pointer, Hidden, Part, Layout, parts_at, Named, Naming, same_home, same_part, is_it, one_later, number_of, is_place, part_by, again, if_new, first_time, named_by, and_then, all_named_by, reaches, some_reaches, reached_in, can_show, can_show_all, objects_of, same_objects}
 use Rattle.cas_runs.specs.Access.{Holding}
-use Rattle.cas_runs.specs.Calls.{Past, same_share, if_shown, can_cross, crosses_as}
-use Rattle.cas_runs.proofs.Tests.{and_both, both_true, eq_self, objects_from, same_objects_self, same_share_self}
+use Rattle.cas_runs.specs.Calls.{Past, if_shown, can_cross, named_as}
+use Rattle.cas_runs.proofs.Tests.{and_both, both_true, eq_self, objects_from, same_objects_self}
 
 -- The part that a place is of.
 
@@ -134,7 +135,7 @@ shown_as parts ns (Pointer (Theirs k) at) e = shown_theirs parts ns k at (slice_
 
 -- What a naming grows by is the unit's own.
 
-data Grows (ns : Naming) : Naming → Type 0 where
+pub data Grows (ns : Naming) : Naming → Type 0 where
   same : Grows ns ns
   own : (function : NameBytes) (activation block : ℕ) (part : Part) → Grows ns (ns ++ record { home = Own function activation block; part = part } ∷ [])
 
@@ -165,7 +166,7 @@ grows_first parts ns (Own f a b) at place ms e = by (part_by (parts (Own f a b))
     by None g = absurd (cc g)
     by (Some p) g = new p (number_of ns (Own f a b) p) g
 
-grows : (parts : Home → List Part) (ns : Naming) (v : Value) (x : Shown) (ms : Naming) → named_by parts ns v x ≡ Some ms → Grows ns ms
+pub grows : (parts : Home → List Part) (ns : Naming) (v : Value) (x : Shown) (ms : Naming) → named_by parts ns v x ≡ Some ms → Grows ns ms
 grows parts ns (Number v) (Word w) ms e = by (nat_eq v w) e
   where
     by : (t : Bool) → (if t then Some ns else None) ≡ Some ms → Grows ns ms
@@ -217,36 +218,43 @@ all_shown parts ns (v ∷ vs) e = by (λ ms h. all_shown parts ms vs h) (can_sho
         record { shown = x.shown ∷ rest.shown; naming = rest.naming; named = ap (λ (o : Option Naming). and_then o (λ ms. all_named_by parts ms vs rest.shown)) x.named ∙ rest.named }
     by more false f g = absurd (cc g)
 
--- what can be shown crosses by some label
-pub record SomeCrossing (layout : Layout) (values : List Value) (past : Past) (h : Holding) : Type 0 where
-  pub crossing : Crossing
+-- what can be shown has names
+pub record SomeNames (layout : Layout) (values : List Value) (past : Past) (h : Holding) : Type 0 where
+  pub names : Names
   pub naming : Naming
-  pub crosses : crosses_as layout values past h crossing ≡ Some naming
+  pub named : named_as layout values past h names ≡ Some naming
 
-pub some_crossing : (layout : Layout) (values : List Value) (past : Past) (h : Holding) → can_cross layout past values ≡ true → SomeCrossing layout values past h
-some_crossing layout values past h e =
+pub some_names : (layout : Layout) (values : List Value) (past : Past) (h : Holding) → can_cross layout past values ≡ true → SomeNames layout values past h
+some_names layout values past h e =
     let x = all_shown (parts_at layout past.begun) past.naming values e in
-    let crossing : Crossing = record { values = x.shown; share = h.share; objects = objects_of h.memory x.naming } in
+    let names : Names = record { values = x.shown; objects = objects_of h.memory x.naming } in
     record {
-      crossing = crossing;
+      names = names;
       naming = x.naming;
-      crosses = ap (λ (t : Bool). if t then and_then (all_named_by (parts_at layout past.begun) past.naming values x.shown) (λ ns. if_shown (same_objects (objects_of h.memory ns) crossing.objects) ns) else None) (same_share_self h.share)
-          ∙ ap (λ (o : Option Naming). and_then o (λ ns. if_shown (same_objects (objects_of h.memory ns) crossing.objects) ns)) x.named
-          ∙ ap (λ (t : Bool). if_shown t x.naming) (same_objects_self crossing.objects);
+      named = ap (λ (o : Option Naming). and_then o (λ ns. if_shown (same_objects (objects_of h.memory ns) names.objects) ns)) x.named
+          ∙ ap (λ (t : Bool). if_shown t x.naming) (same_objects_self names.objects);
     }
 
--- a label shows the objects that have crossed by then
-pub objects_shown : (layout : Layout) (values : List Value) (past : Past) (h : Holding) (crossing : Crossing) (ns : Naming) → crosses_as layout values past h crossing ≡ Some ns → crossing.objects ≡ objects_of h.memory ns
-objects_shown layout values past h crossing ns e = by (same_share h.share crossing.share) e
+-- what values and objects are named so
+pub record NamedSo (layout : Layout) (values : List Value) (past : Past) (h : Holding) (names : Names) (ns : Naming) : Type 0 where
+  pub values_named : all_named_by (parts_at layout past.begun) past.naming values names.values ≡ Some ns
+  pub objects : objects_of h.memory ns ≡ names.objects
+
+pub named_so : (layout : Layout) (values : List Value) (past : Past) (h : Holding) (names : Names) (ns : Naming) → named_as layout values past h names ≡ Some ns → NamedSo layout values past h names ns
+named_so layout values past h names ns e = named (all_named_by (parts_at layout past.begun) past.naming values names.values) refl e
   where
-    shown : (ms : Naming) (t : Bool) → same_objects (objects_of h.memory ms) crossing.objects ≡ t → if_shown t ms ≡ Some ns → crossing.objects ≡ objects_of h.memory ns
-    shown ms true is f = let same : ms ≡ ns = cc f in subst (λ v. crossing.objects ≡ objects_of h.memory v) same (sym (objects_from (objects_of h.memory ms) crossing.objects is))
-    shown ms false is f = absurd (cc f)
+    shown : (ms : Naming) → all_named_by (parts_at layout past.begun) past.naming values names.values ≡ Some ms → (t : Bool) → same_objects (objects_of h.memory ms) names.objects ≡ t → if_shown t ms ≡ Some ns → NamedSo layout values past h names ns
+    shown ms i true is f =
+        let same : ms ≡ ns = cc f in
+        subst (λ v. NamedSo layout values past h names v) same (record { values_named = i; objects = objects_from (objects_of h.memory ms) names.objects is })
+    shown ms i false is f = absurd (cc f)
 
-    named : (o : Option Naming) → and_then o (λ v. if_shown (same_objects (objects_of h.memory v) crossing.objects) v) ≡ Some ns → crossing.objects ≡ objects_of h.memory ns
-    named None f = absurd (cc f)
-    named (Some ms) f = shown ms (same_objects (objects_of h.memory ms) crossing.objects) refl f
+    named : (o : Option Naming) → all_named_by (parts_at layout past.begun) past.naming values names.values ≡ o → and_then o (λ v. if_shown (same_objects (objects_of h.memory v) names.objects) v) ≡ Some ns → NamedSo layout values past h names ns
+    named None i f = absurd (cc f)
+    named (Some ms) i f = shown ms i (same_objects (objects_of h.memory ms) names.objects) refl f
 
-    by : (t : Bool) → (if t then and_then (all_named_by (parts_at layout past.begun) past.naming values crossing.values) (λ v. if_shown (same_objects (objects_of h.memory v) crossing.objects) v) else None) ≡ Some ns → crossing.objects ≡ objects_of h.memory ns
-    by true f = named (all_named_by (parts_at layout past.begun) past.naming values crossing.values) f
-    by false f = absurd (cc f)
+-- and so they are named
+pub so_named : (layout : Layout) (values : List Value) (past : Past) (h : Holding) (names : Names) (ns : Naming) → NamedSo layout values past h names ns → named_as layout values past h names ≡ Some ns
+so_named layout values past h names ns s =
+    ap (λ (o : Option Naming). and_then o (λ v. if_shown (same_objects (objects_of h.memory v) names.objects) v)) s.values_named
+    ∙ ap (λ os. if_shown (same_objects os names.objects) ns) s.objects ∙ ap (λ (t : Bool). if_shown t ns) (same_objects_self names.objects)

@@ -3,8 +3,8 @@ use Rattle.std.proofs.Common.{◌≡◌, ℕ, List, [], ◌∷◌, ◌++◌, ◌
 use Rattle.cas_runs.specs.Label.{RunLabel}
 use Rattle.cas_runs.specs.Edge.{Edge}
 use Rattle.cas_runs.specs.Machine.{Act, Quiet, Emits, Crosses, Locks, Receives, Bad, Stops, Machine, StepsTo, IsBad, Footprint, Block, and_step, begun, onward, Run, starts, quiet, labelled}
-use Rattle.cas_runs.specs.Refines.{HasRun, BadBefore, Within}
-use Rattle.cas_runs.specs.Walking.{Star, stays, goes, HasNoSilentStep, Begins, at_start, after, Walk, BadNow, SameBeginning}
+use Rattle.cas_runs.specs.Refines.{Reached, Comes, HasRun, BadBefore, Within}
+use Rattle.cas_runs.specs.Walking.{Star, stays, goes, HasNoSilentStep, Begins, at_start, after, Walk, SameBeginning}
 use Rattle.cas_runs.proofs.Composing.{within_both}
 use Rattle.cas_runs.proofs.Refining.{IsQuiet, leads_not_quiet, leads_to_one, one_state, before_label, has_before, among_front}
 
@@ -23,7 +23,7 @@ bad_not_quiet : {S : Type 0} (a : Act S) → IsBad a → IsQuiet a → ⊥
 bad_not_quiet Bad b q = q
 bad_not_quiet (Quiet n) b q = b
 bad_not_quiet (Emits l n) b q = b
-bad_not_quiet (Crosses n) b q = b
+bad_not_quiet (Crosses f s n) b q = b
 bad_not_quiet (Locks l n) b q = b
 bad_not_quiet (Receives n) b q = b
 bad_not_quiet (Stops w) b q = b
@@ -32,7 +32,7 @@ bad_leads_not : {S : Type 0} (edge : Edge) (ls : List RunLabel) (a : Act S) (l :
 bad_leads_not edge ls Bad l y b h = h
 bad_leads_not edge ls (Quiet n) l y b h = b
 bad_leads_not edge ls (Emits k n) l y b h = b
-bad_leads_not edge ls (Crosses n) l y b h = b
+bad_leads_not edge ls (Crosses f s n) l y b h = b
 bad_leads_not edge ls (Locks k n) l y b h = b
 bad_leads_not edge ls (Receives n) l y b h = b
 bad_leads_not edge ls (Stops w) l y b h = b
@@ -96,20 +96,20 @@ module _ {S : Type 0} (edge : Edge) (m : Machine S) where
   one_beginning ls bs cs x y h k = begins_same h k refl
 
   -- a run that is Bad, with labels that have a longer run, has all of them
-  not_past : (since before : List RunLabel) (l : RunLabel) → HasRun edge m (l ∷ since ++ before) → {bs : List Block} {b : Block} {y : S} → Run edge m before bs b y → IsBad (m.act y) → ⊥
-  not_past [] before l h {y = y} r bad =
+  not_past : (since before : List RunLabel) (l : RunLabel) → HasRun edge m (l ∷ since ++ before) → Comes edge m before (λ x. IsBad (m.act x.at)) → ⊥
+  not_past [] before l h bad =
       let k = before_label edge m l before h.run refl in
-      let same : k.at ≡ y = one_state edge m k.run r (leads_not_quiet edge before (m.act k.at) l k.to k.leads) (bad_not_quiet (m.act y) bad) in
-      bad_leads_not edge before (m.act k.at) l k.to (subst (λ q. IsBad (m.act q)) (sym same) bad) k.leads
-  not_past (k ∷ since) before l h r bad = not_past since before k (has_before edge m l (k ∷ since ++ before) h) r bad
+      let same : k.from.at ≡ bad.to.at = one_state edge m k.run bad.run (leads_not_quiet edge before (m.act k.from.at) l k.to k.leads) (bad_not_quiet (m.act bad.to.at) bad.there) in
+      bad_leads_not edge before (m.act k.from.at) l k.to (subst (λ q. IsBad (m.act q)) (sym same) bad.there) k.leads
+  not_past (k ∷ since) before l h bad = not_past since before k (has_before edge m l (k ∷ since ++ before) h) bad
 
-  bad_now_by : (since before ls : List RunLabel) → ls ≡ since ++ before → HasRun edge m ls → {bs : List Block} {b : Block} {y : S} → Run edge m before bs b y → IsBad (m.act y) → BadNow edge m ls
-  bad_now_by [] before ls e has {bs = bs} {b = b} {y = y} r bad = record { blocks = bs; block = b; at = y; run = subst (λ q. Run edge m q bs b y) (sym e) r; bad = bad }
-  bad_now_by (l ∷ since) before ls e has r bad = absurd (not_past since before l (subst (λ q. HasRun edge m q) e has) r bad)
+  bad_now_by : (since before ls : List RunLabel) → ls ≡ since ++ before → HasRun edge m ls → Comes edge m before (λ x. IsBad (m.act x.at)) → Comes edge m ls (λ x. IsBad (m.act x.at))
+  bad_now_by [] before ls e has bad = subst (λ q. Comes edge m q (λ x. IsBad (m.act x.at))) (sym e) bad
+  bad_now_by (l ∷ since) before ls e has bad = absurd (not_past since before l (subst (λ q. HasRun edge m q) e has) bad)
 
   -- what is Bad before some labels, and has a run with all of them, is Bad there
-  pub bad_now : (ls : List RunLabel) → BadBefore edge m ls → HasRun edge m ls → BadNow edge m ls
-  bad_now ls b has = bad_now_by b.since b.before ls b.prefix has b.run b.bad
+  pub bad_now : (ls : List RunLabel) → BadBefore edge m ls → HasRun edge m ls → Comes edge m ls (λ x. IsBad (m.act x.at))
+  bad_now ls b has = bad_now_by b.since b.before ls b.prefix has b.bad
 
   within_star : {b : Block} {x : S} {c : Block} {y : S} → Star m b x c y → Within b c
   within_star {b = b} stays = block_itself b

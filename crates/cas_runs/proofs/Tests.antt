@@ -5,7 +5,6 @@ use Rattle.cas_base.specs.declared.kind.Kind.{Kind}
 use Rattle.cas_base.specs.declared.kind.Kind.TheVariants.{I8, U8, I16, U16, I32, U32}
 use Rattle.cas_runs.specs.Label.{NameBytes, same_name, Object, Owner, Inside, Outside, Share}
 use Rattle.cas_runs.specs.Naming.{Home, Own, Theirs, same_home, kind_number, same_owner, same_content, same_contents, same_state, same_object, same_objects}
-use Rattle.cas_runs.specs.Calls.{same_words, same_share}
 
 pub and_both : (a b : Bool) → (a && b) ≡ true → (a ≡ true) × (b ≡ true)
 and_both true true e = (refl, refl)
@@ -77,16 +76,6 @@ pub same_objects_self : (os : List Object) → same_objects os os ≡ true
 same_objects_self [] = refl
 same_objects_self (o ∷ os) = both_true _ _ (same_object_self o) (same_objects_self os)
 
-same_words_self : (ws : List ℕ) → same_words ws ws ≡ true
-same_words_self [] = refl
-same_words_self (w ∷ ws) = ap (λ (t : Bool). if t then same_words ws ws else false) (eq_self w) ∙ same_words_self ws
-
-pub same_share_self : (hs : Share) → same_share hs hs ≡ true
-same_share_self [] = refl
-same_share_self (h ∷ hs) =
-    ap (λ (t : Bool). if t then (if same_words h.words h.words then same_share hs hs else false) else false) (eq_self h.lock)
-    ∙ ap (λ (t : Bool). if t then same_share hs hs else false) (same_words_self h.words) ∙ same_share_self hs
-
 -- What is the same by its test is equal.
 
 abbrev kind_of : ℕ → Kind
@@ -155,27 +144,3 @@ objects_from (o ∷ os) (p ∷ ps) e =
     let one = object_from o p both.0 in
     let rest = objects_from os ps both.1 in
     cc (one, rest)
-
-words_from : (vs ws : List ℕ) → same_words vs ws ≡ true → vs ≡ ws
-words_from [] [] e = refl
-words_from [] (w ∷ ws) e = absurd (cc e)
-words_from (v ∷ vs) [] e = absurd (cc e)
-words_from (v ∷ vs) (w ∷ ws) e = by (nat_eq v w) refl (λ g. words_from vs ws g) e
-  where
-    by : (t : Bool) → nat_eq v w ≡ t → (same_words vs ws ≡ true → vs ≡ ws) → (if t then same_words vs ws else false) ≡ true → v ∷ vs ≡ w ∷ ws
-    by true i more g = let one = eqb-true v w i in let rest = more g in cc (one, rest)
-    by false i more g = absurd (cc g)
-
-pub share_from : (hs ks : Share) → same_share hs ks ≡ true → hs ≡ ks
-share_from [] [] e = refl
-share_from [] (k ∷ ks) e = absurd (cc e)
-share_from (h ∷ hs) [] e = absurd (cc e)
-share_from (h ∷ hs) (k ∷ ks) e = by (nat_eq h.lock k.lock) refl (same_words h.words k.words) refl (λ g. share_from hs ks g) e
-  where
-    by : (t : Bool) → nat_eq h.lock k.lock ≡ t → (u : Bool) → same_words h.words k.words ≡ u → (same_share hs ks ≡ true → hs ≡ ks) → (if t then (if u then same_share hs ks else false) else false) ≡ true → h ∷ hs ≡ k ∷ ks
-    by true i true j more g =
-        let head : h ≡ k = ap (λ (v : ℕ). record { lock = v; words = h.words }) (eqb-true h.lock k.lock i) ∙ ap (λ (v : List ℕ). record { lock = k.lock; words = v }) (words_from h.words k.words j) in
-        let rest = more g in
-        cc (head, rest)
-    by true i false j more g = absurd (cc g)
-    by false i u j more g = absurd (cc g)

@@ -1,14 +1,14 @@
 -- In the layer of calls a machine waits for the outside exactly after a Call or a Leave, and before the first label.
 use Rattle.std.proofs.Common.{◌≡◌, ℕ, List, [], ◌∷◌, Option, Some, None, Bool, true, false, if◌then◌else◌, sym, subst}
-use Rattle.cas_runs.specs.Label.{NameBytes, same_name, RunLabel, Lock, Unlock, Out, Done, Enter, Back, Call, Leave}
+use Rattle.cas_runs.specs.Label.{NameBytes, Share, RunLabel, Lock, Unlock, Out, Done, Enter, Back, Call, Leave}
 use Rattle.cas_runs.specs.Edge.{results_of}
 use Rattle.cas_runs.specs.Naming.{Value, Naming, and_then, all_taken, brought}
-use Rattle.cas_runs.specs.Machine.{Act, Quiet, Emits, Crosses, Locks, Receives, Bad, Stops, Machine, CanCross, StepsTo, Block, Run, starts as begins_run, quiet, labelled}
+use Rattle.cas_runs.specs.Outside.{MayBring}
+use Rattle.cas_runs.specs.Machine.{Act, Quiet, Emits, Crosses, Locks, Receives, Bad, Stops, Event, Unlocks, Prints, Ends, Names, Machine, label_of, crossing_by, StepsTo, Block, Run, starts as begins_run, quiet, labelled}
 use Rattle.cas_runs.specs.Rules.{HasCrossed, MayReceive, IsReceiving}
 use Rattle.cas_runs.specs.Access.{Holding, words_in, with_lock, without_lock}
 use Rattle.cas_runs.specs.Unit.{Setting, guard_of}
-use Rattle.cas_runs.specs.Calls.{Last, Goes, Takes, Gives, Puts, Calls, Tails, Returns, Activations, Scene, Frame, Waits, Outer, Past, Thread, Away, Runs, Leaves, Over, Wrong, can_cross, crosses_as, with_naming, to_outside, calls_by, leaves_by, crosses_if, kept_results, leaves_with, leaves_later, goes_back, returns, resumes, comes_back, with_share, takes_lock, takes, gives_lock, gives, find, without_own, calls_in, enters_at, enters, step_at, calls_out, calls, acts, receives, machine}
-use Rattle.cas_runs.proofs.Composing.{said_stays, brought_stays}
+use Rattle.cas_runs.specs.Calls.{Last, Goes, Takes, Gives, Puts, Calls, Tails, Returns, Activations, Scene, Frame, Waits, Outer, Past, Thread, Away, Runs, Leaves, Over, Wrong, can_cross, named_as, with_naming, to_outside, crosses_if, kept_results, leaves_with, leaves_later, goes_back, returns, resumes, comes_back, with_share, takes_lock, takes, gives_lock, gives, find, without_own, calls_in, enters_at, enters, step_at, calls_out, calls, acts, receives, machine}
 
 module _ {F A : Type 0} (l : Activations F A) (setting : Setting) (scene : Scene F) (start : Thread F A) where
   abbrev M : Machine (Thread F A)
@@ -26,7 +26,7 @@ module _ {F A : Type 0} (l : Activations F A) (setting : Setting) (scene : Scene
   abbrev Own : Act (Thread F A) → Type 0
   Own (Quiet y) = IsAway y → ⊥
   Own (Emits event y) = IsAway y → ⊥
-  Own (Crosses next) = (k : RunLabel) (y : Thread F A) → next k ≡ Some y → IsAway y
+  Own (Crosses f share next) = (n : Names) (y : Thread F A) → next n ≡ Some y → IsAway y
   Own (Locks lock next) = (ws : List ℕ) → IsAway (next ws) → ⊥
   Own (Receives next) = ⊥
   Own Bad = Unit {0}
@@ -36,33 +36,9 @@ module _ {F A : Type 0} (l : Activations F A) (setting : Setting) (scene : Scene
   outside_away stack p h None y e = absurd (cc e)
   outside_away stack p h (Some ns) y e = let there : Away stack (with_naming p ns) h ≡ y = cc e in subst IsAway there tt
 
-  call_away : (function : NameBytes) (values : List Value) (stack : List (Frame F A)) (p : Past) (h : Holding) (k : RunLabel) (y : Thread F A) → calls_by setting.layout function values stack p h k ≡ Some y → IsAway y
-  call_away function values stack p h (Call name crossing) y e = by (same_name name function) e
-    where
-      by : (t : Bool) → (if t then to_outside stack p h (crosses_as setting.layout values p h crossing) else None) ≡ Some y → IsAway y
-      by true g = outside_away stack p h (crosses_as setting.layout values p h crossing) y g
-      by false g = absurd (cc g)
-  call_away function values stack p h (Leave crossing) y e = absurd (cc e)
-  call_away function values stack p h (Lock lock ws) y e = absurd (cc e)
-  call_away function values stack p h (Unlock lock ws) y e = absurd (cc e)
-  call_away function values stack p h (Out word) y e = absurd (cc e)
-  call_away function values stack p h Done y e = absurd (cc e)
-  call_away function values stack p h (Enter name crossing) y e = absurd (cc e)
-  call_away function values stack p h (Back crossing) y e = absurd (cc e)
-
-  leave_away : (values : List Value) (stack : List (Frame F A)) (p : Past) (h : Holding) (k : RunLabel) (y : Thread F A) → leaves_by setting.layout values stack p h k ≡ Some y → IsAway y
-  leave_away values stack p h (Leave crossing) y e = outside_away stack p h (crosses_as setting.layout values p h crossing) y e
-  leave_away values stack p h (Call name crossing) y e = absurd (cc e)
-  leave_away values stack p h (Lock lock ws) y e = absurd (cc e)
-  leave_away values stack p h (Unlock lock ws) y e = absurd (cc e)
-  leave_away values stack p h (Out word) y e = absurd (cc e)
-  leave_away values stack p h Done y e = absurd (cc e)
-  leave_away values stack p h (Enter name crossing) y e = absurd (cc e)
-  leave_away values stack p h (Back crossing) y e = absurd (cc e)
-
-  leaves_own : (values : List Value) (stack : List (Frame F A)) (p : Past) (h : Holding) (t : Bool) → Own (crosses_if t (leaves_by setting.layout values stack p h))
-  leaves_own values stack p h true = leave_away values stack p h
-  leaves_own values stack p h false = tt
+  crosses_own : (function : Option NameBytes) (values : List Value) (stack : List (Frame F A)) (p : Past) (h : Holding) (t : Bool) → Own (crosses_if t function h.share (λ names. to_outside stack p h (named_as setting.layout values p h names)))
+  crosses_own function values stack p h true = λ n y e. outside_away stack p h (named_as setting.layout values p h n) y e
+  crosses_own function values stack p h false = tt
 
   back_own : (f : F) (n : ℕ) (o : Option A) (stack : List (Frame F A)) (p : Past) (h : Holding) → Own (goes_back f n o stack p h)
   back_own f n None stack p h = tt
@@ -74,7 +50,7 @@ module _ {F A : Type 0} (l : Activations F A) (setting : Setting) (scene : Scene
     where
       by : (o : Option (List Value)) → Own (leaves_with setting.layout o stack p h)
       by None = tt
-      by (Some kept) = leaves_own kept stack p h (can_cross setting.layout p kept)
+      by (Some kept) = crosses_own None kept stack p h (can_cross setting.layout p kept)
   returns_own values (Waits f n results next ∷ stack) p h = back_own f n (and_then (kept_results results values) next) stack p h
 
   calls_own : (function : NameBytes) (values : List Value) (stack : List (Frame F A)) (p : Past) (h : Holding) (o : Option F) → Own (calls l setting scene o function values stack p h)
@@ -85,12 +61,8 @@ module _ {F A : Type 0} (l : Activations F A) (setting : Setting) (scene : Scene
       by (Some a) = λ away. away
   calls_own function values stack p h None = by scene.crosses
     where
-      out : (t : Bool) → Own (crosses_if t (calls_by setting.layout function values stack p h))
-      out true = call_away function values stack p h
-      out false = tt
-
       by : (t : Bool) → Own (calls_out l setting scene t function values stack p h)
-      by true = out (can_cross setting.layout p values)
+      by true = crosses_own (Some function) values stack p h (can_cross setting.layout p values)
       by false = tt
 
   takes_own : (o : Option ℕ) (a : A) (f : F) (n : ℕ) (stack : List (Frame F A)) (p : Past) (h : Holding) → Own (takes o a f n stack p h)
@@ -112,8 +84,8 @@ module _ {F A : Type 0} (l : Activations F A) (setting : Setting) (scene : Scene
   acts_own : (o : Option (Last A)) (f : F) (n : ℕ) (stack : List (Frame F A)) (p : Past) (h : Holding) → Own (acts l setting scene o f n stack p h)
   acts_own None f n stack p h = tt
   acts_own (Some (Goes next)) f n stack p h = λ away. away
-  acts_own (Some (Takes lock next)) f n stack p h = takes_own (guard_of setting.edge setting.words lock) next f n stack p h
-  acts_own (Some (Gives lock next)) f n stack p h = gives_own (guard_of setting.edge setting.words lock) next f n stack p h
+  acts_own (Some (Takes lock next)) f n stack p h = takes_own (guard_of setting.edge lock) next f n stack p h
+  acts_own (Some (Gives lock next)) f n stack p h = gives_own (guard_of setting.edge lock) next f n stack p h
   acts_own (Some (Puts word next)) f n stack p h = λ away. away
   acts_own (Some (Calls function values next)) f n stack p h = calls_own function values (Waits f n (results_of setting.edge function) next ∷ stack) p h (find l scene.within function)
   acts_own (Some (Tails function values)) f n stack p h = calls_own function values stack p (without_own l f n h) (find l scene.within function)
@@ -122,7 +94,7 @@ module _ {F A : Type 0} (l : Activations F A) (setting : Setting) (scene : Scene
   act_own : (x : Thread F A) → (IsAway x → ⊥) → Own (M.act x)
   act_own (Away stack p h) not = absurd (not tt)
   act_own (Runs f n a e stack p h) not = acts_own (step_at l setting a h).last f n stack p (step_at l setting a h).holding
-  act_own (Leaves values stack p h) not = leaves_own values stack p h (can_cross setting.layout p values)
+  act_own (Leaves values stack p h) not = crosses_own None values stack p h (can_cross setting.layout p values)
   act_own Over not = tt
   act_own Wrong not = tt
 
@@ -165,20 +137,41 @@ module _ {F A : Type 0} (l : Activations F A) (setting : Setting) (scene : Scene
 
   -- whose turn it is after these labels
   pub record Turn (ls : List RunLabel) (x : Thread F A) : Type 0 where
-    pub may_hear : IsAway x → MayReceive ls
+    pub may_receive : IsAway x → MayReceive ls
     pub has_crossed : HasCrossed ls → IsAway x
+
+  event_stays : (event : Event) (ls : List RunLabel) → HasCrossed (label_of event ∷ ls) → ⊥
+  event_stays (Unlocks lock ws) ls c = c
+  event_stays (Prints w) ls c = c
+  event_stays Ends ls c = c
+
+  crossing_goes : (function : Option NameBytes) (share : Share) (n : Names) (ls : List RunLabel) → HasCrossed (crossing_by function share n ∷ ls)
+  crossing_goes None share n ls = tt
+  crossing_goes (Some f) share n ls = tt
+
+  brought_stays : (ls : List RunLabel) (k : RunLabel) → MayBring setting.edge ls k → HasCrossed (k ∷ ls) → ⊥
+  brought_stays ls (Call name crossing) m c = m
+  brought_stays ls (Leave crossing) m c = m
+  brought_stays ls (Enter name crossing) m c = c
+  brought_stays ls (Back crossing) m c = c
+  brought_stays ls (Lock lock ws) m c = c
+  brought_stays ls (Unlock lock ws) m c = c
+  brought_stays ls (Out w) m c = c
+  brought_stays ls Done m c = c
 
   by_own : (ls : List RunLabel) (a : Act (Thread F A)) (k : RunLabel) (y : Thread F A) → Own a → StepsTo setting.edge ls a k y → Turn (k ∷ ls) y
   by_own ls (Quiet z) k y o e = absurd e
-  by_own ls (Emits event z) k y o e = record { may_hear = λ away. absurd (o (subst IsAway (sym e.1) away)); has_crossed = λ c. absurd (said_stays event (subst CanCross (sym e.0) c)) }
-  by_own ls (Crosses next) k y o e = record { may_hear = λ away. e.0; has_crossed = λ c. o k y e.1 }
-  by_own ls (Locks lock next) k y o e = record { may_hear = λ away. absurd (o e.0 (subst IsAway (sym e.3) away)); has_crossed = λ c. let no : ⊥ = subst CanCross e.1 c in absurd no }
+  by_own ls (Emits event z) k y o e = record { may_receive = λ away. absurd (o (subst IsAway (sym e.1) away)); has_crossed = λ c. absurd (event_stays event ls (subst (λ v. HasCrossed (v ∷ ls)) (sym e.0) c)) }
+  by_own ls (Crosses f share next) k y o e =
+      let crossed : HasCrossed (k ∷ ls) = subst (λ v. HasCrossed (v ∷ ls)) e.1 (crossing_goes f share e.0 ls) in
+      record { may_receive = λ away. crossed; has_crossed = λ c. o e.0 y e.2 }
+  by_own ls (Locks lock next) k y o e = record { may_receive = λ away. absurd (o e.0 (subst IsAway (sym e.3) away)); has_crossed = λ c. let no : ⊥ = subst (λ v. HasCrossed (v ∷ ls)) e.1 c in absurd no }
   by_own ls (Receives next) k y o e = absurd o
   by_own ls Bad k y o e = absurd e
   by_own ls (Stops why) k y o e = absurd e
 
   by_label : (ls : List RunLabel) (x : Thread F A) (k : RunLabel) (y : Thread F A) → StepsTo setting.edge ls (M.act x) k y → Turn (k ∷ ls) y
-  by_label ls (Away stack p h) k y e = record { may_hear = λ away. absurd (heard_stays stack p h k (subst IsAway (sym e.1) away)); has_crossed = λ c. absurd (brought_stays setting.edge ls k e.0 c) }
+  by_label ls (Away stack p h) k y e = record { may_receive = λ away. absurd (heard_stays stack p h k (subst IsAway (sym e.1) away)); has_crossed = λ c. absurd (brought_stays ls k e.0 c) }
   by_label ls (Runs f n a x stack p h) k y e = by_own ls (M.act (Runs f n a x stack p h)) k y (act_own (Runs f n a x stack p h) (λ away. away)) e
   by_label ls (Leaves values stack p h) k y e = by_own ls (M.act (Leaves values stack p h)) k y (act_own (Leaves values stack p h) (λ away. away)) e
   by_label ls Over k y e = absurd e
@@ -196,17 +189,17 @@ module _ {F A : Type 0} (l : Activations F A) (setting : Setting) (scene : Scene
   quiet_stays Wrong y e = absurd (cc e)
 
   turn : {ls : List RunLabel} {bs : List Block} {b : Block} {x : Thread F A} → Run setting.edge M ls bs b x → Turn ls x
-  turn begins_run = record { may_hear = λ away. tt; has_crossed = λ c. absurd c }
+  turn begins_run = record { may_receive = λ away. tt; has_crossed = λ c. absurd c }
   turn (quiet {x = x} y r e) =
       let t = turn r in
       let stays = quiet_stays x y e in
-      record { may_hear = λ away. absurd (stays.1 away); has_crossed = λ c. absurd (stays.0 (t.has_crossed c)) }
+      record { may_receive = λ away. absurd (stays.1 away); has_crossed = λ c. absurd (stays.0 (t.has_crossed c)) }
   turn (labelled {ls = ls} {x = x} k y r e) = by_label ls x k y e
 
   own_hears : (a : Act (Thread F A)) → Own a → IsReceiving a → ⊥
   own_hears (Quiet y) o h = h
   own_hears (Emits event y) o h = h
-  own_hears (Crosses next) o h = h
+  own_hears (Crosses f share next) o h = h
   own_hears (Locks lock next) o h = h
   own_hears (Receives next) o h = o
   own_hears Bad o h = h
@@ -227,7 +220,7 @@ module _ {F A : Type 0} (l : Activations F A) (setting : Setting) (scene : Scene
   away_hearing Wrong away = absurd away
 
   pub hears_outside : (ls : List RunLabel) (bs : List Block) (b : Block) (x : Thread F A) → Run setting.edge M ls bs b x → IsReceiving (M.act x) → MayReceive ls
-  hears_outside ls bs b x r e = let t = turn r in t.may_hear (hearing_away x e)
+  hears_outside ls bs b x r e = let t = turn r in t.may_receive (hearing_away x e)
 
   pub listens_after : (ls : List RunLabel) (bs : List Block) (b : Block) (x : Thread F A) → Run setting.edge M ls bs b x → HasCrossed ls → IsReceiving (M.act x)
   listens_after ls bs b x r c = let t = turn r in away_hearing x (t.has_crossed c)

@@ -4,19 +4,23 @@ use Rattle.cas_base.specs.declared.kind.Kind.{Kind}
 use Rattle.cas_base.specs.declared.kind.Kind.TheVariants.{U32}
 use Rattle.cas_base.specs.declared.kind.Ty.{Ty}
 use Rattle.cas_base.specs.declared.kind.Ty.TheVariants.{Void, Int, Ptr, Array}
-use Rattle.cas_runs.specs.Label.{NameBytes, Shown, Word, Place, Object, Share}
+use Rattle.cas_runs.specs.Label.{NameBytes, Each, Shown, Word, Place, Object, Share}
 use Rattle.cas_runs.specs.Edge.{Edge, IsOfKind, IsOfType, AreOfTypes, IsShare}
-use Rattle.cas_runs.specs.Outside.{AreWordsOf, ChangesTo, NewContents, Continues, AreNew}
+use Rattle.cas_runs.specs.Outside.{AreWordsOf, ChangesTo, NewContents, Continues, IsNew}
 use Rattle.cas_runs.specs.Naming.{Home, Own, Theirs, Value, Number, Named, Naming, Memory, and_then, with_block, died, value_at, taken, all_taken, refilled, overwritten, written, left_in, filled, new_block, brought, objects_of}
-use Rattle.cas_runs.specs.Machine.{Block}
 use Rattle.cas_runs.specs.Access.{Holding, with_lock, without_lock, value_in}
-use Rattle.cas_runs.specs.Unit.{Setting}
+use Rattle.cas_runs.specs.Unit.{Setting, AreLaidOut}
 use Rattle.cas_runs.specs.Forms.{MemoryKeeps, ShareSelfSame}
-use Rattle.cas_runs.specs.Calls.{Activations, Past, so_many, set_blocks, fresh, gone, one_begun, with_share, can_cross, crosses_as, with_naming}
-use Rattle.cas_runs.specs.Passing.{Relation, AllMatch, MatchIf, brought_in, received, Keeps}
-use Rattle.cas_runs.specs.Worded.{IsWord, AreWords, HasWords, SameWord, keeps_words}
+use Rattle.cas_runs.specs.Calls.{Activations, Past, so_many, set_blocks, fresh, gone, one_begun, can_cross, named_as, with_naming}
+use Rattle.cas_runs.specs.Passing.{Position, Relation, AllMatch, MatchIf, brought_in, received, Keeps, AllMade, MadeSo, MadeAt, MadeAmong, Matching, MadeOf, RunTogether, IsMatching}
+use Rattle.cas_runs.specs.Held.{Activation, Steps, Midway, HoldsBy, with_blocks_of}
+use Rattle.cas_runs.specs.Worded.{IsWord, AreWords, HasWords, SameWord, EqualMemories, word_matches, in_words, Worded, places, bare, worded, IsWorded}
+use Rattle.cas_runs.specs.Unmoved.{keeps_values}
 use Rattle.cas_runs.proofs.Words.{kind_word, guarded_self, self_with_lock, self_without_lock}
 use Rattle.cas_runs.proofs.Unmoved.{memory_equal}
+use Rattle.cas_runs.proofs.Footing.{step_least}
+use Rattle.cas_runs.proofs.Found.{found_of}
+use Rattle.cas_runs.proofs.Holding.{held_passes}
 use Rattle.cas_runs.proofs.Placing.{with_here, with_elsewhere, same_or_not}
 
 -- Memories with words.
@@ -78,9 +82,9 @@ ObjectsWords (o ∷ os) = StateWords o.contents × ObjectsWords os
 of_kind : (kind : Kind) (cs : List (Option ℕ)) → AreWordsOf kind cs → ContentsWords cs
 of_kind kind [] h = tt
 of_kind kind (Some w ∷ cs) h = (kind_word w kind h.0, of_kind kind cs h.1)
-of_kind kind (None ∷ cs) h = absurd h
+of_kind kind (None ∷ cs) h = absurd h.0
 
-new_words : (os : List Object) → AreNew os → ObjectsWords os
+new_words : (os : List Object) → Each IsNew os → ObjectsWords os
 new_words [] h = tt
 new_words (o ∷ os) h = (by o.contents h.0.contents, new_words os h.1)
   where
@@ -172,9 +176,9 @@ all_taken_words objects ns (ty ∷ tys) (x ∷ xs) h = both (taken ns x) (all_ta
     both (Some v) None u w = tt
     both (Some v) (Some vs) u w = (u, w)
 
-module _ {F A G B : Type 0} (target : Activations F A) (source : Activations G B) (setting : Setting) (ts : List F) (ss : List G) (made : F → G → Type 0) (match : F → G → ℕ → A → Holding → Block → B → Holding → Block → Type 0) (names : (f : F) (g : G) → made f g → target.name f ≡ source.name g) (blocks : (f : F) (g : G) → made f g → target.blocks f ≡ source.blocks g) (first_words : target.first_word ≡ source.first_word) (first_is : IsWord source.first_word) where
+module _ {F A G B : Type 0} (target : Activations F A) (source : Activations G B) (setting : Setting) (ts : List F) (ss : List G) (made : F → G → Type 0) (match : F → G → ℕ → Position A → Position B → Type 0) (names : (f : F) (g : G) → made f g → target.name f ≡ source.name g) (blocks : (f : F) (g : G) → made f g → target.blocks f ≡ source.blocks g) (first_words : target.first_word ≡ source.first_word) (first_is : IsWord source.first_word) where
   abbrev R : Relation F A G B
-  R = keeps_words target source setting ts ss made match
+  R = keeps_values target source setting ts ss (word_matches made match)
 
   pub to_equal : (vs ws : List Value) → AllMatch R vs ws → vs ≡ ws
   to_equal [] [] h = refl
@@ -205,76 +209,108 @@ module _ {F A G B : Type 0} (target : Activations F A) (source : Activations G B
   words_keep = record {
     names = names;
     numbers = λ w word. (refl, word);
-    first = record { past = refl; holding = refl; share = tt; memory = λ home vs e. absurd (cc e) };
-    alikes = λ p q h k a. a;
-    begun = λ p q h k a. ap (λ (v : Past). v.begun) a.past;
-    shares = λ p q h k a. ap (λ (v : Holding). v.share) a.holding;
-    at_once = λ n h k. tt;
-    then_later = λ n h k h' k' h'' k'' l m. tt;
-    fewer = λ m n h k h' k' le l. tt;
-    locks = λ n p q h k a lock words g. record {
-      match_memory = record {
-        past = a.past;
-        holding = ap (λ (v : Holding). with_share v (with_lock v.share lock words)) a.holding;
-        share = self_with_lock SameWord k.share a.share lock words (guarded_self SameWord (λ w word. (refl, word)) setting.edge lock words g);
-        memory = a.memory;
-      };
-      frame = tt;
+    is_frame = record { at_once = λ n h k. tt; then_later = λ n h k h' k' h'' k'' l m. tt; fewer = λ m n h k h' k' le l. tt };
+    is_match = record {
+      first = record { past = refl; holding = refl; share = tt; memory = λ home vs e. absurd (cc e) };
+      matches = λ p q h k a. record { past = a.past; share = ap (λ (v : Holding). v.share) a.holding; words = a.share };
+      begun = λ p q h k a. ap (λ (v : Past). v.begun) a.past;
+      shares = λ p q h k a. a.share;
     };
-    unlocks = λ n p q h k a lock. record {
-      match_memory = record {
-        past = a.past;
-        holding = ap (λ (v : Holding). with_share v (without_lock v.share lock)) a.holding;
-        share = self_without_lock SameWord k.share a.share lock;
-        memory = a.memory;
+    steps = record {
+      locks = λ m a lock words g. record {
+        match_memory = record { past = a.past; share = ap (λ (v : Share). with_lock v lock words) a.share; words = self_with_lock SameWord m.s_holding.share a.words lock words (guarded_self SameWord (λ w word. (refl, word)) setting.edge lock words g) };
+        frame = tt;
       };
-      frame = tt;
-    };
-    begins = λ f g m p q h k a. record {
-      match_memory = record {
-        past = ap (λ v. one_begun target v) a.past;
-        holding = ap (λ v. with_set (fresh v) (target.name f) p.begun (target.blocks f) h) first_words ∙ set_equal (fresh source.first_word) f g m p.begun q.begun (ap (λ (v : Past). v.begun) a.past) h k a.holding;
-        share = a.share;
-        memory = set_words (fresh source.first_word) (fresh_words source.first_word first_is) k.memory a.memory (source.name g) q.begun 0 (source.blocks g);
+      unlocks = λ m a lock. record { match_memory = record { past = a.past; share = ap (λ (v : Share). without_lock v lock) a.share; words = self_without_lock SameWord m.s_holding.share a.words lock }; frame = tt };
+      begins = λ f g m p q h k a. record { match_memory = record { past = ap (λ v. one_begun target v) a.past; share = ap (λ (v : Holding). v.share) a.holding; words = a.share }; frame = tt };
+      ends = λ m made a. record {
+        settled = record {
+          past = a.past;
+          holding = set_equal gone m.t_function m.s_function made m.serial m.serial refl m.t_holding m.s_holding a.holding;
+          share = a.share;
+          memory = set_words gone (λ size. tt) m.s_holding.memory a.memory (source.name m.s_function) m.serial 0 (source.blocks m.s_function);
+        };
+        frame = tt;
       };
-      frame = tt;
     };
-    ends = λ n f g m p q h k a. record {
-      settled = record {
-        past = a.past;
-        holding = set_equal gone f g m n n refl h k a.holding;
-        share = a.share;
-        memory = set_words gone (λ size. tt) k.memory a.memory (source.name g) n 0 (source.blocks g);
-      };
-      frame = tt;
-    };
-    shows = λ p q h k a vs ws s e.
-        let past : p ≡ q = a.past in
-        subst (λ (v : Past). can_cross setting.layout v vs ≡ true) (sym past) (subst (λ us. can_cross setting.layout q us ≡ true) (sym (to_equal vs ws s)) e);
-    crosses = λ p q h k a vs ws s crossing ns e.
-        let past : p ≡ q = a.past in
-        let holding : h ≡ k = a.holding in (
-          ns,
-          ap (λ us. crosses_as setting.layout us p h crossing) (to_equal vs ws s) ∙ ap (λ v. crosses_as setting.layout ws v h crossing) past ∙ ap (λ v. crosses_as setting.layout ws q v crossing) holding ∙ e,
-          record { past = ap (λ v. with_naming v ns) past; holding = holding; share = a.share; memory = a.memory },
-        );
-    receives = λ n p q h k a types crossing brings typed.
-        let past : p ≡ q = a.past in
-        let holding : h ≡ k = a.holding in
-        let both : brought_in R p h crossing ≡ brought_in R q k crossing = ap (λ v. brought_in R v h crossing) past ∙ ap (λ v. brought_in R q v crossing) holding in (
-          record {
-            settled = record {
+    crossings = record {
+      shows = λ p q h k a vs ws s e.
+          let past : p ≡ q = a.past in
+          subst (λ (v : Past). can_cross setting.layout v vs ≡ true) (sym past) (subst (λ us. can_cross setting.layout q us ≡ true) (sym (to_equal vs ws s)) e);
+      crosses = λ p q h k a vs ws s names ns e.
+          let past : p ≡ q = a.past in
+          let holding : h ≡ k = a.holding in (
+            ns,
+            ap (λ us. named_as setting.layout us p h names) (to_equal vs ws s) ∙ ap (λ v. named_as setting.layout ws v h names) past ∙ ap (λ v. named_as setting.layout ws q v names) holding ∙ e,
+            record { past = ap (λ v. with_naming v ns) past; holding = holding; share = a.share; memory = a.memory },
+          );
+      receives = λ n p q h k a types crossing brings typed.
+          let past : p ≡ q = a.past in
+          let holding : h ≡ k = a.holding in (
+            record {
               past = ap (λ (v : Past). with_naming v (brought_in R v h crossing).naming) past ∙ ap (λ (v : Holding). with_naming q (brought_in R q v crossing).naming) holding;
               holding = ap (λ (v : Past). received R v h crossing) past ∙ ap (λ v. received R q v crossing) holding;
               share = share_brought setting.edge crossing.share brings.share;
               memory = memory_brought crossing.objects (brought_words (objects_of k.memory q.naming) crossing.objects brings.objects) k.memory a.memory q.naming 0;
-            };
-            frame = tt;
-          },
-          same_if (all_taken (brought_in R p h crossing).naming crossing.values) (all_taken (brought_in R q k crossing).naming crossing.values)
-              (ap (λ (v : Past). all_taken (brought_in R v h crossing).naming crossing.values) past ∙ ap (λ (v : Holding). all_taken (brought_in R q v crossing).naming crossing.values) holding)
-              (all_taken_words crossing.objects (brought_in R p h crossing).naming types crossing.values typed),
-        );
+            },
+            tt,
+            same_if (all_taken (brought_in R p h crossing).naming crossing.values) (all_taken (brought_in R q k crossing).naming crossing.values)
+                (ap (λ (v : Past). all_taken (brought_in R v h crossing).naming crossing.values) past ∙ ap (λ (v : Holding). all_taken (brought_in R q v crossing).naming crossing.values) holding)
+                (all_taken_words crossing.objects (brought_in R p h crossing).naming types crossing.values typed),
+          );
+    };
+  }
+
+  -- memories that are equal, and words, stay so where activations begin
+  pub words_begin : (f : F) (g : G) → made f g → (n : ℕ) (t s : Memory) → EqualMemories t s → EqualMemories (with_blocks_of target f n t) (with_blocks_of source g n s)
+  words_begin f g m n t s e =
+      let first = ap (λ v. with_set (fresh v) (target.name f) n (target.blocks f) (record { share = []; memory = t })) first_words in
+      let both = set_equal (fresh source.first_word) f g m n n refl (record { share = []; memory = t }) (record { share = []; memory = s }) (ap (λ (v : Memory). record { share = []; memory = v }) e.0) in
+      (ap (λ (v : Holding). v.memory) (first ∙ both), set_words (fresh source.first_word) (fresh_words source.first_word first_is) s e.1 (source.name g) n 0 (source.blocks g))
+
+-- what threads hold matches by the shares alone, and is settled where memories are equal and words
+pub words_hold : {F A G B : Type 0} (target : Activations F A) (source : Activations G B) (setting : Setting) (ts : List F) (ss : List G) (made : F → G → Type 0) (match : F → G → ℕ → Position A → Position B → Type 0) (match_states : Activation F G → A → Memory → B → Memory → Type 0) → HoldsBy (keeps_values target source setting ts ss (word_matches made match)) (in_words match_states)
+words_hold target source setting ts ss made match match_states = record {
+  words = λ p q h k a. a.words;
+  again = λ p q h k h' k' a share words. record { past = a.past; share = share; words = words };
+  settles = λ p q h k a memory. record { past = a.past; holding = ap (λ v. record { share = v; memory = h.memory }) a.share ∙ ap (λ (v : Memory). record { share = k.share; memory = v }) memory.0; share = a.words; memory = memory.1 };
+  memories = λ p q h k a. (ap (λ (v : Holding). v.memory) a.holding, a.memory);
+  frame = λ n h k h' k' tk sk. tt;
+  frames = λ n h k h' k' l. (tt, tt);
+  conditions = (record { itself = λ n m. tt; then = λ n m m' m'' a b. tt }, record { itself = λ n m. tt; then = λ n m m' m'' a b. tt });
+}
+
+-- A pass that may use that numbers are words, by what it names and shows.
+module _ {F A G B : Type 0} (p : Worded F A G B) (is : IsWorded p) where
+  names_of_made : (edge : Edge) (ts : List F) (ss : List G) (f : F) (g : G) → MadeAmong p.target p.source (MadeAt edge p.made) ts ss f g → p.target.name f ≡ p.source.name g
+  names_of_made edge ts ss f g m = let at = m.is_made in is.names at.decls f g at.is_made
+
+  blocks_of_made : (edge : Edge) (ts : List F) (ss : List G) (f : F) (g : G) → MadeAmong p.target p.source (MadeAt edge p.made) ts ss f g → p.target.blocks f ≡ p.source.blocks g
+  blocks_of_made edge ts ss f g m = let at = m.is_made in is.blocks at.decls f g at.is_made
+
+  so_from : (edge : Edge) (ts : List F) (ss : List G) → AllMade (MadeAt edge p.made) ts ss → AllMade (MadeSo p.made) ts ss
+  so_from edge [] [] h = tt
+  so_from edge [] (g ∷ gs) h = absurd h
+  so_from edge (f ∷ fs) [] h = absurd h
+  so_from edge (f ∷ fs) (g ∷ gs) h = let at = h.0 in ((at.decls, at.is_made), so_from edge fs gs h.1)
+
+  pub worded_is : IsMatching (worded p)
+  worded_is = record {
+    names = is.names;
+    laid_out_too = λ ts ss all layout laid name f e.
+        let there = found_of p.target p.source (MadeSo p.made) (λ f g so. is.names so.0 f g so.1) ts ss all name f e in
+        let so = there.2 in
+        subst (λ bs. AreLaidOut bs 0 (layout name)) (sym (is.blocks so.0 f there.0 so.1)) (laid name there.0 there.1);
+    passes = λ setting decls ts ss run.
+        let made = MadeOf (worded p) setting ts ss in
+        let R0 = bare p setting ts ss made in
+        let w = places p setting ts ss in
+        let keeps = words_keep p.target p.source setting ts ss made (Midway R0 w) (names_of_made setting.edge ts ss) (blocks_of_made setting.edge ts ss) is.first_words.0 is.first_words.1 in
+        record {
+          keeps = keeps;
+          pays = record { prices = is.prices; waits = is.waits ts ss (so_from setting.edge ts ss run.all) };
+          passes = held_passes R0 w (words_hold p.target p.source setting ts ss made (λ f g n x y. Unit {0}) (p.match_states setting ts ss)) (λ x. step_least p.target.tariff ts x is.prices) (is.steps setting decls ts ss run) keeps run.edge_is;
+        };
   }
 
 -- loads and stores in memories that are equal, and have words

@@ -4,11 +4,11 @@ use Rattle.std.proofs.lemmas.Bool.Decides.{nat_tests}
 use Rattle.std.proofs.lemmas.Int.{ints}
 use Rattle.cas_base.specs.declared.kind.Kind.{Kind}
 use Rattle.cas_base.specs.declared.kind.Kind.TheVariants.{I8, U8, I16, U16, I32, U32}
-use Rattle.cas_runs.specs.Label.{Share}
+use Rattle.cas_runs.specs.Label.{Each, Share}
 use Rattle.cas_runs.specs.Edge.{Cell, TableWord, Edge, IsOfKind, AreOfKinds, guarded, AreGuarded}
 use Rattle.cas_runs.specs.Naming.{Value, Number}
 use Rattle.cas_runs.specs.Access.{words_in, with_lock, without_lock, with_words}
-use Rattle.cas_runs.specs.Unit.{IsInKind, AreInKind}
+use Rattle.cas_runs.specs.Unit.{IsInKind}
 use Rattle.cas_runs.specs.Forms.{AreSelfSame, ShareSelfSame}
 
 -- a value of a kind is a word
@@ -83,7 +83,7 @@ module _ (same : Value → Value → Type 0) where
     guarded_self edge lock ws g = kinds_self ws (guarded lock edge.cells) g.kinds
 
     -- the words of tables
-    pub table_self : (cells : List Cell) → AreInKind cells → (word value : ℕ) → slice_get cells word ≡ Some (TableWord value) → same (Number value) (Number value)
+    pub table_self : (cells : List Cell) → Each IsInKind cells → (word value : ℕ) → slice_get cells word ≡ Some (TableWord value) → same (Number value) (Number value)
     table_self [] h word value e = absurd (cc e)
     table_self (c ∷ cells) h zero value e = let here : c ≡ TableWord value = cc e in numbers value (subst (λ v. IsInKind v) here h.0)
     table_self (c ∷ cells) h (suc word) value e = table_self cells h.1 word value e

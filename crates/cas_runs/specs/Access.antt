@@ -1,21 +1,14 @@
--- What a step touches: shared words of its thread's share, and blocks of memory. A language names its accesses one after another, and the share, the
--- memory and the footprint are computed from them here.
-use Rattle.std.specs.Prelude.{ℕ, zero, suc, ◌+◌, nat_eq, nat_lt, Bool, false, List, [], ◌∷◌, length, Option, Some, None, slice_get, slice_set, if◌then◌else◌}
+-- What a step touches: shared words of its thread's share, and blocks of memory. A language names its accesses one
+-- after another, and the share, the memory and the footprint are computed from them here.
+use Rattle.std.specs.Prelude.{ℕ, zero, suc, ◌+◌, nat_eq, nat_lt, Bool, false, List, [], ◌∷◌, length, Option, Some}
+use Rattle.std.specs.Prelude.{None, slice_get, slice_set, if◌then◌else◌}
 use Rattle.cas_runs.specs.Label.{NameBytes, Share}
-use Rattle.cas_runs.specs.Edge.{Cell, LockWord, SharedWord, TableWord}
+use Rattle.cas_runs.specs.Edge.{Cell, SharedWord, TableWord, Stretch, Edge}
 use Rattle.cas_runs.specs.Naming.{Home, Value, Memory, with_block}
 use Rattle.cas_runs.specs.Machine.{Footprint}
 
--- the words of a global or of a lock: the number of the first, and how many they are
-pub record Stretch : Type 0 where
-  pub first : ℕ
-  pub size : ℕ
-
--- where the words of each global and lock stand
-abbrev pub Words : Type 0
-Words = NameBytes → Option Stretch
-
--- the accesses of a step from the first to the last, each with what follows on the value read, and then what it does, or that it fails
+-- the accesses of a step from the first to the last, each with what follows on the value read, and then what it does,
+-- or that it fails
 pub data Accesses (L : Type 0) : Type 0 where
   Reads : (global : NameBytes) (offset : ℕ) (next : ℕ → Accesses L) → Accesses L
   Writes : (global : NameBytes) (offset word : ℕ) (next : Accesses L) → Accesses L
@@ -44,7 +37,8 @@ words_in (h ∷ hs) lock = if nat_eq h.lock lock then Some h.words else words_in
 -- the share with a lock more, at its place in the order
 abbrev pub with_lock : Share → ℕ → List ℕ → Share
 with_lock [] lock words = record { lock = lock; words = words } ∷ []
-with_lock (h ∷ hs) lock words = if nat_lt lock h.lock then record { lock = lock; words = words } ∷ h ∷ hs else h ∷ with_lock hs lock words
+with_lock (h ∷ hs) lock words =
+    if nat_lt lock h.lock then record { lock = lock; words = words } ∷ h ∷ hs else h ∷ with_lock hs lock words
 
 abbrev pub without_lock : Share → ℕ → Share
 without_lock [] lock = []
@@ -53,20 +47,20 @@ without_lock (h ∷ hs) lock = if nat_eq h.lock lock then hs else h ∷ without_
 -- the share with other words of a lock
 abbrev pub with_words : Share → ℕ → List ℕ → Share
 with_words [] lock words = []
-with_words (h ∷ hs) lock words = if nat_eq h.lock lock then record { lock = lock; words = words } ∷ hs else h ∷ with_words hs lock words
+with_words (h ∷ hs) lock words =
+    if nat_eq h.lock lock then record { lock = lock; words = words } ∷ hs else h ∷ with_words hs lock words
 
 -- the lock guards the word
 abbrev pub is_guarded_by : ℕ → Cell → Bool
 is_guarded_by lock (SharedWord kind (Some guard) initial) = nat_eq guard lock
-is_guarded_by lock (SharedWord kind None initial) = false
-is_guarded_by lock LockWord = false
-is_guarded_by lock (TableWord value) = false
+is_guarded_by lock _ = false
 
 -- the place of a word among those of its lock
 abbrev pub place_among : List Cell → (lock word : ℕ) → ℕ
 place_among [] lock word = 0
 place_among (c ∷ cs) lock zero = 0
-place_among (c ∷ cs) lock (suc word) = if is_guarded_by lock c then place_among cs lock word + 1 else place_among cs lock word
+place_among (c ∷ cs) lock (suc word) =
+    if is_guarded_by lock c then place_among cs lock word + 1 else place_among cs lock word
 
 -- the word at this place
 abbrev pub word_in : Option (List ℕ) → (place : ℕ) → Option ℕ
@@ -80,15 +74,19 @@ pub record Doing : Type 0 where
 
 -- a word was read
 abbrev pub has_read : Doing → (word : ℕ) → Doing
-has_read d word = record { holding = d.holding; footprint = record { reads = word ∷ d.footprint.reads; writes = d.footprint.writes } }
+has_read d word = record d { footprint = record d.footprint { reads = word ∷ d.footprint.reads } }
 
 -- a word was written: these are the lock's words now
 abbrev pub has_written : Doing → (word lock : ℕ) → List ℕ → Doing
-has_written d word lock words = record { holding = record { share = with_words d.holding.share lock words; memory = d.holding.memory }; footprint = record { reads = d.footprint.reads; writes = word ∷ d.footprint.writes } }
+has_written d word lock words = record {
+  holding = record d.holding { share = with_words d.holding.share lock words };
+  footprint = record d.footprint { writes = word ∷ d.footprint.writes };
+}
 
 -- a block was stored into: this is the block now
 abbrev pub has_stored : Doing → Home → List Value → Doing
-has_stored d home block = record { holding = record { share = d.holding.share; memory = with_block d.holding.memory home (Some block) }; footprint = d.footprint }
+has_stored d home block =
+    record d { holding = record d.holding { memory = with_block d.holding.memory home (Some block) } }
 
 -- a step with its accesses made: what it does at last, or none where it fails
 pub record Performed (L : Type 0) : Type 0 where
@@ -110,25 +108,26 @@ reads_as None word d go = failed d
 reads_as (Some v) word d go = go v (has_read d word)
 
 -- a shared word is read in the share alone. A word of a table may be read at any time, and leaves no trace
-abbrev pub reads_cell : {L : Type 0} → List Cell → Option Cell → (word : ℕ) → Doing → (ℕ → Doing → Performed L) → Performed L
-reads_cell cells (Some (SharedWord kind (Some guard) initial)) word d go = reads_as (word_in (words_in d.holding.share guard) (place_among cells guard word)) word d go
-reads_cell cells (Some (SharedWord kind None initial)) word d go = failed d
+abbrev pub reads_cell : {L : Type 0} → List Cell → Option Cell → (word : ℕ) → Doing → (ℕ → Doing → Performed L) →
+    Performed L
+reads_cell cells (Some (SharedWord kind (Some guard) initial)) word d go =
+    reads_as (word_in (words_in d.holding.share guard) (place_among cells guard word)) word d go
 reads_cell cells (Some (TableWord value)) word d go = go value d
-reads_cell cells (Some LockWord) word d go = failed d
-reads_cell cells None word d go = failed d
+reads_cell cells _ word d go = failed d
 
 -- the word is written, where its lock is in the share
-abbrev pub writes_in : {L : Type 0} → Option (List ℕ) → (place lock word value : ℕ) → Doing → (Doing → Performed L) → Performed L
+abbrev pub writes_in : {L : Type 0} → Option (List ℕ) → (place lock word value : ℕ) → Doing → (Doing → Performed L) →
+    Performed L
 writes_in None place lock word value d go = failed d
-writes_in (Some words) place lock word value d go = if nat_lt place (length words) then go (has_written d word lock (slice_set words place value)) else failed d
+writes_in (Some words) place lock word value d go =
+    if nat_lt place (length words) then go (has_written d word lock (slice_set words place value)) else failed d
 
 -- a shared word is written in the share alone
-abbrev pub writes_cell : {L : Type 0} → List Cell → Option Cell → (word value : ℕ) → Doing → (Doing → Performed L) → Performed L
-writes_cell cells (Some (SharedWord kind (Some guard) initial)) word value d go = writes_in (words_in d.holding.share guard) (place_among cells guard word) guard word value d go
-writes_cell cells (Some (SharedWord kind None initial)) word value d go = failed d
-writes_cell cells (Some (TableWord v)) word value d go = failed d
-writes_cell cells (Some LockWord) word value d go = failed d
-writes_cell cells None word value d go = failed d
+abbrev pub writes_cell : {L : Type 0} → List Cell → Option Cell → (word value : ℕ) → Doing → (Doing → Performed L) →
+    Performed L
+writes_cell cells (Some (SharedWord kind (Some guard) initial)) word value d go =
+    writes_in (words_in d.holding.share guard) (place_among cells guard word) guard word value d go
+writes_cell cells _ word value d go = failed d
 
 -- the number of a word of a global
 abbrev pub number_in : Option Stretch → (offset : ℕ) → Option ℕ
@@ -156,9 +155,11 @@ loads_as None d go = failed d
 loads_as (Some v) d go = go v
 
 -- the value is stored, where the place is in the block
-abbrev pub stores_in : {L : Type 0} → Option (List Value) → Home → (place : ℕ) → Value → Doing → (Doing → Performed L) → Performed L
+abbrev pub stores_in : {L : Type 0} → Option (List Value) → Home → (place : ℕ) → Value → Doing →
+    (Doing → Performed L) → Performed L
 stores_in None home place value d go = failed d
-stores_in (Some block) home place value d go = if nat_lt place (length block) then go (has_stored d home (slice_set block place value)) else failed d
+stores_in (Some block) home place value d go =
+    if nat_lt place (length block) then go (has_stored d home (slice_set block place value)) else failed d
 
 -- how many words a block has
 abbrev pub length_of : Option (List Value) → Option ℕ
@@ -166,11 +167,15 @@ length_of None = None
 length_of (Some block) = Some (length block)
 
 -- the step with its accesses made
-abbrev pub performed : {L : Type 0} → List Cell → Words → Accesses L → Doing → Performed L
-performed cells words (Reads global offset next) d = reads_word cells (number_in (words global) offset) d (λ v e. performed cells words (next v) e)
-performed cells words (Writes global offset word next) d = writes_word cells (number_in (words global) offset) word d (λ e. performed cells words next e)
-performed cells words (Loads home place next) d = loads_as (value_in (d.holding.memory home) place) d (λ v. performed cells words (next v) d)
-performed cells words (Stores home place value next) d = stores_in (d.holding.memory home) home place value d (λ e. performed cells words next e)
-performed cells words (Looks home next) d = performed cells words (next (length_of (d.holding.memory home))) d
-performed cells words (Then last) d = performs last d
-performed cells words Fails d = failed d
+abbrev pub performed : {L : Type 0} → Edge → Accesses L → Doing → Performed L
+performed edge (Reads global offset next) d =
+    reads_word edge.cells (number_in (edge.words global) offset) d (λ v e. performed edge (next v) e)
+performed edge (Writes global offset word next) d =
+    writes_word edge.cells (number_in (edge.words global) offset) word d (λ e. performed edge next e)
+performed edge (Loads home place next) d =
+    loads_as (value_in (d.holding.memory home) place) d (λ v. performed edge (next v) d)
+performed edge (Stores home place value next) d =
+    stores_in (d.holding.memory home) home place value d (λ e. performed edge next e)
+performed edge (Looks home next) d = performed edge (next (length_of (d.holding.memory home))) d
+performed edge (Then last) d = performs last d
+performed edge Fails d = failed d

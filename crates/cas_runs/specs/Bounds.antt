@@ -1,4 +1,5 @@
 -- Prices of steps, weights of functions, and the bounds on the code and the frame of a compiled function.
+use Rattle.cas_runs.specs.Label.{Each}
 use Rattle.std.specs.Prelude.{ℕ, ◌+◌, ◌*◌, ◌≤◌, nat_lt, List, [], ◌∷◌, if◌then◌else◌}
 
 -- of a source function with so many nodes: the most instructions that it is compiled to. It is also its weight
@@ -20,8 +21,7 @@ pub record IsPrice (n : ℕ) : Type 0 where
 
 -- each is one
 abbrev pub ArePrices : List ℕ → Type 0
-ArePrices [] = Unit {0}
-ArePrices (n ∷ ns) = IsPrice n × ArePrices ns
+ArePrices = Each IsPrice
 
 -- the constant of entries
 abbrev pub IsEntryPrice : ℕ → Type 0
@@ -40,11 +40,13 @@ total (n ∷ ns) = n + total ns
 abbrev pub weight : (prices : List ℕ) → (constant names parameters : ℕ) → ℕ
 weight prices constant names parameters = total prices + constant * (names + parameters + 8)
 
--- How a language with functions F and activations A prices its steps: as the source, each alike, by the counts of its functions; or by the constants
--- of what a step takes, which are that of its form and those of its expressions and operands. For the weight it gives the constants of all forms
+-- How a language with functions F and activations A prices its steps: as the source, each alike, by the counts of its
+-- functions; or by the constants of what a step takes, which are that of its form and those of its expressions and
+-- operands. For the weight it gives the constants of all forms
 pub data Tariff (F A : Type 0) : Type 0 where
   BySize : (nodes cells : F → ℕ) → Tariff F A
-  ByForms : (form : A → ℕ) (operands : A → List ℕ) (entry : ℕ) (names parameters : F → ℕ) (forms : F → List ℕ) → Tariff F A
+  ByForms : (form : A → ℕ) (operands : A → List ℕ) (entry : ℕ) (names parameters : F → ℕ) (forms : F → List ℕ) →
+      Tariff F A
 
 -- the greater of the two
 abbrev pub greater : ℕ → ℕ → ℕ
@@ -63,7 +65,8 @@ step_price (ByForms form operands entry names parameters forms) fs a = form a + 
 -- what the first step of an activation costs in addition
 abbrev pub first_price : {F A : Type 0} → Tariff F A → (blocks : F → List ℕ) → F → ℕ
 first_price (BySize nodes cells) blocks f = 0
-first_price (ByForms form operands entry names parameters forms) blocks f = entry_price entry (total (blocks f)) (names f) (parameters f)
+first_price (ByForms form operands entry names parameters forms) blocks f =
+    entry_price entry (total (blocks f)) (names f) (parameters f)
 
 -- what it costs where a run waits for the outside, or has ended
 abbrev pub waiting_price : {F A : Type 0} → Tariff F A → List F → ℕ
@@ -78,4 +81,5 @@ weight_of (ByForms form operands entry names parameters forms) f = weight (forms
 -- its constants are prices
 abbrev pub IsTariff : {F A : Type 0} → Tariff F A → Type 0
 IsTariff (BySize nodes cells) = Unit {0}
-IsTariff {F = F} {A = A} (ByForms form operands entry names parameters forms) = ((a : A) → IsPrice (form a) × ArePrices (operands a)) × IsEntryPrice entry × ((f : F) → ArePrices (forms f))
+IsTariff {F = F} {A = A} (ByForms form operands entry names parameters forms) =
+    ((a : A) → IsPrice (form a) × ArePrices (operands a)) × IsEntryPrice entry × ((f : F) → ArePrices (forms f))

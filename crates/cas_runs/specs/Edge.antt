@@ -1,12 +1,14 @@
 -- What stands at the edge of a unit: the words by number, and the functions by name.
-use Rattle.std.specs.Prelude.{◌≡◌, ℕ, ◌<◌, ◌≤◌, nat_eq, Bool, IsTrue, List, [], ◌∷◌, length, Option, Some, None, slice_get, if◌then◌else◌}
+use Rattle.std.specs.Prelude.{◌≡◌, ℕ, ◌<◌, ◌≤◌, nat_eq, Bool, IsTrue, List, [], ◌∷◌, length, Option, Some, None}
+use Rattle.std.specs.Prelude.{slice_get, if◌then◌else◌}
 use Rattle.cas_base.specs.Kind.{is_of_kind}
 use Rattle.cas_base.specs.declared.kind.Kind.{Kind}
 use Rattle.cas_base.specs.declared.kind.Ty.{Ty}
 use Rattle.cas_base.specs.declared.kind.Ty.TheVariants.{Void, Int, Ptr, Array}
-use Rattle.cas_runs.specs.Label.{NameBytes, same_name, Shown, Word, Place, Object, Share}
+use Rattle.cas_runs.specs.Label.{Each, Both, NameBytes, same_name, Shown, Word, Place, Object, Held, Share}
 
--- what a word is: a lock, a shared word with its kind and the lock that guards it, if its guard is a lock, or a word of a table of constants
+-- what a word is: a lock, a shared word with its kind and the lock that guards it, if its guard is a lock, or a word
+-- of a table of constants
 pub data Cell : Type 0 where
   LockWord : Cell
   SharedWord : (kind : Kind) (guard : Option ℕ) (initial : ℕ) → Cell
@@ -20,9 +22,19 @@ pub record Signature : Type 0 where
   pub holds : List ℕ
   pub inside : Bool
 
--- a lock goes by the number of its word
+-- the words of a global or of a lock: the number of the first, and how many they are
+pub record Stretch : Type 0 where
+  pub first : ℕ
+  pub size : ℕ
+
+-- where the words of each global and lock stand
+abbrev pub Words : Type 0
+Words = NameBytes → Option Stretch
+
+-- the words, where those of each global and lock stand, and the functions. A lock goes by the number of its word
 pub record Edge : Type 0 where
   pub cells : List Cell
+  pub words : Words
   pub functions : List Signature
 
 -- the word is a value of the kind
@@ -35,9 +47,8 @@ kind_under None lock kind = None
 kind_under (Some guard) lock kind = if nat_eq guard lock then Some kind else None
 
 abbrev pub kind_if_guarded : ℕ → Cell → Option Kind
-kind_if_guarded lock LockWord = None
 kind_if_guarded lock (SharedWord kind guard initial) = kind_under guard lock kind
-kind_if_guarded lock (TableWord value) = None
+kind_if_guarded lock _ = None
 
 abbrev pub and_kind : Option Kind → List Kind → List Kind
 and_kind None kinds = kinds
@@ -50,10 +61,7 @@ guarded lock (c ∷ cs) = and_kind (kind_if_guarded lock c) (guarded lock cs)
 
 -- as many words as kinds, and each a value of its kind
 abbrev pub AreOfKinds : List ℕ → List Kind → Type 0
-AreOfKinds [] [] = Unit {0}
-AreOfKinds [] (k ∷ ks) = ⊥
-AreOfKinds (w ∷ ws) [] = ⊥
-AreOfKinds (w ∷ ws) (k ∷ ks) = IsOfKind w k × AreOfKinds ws ks
+AreOfKinds = Both IsOfKind
 
 -- the words are such as the lock can guard
 pub record AreGuarded (edge : Edge) (lock : ℕ) (words : List ℕ) : Type 0 where
@@ -67,18 +75,20 @@ pub record AreUnder (edge : Edge) (lock : ℕ) (words : List ℕ) : Type 0 where
 
 -- all locks of the share are greater than this one
 abbrev pub AreAbove : ℕ → Share → Type 0
-AreAbove lock [] = Unit {0}
-AreAbove lock (h ∷ hs) = (lock < h.lock) × AreAbove lock hs
+AreAbove lock = Each (λ (h : Held). lock < h.lock)
+
+-- the share is in order, and the words are such for their lock
+abbrev pub IsOrderedWith : (ℕ → List ℕ → Type 0) → Share → Type 0
+IsOrderedWith AreSuch [] = Unit {0}
+IsOrderedWith AreSuch (h ∷ hs) = AreSuch h.lock h.words × AreAbove h.lock hs × IsOrderedWith AreSuch hs
 
 -- the share is in order, and has as many words as its locks guard
 abbrev pub IsOrdered : Edge → Share → Type 0
-IsOrdered edge [] = Unit {0}
-IsOrdered edge (h ∷ hs) = AreUnder edge h.lock h.words × AreAbove h.lock hs × IsOrdered edge hs
+IsOrdered edge = IsOrderedWith (AreUnder edge)
 
--- the share is in order, and its words are such as its locks can guard
+-- and its words are such as its locks can guard
 abbrev pub IsShare : Edge → Share → Type 0
-IsShare edge [] = Unit {0}
-IsShare edge (h ∷ hs) = AreGuarded edge h.lock h.words × AreAbove h.lock hs × IsShare edge hs
+IsShare edge = IsOrderedWith (AreGuarded edge)
 
 abbrev pub HasContents : Option (List (Option ℕ)) → Type 0
 HasContents None = ⊥
@@ -100,15 +110,10 @@ abbrev pub IsOfType : List Object → Ty → Shown → Type 0
 IsOfType objects (Int kind) (Word w) = IsOfKind w kind
 IsOfType objects (Ptr kind) (Word w) = w ≡ 0
 IsOfType objects (Ptr kind) (Place object place) = IsPlace objects kind object place
-IsOfType objects (Int kind) (Place object place) = ⊥
-IsOfType objects Void value = ⊥
-IsOfType objects (Array kind size) value = ⊥
+IsOfType objects _ _ = ⊥
 
 abbrev pub AreOfTypes : List Object → List Ty → List Shown → Type 0
-AreOfTypes objects [] [] = Unit {0}
-AreOfTypes objects [] (v ∷ vs) = ⊥
-AreOfTypes objects (t ∷ ts) [] = ⊥
-AreOfTypes objects (t ∷ ts) (v ∷ vs) = IsOfType objects t v × AreOfTypes objects ts vs
+AreOfTypes objects = Both (IsOfType objects)
 
 -- the types of what a function returns: none, or one value
 abbrev pub returned : Ty → List Ty

@@ -11,13 +11,14 @@ use Rattle.std.specs.Prelude.{◌≡◌, ℕ, ◌+◌, ◌<◌, ◌≤◌, List,
 use Rattle.cas_runs.specs.Label.{NameBytes}
 use Rattle.cas_runs.specs.Edge.{results_of}
 use Rattle.cas_runs.specs.Naming.{Home, Value, Number, Memory, with_block}
+use Rattle.cas_runs.specs.Refines.{Within}
 use Rattle.cas_runs.specs.Bounds.{step_price, first_price}
 use Rattle.cas_runs.specs.Access.{Accesses, Reads, Writes, Loads, Stores, Looks, Then, Fails, Holding, Doing}
 use Rattle.cas_runs.specs.Access.{value_in, length_of, performed}
 use Rattle.cas_runs.specs.Forms.{FootIn, ShareSelfSame}
 use Rattle.cas_runs.specs.Calls.{Activations, Last, Goes, Takes, Gives, Puts, Calls, Tails, Returns, Past}
 use Rattle.cas_runs.specs.Calls.{nothing_touched, fresh, set_blocks}
-use Rattle.cas_runs.specs.Passing.{Relation, AllMatch, OnlyPasses, s_step}
+use Rattle.cas_runs.specs.Passing.{Position, Relation, AllMatch, OnlyPasses, s_step}
 
 -- a block with a value at a place
 abbrev pub set_in : Option (List Value) → (place : ℕ) → Value → Option (List Value)
@@ -117,16 +118,16 @@ module _ {F A G B : Type 0} (r : Relation F A G B) (w : Held F A G B) where
   pub data Amounts (a : Activation F G) : (credit : ℕ) → (t s : Memory) → TForm → SForm → Type 0 where
     both_read :
         {credit : ℕ} {t s : Memory} {global : NameBytes} {offset : ℕ} {next : ℕ → TForm} {next' : ℕ → SForm}
-        → ((v : ℕ) → r.match_values (Number v) (Number v) → Amounts a credit t s (next v) (next' v))
+        → ((v : ℕ) → r.by.match_values (Number v) (Number v) → Amounts a credit t s (next v) (next' v))
         → Amounts a credit t s (Reads global offset next) (Reads global offset next')
     source_reads :
         {credit : ℕ} {t s : Memory} {global : NameBytes} {offset : ℕ} {x : TForm} {next' : ℕ → SForm}
-        → ((v : ℕ) → r.match_values (Number v) (Number v) → Amounts a credit t s x (next' v))
+        → ((v : ℕ) → r.by.match_values (Number v) (Number v) → Amounts a credit t s x (next' v))
         → Amounts a credit t s x (Reads global offset next')
     -- no step of the target follows a write: the credit is gone
     both_write :
         {credit : ℕ} {t s : Memory} {global : NameBytes} {offset word : ℕ} {next : TForm} {next' : SForm}
-        → r.match_values (Number word) (Number word)
+        → r.by.match_values (Number word) (Number word)
         → Amounts a 0 t s next next'
         → Amounts a credit t s (Writes global offset word next) (Writes global offset word next')
     -- the target finds this value where the source finds that
@@ -198,7 +199,7 @@ module _ {F A G B : Type 0} (r : Relation F A G B) (w : Held F A G B) where
     pub data Alone (a : Activation F G) (x : A) (t : Memory) : Memory → SForm → Type 0 where
       reads_alone :
           {s : Memory} {global : NameBytes} {offset : ℕ} {next : ℕ → SForm}
-          → ((v : ℕ) → r.match_values (Number v) (Number v) → Alone a x t s (next v))
+          → ((v : ℕ) → r.by.match_values (Number v) (Number v) → Alone a x t s (next v))
           → Alone a x t s (Reads global offset next)
       loads_alone :
           {s : Memory} {home : Home} {at : ℕ} {next : Value → SForm}
@@ -242,15 +243,39 @@ module _ {F A G B : Type 0} (r : Relation F A G B) (w : Held F A G B) where
   -- what such a pass shows
   pub record Steps : Type 0 where
     pub forms :
-        (a : Activation F G) → r.made a.target a.source
+        (a : Activation F G) → r.by.made a.target a.source
         → (x : A) (t : Memory) (y : B) (s : Memory) → w.match_states a x t y s
         → Leads a x t y s
     pub enters :
-        (a : Activation F G) → r.made a.target a.source
+        (a : Activation F G) → r.by.made a.target a.source
         → (t s : Memory) → w.match_memory t s
         → (vs ws : List Value) → AllMatch r vs ws
         → BeginIf a (r.target.enter a.target a.serial vs) (with_blocks_of r.target a.target a.serial t)
         (r.source.enter a.source a.serial ws) (with_blocks_of r.source a.source a.serial s)
+
+  -- The relation that `Held` makes of a relation.
+
+  -- how far a step of the source has been done
+  pub record SoFar (y : B) (k : Holding) : Type 0 where
+    pub left : SForm
+    pub done : Doing
+    pub so_far :
+        performed r.setting.edge (r.source.form y) (record { holding = k; footprint = nothing_touched })
+        ≡ performed r.setting.edge left done
+    pub share : done.holding.share ≡ k.share
+
+  -- where the target stands within a step of the source
+  pub record Midway (f : F) (g : G) (n : ℕ) (x : Position A) (y : Position B) : Type 0 where
+    pub at : SoFar y.now y.holding
+    pub credit : ℕ
+    pub frame : w.source_frame n y.holding.memory at.done.holding.memory
+    pub leads :
+        Amounts (record { target = f; source = g; serial = n }) credit x.holding.memory at.done.holding.memory
+        (r.target.form x.now) at.left
+    pub price : x.block.price + credit ≤ y.block.price
+    pub within : Within x.block y.block
+    pub touches :
+        FootIn (s_step r y.now y.holding).footprint (record { reads = y.block.reads; writes = y.block.writes })
 
 -- a frame condition
 pub record IsFrame (frame : ℕ → Memory → Memory → Type 0) : Type 0 where
@@ -259,17 +284,17 @@ pub record IsFrame (frame : ℕ → Memory → Memory → Type 0) : Type 0 where
 
 -- what threads hold matches where shares are equal, whatever is in memory, and is settled where memories match
 pub record HoldsBy {F A G B : Type 0} (r : Relation F A G B) (w : Held F A G B) : Type 0 where
-  pub words : (p q : Past) (h k : Holding) → r.match_memory p h q k → ShareSelfSame r.match_values k.share
+  pub words : (p q : Past) (h k : Holding) → r.by.match_memory p h q k → ShareSelfSame r.by.match_values k.share
   pub again :
-      (p q : Past) (h k h' k' : Holding) → r.match_memory p h q k
-      → h'.share ≡ k'.share → ShareSelfSame r.match_values k'.share → r.match_memory p h' q k'
+      (p q : Past) (h k h' k' : Holding) → r.by.match_memory p h q k
+      → h'.share ≡ k'.share → ShareSelfSame r.by.match_values k'.share → r.by.match_memory p h' q k'
   pub settles :
-      (p q : Past) (h k : Holding) → r.match_memory p h q k → w.match_memory h.memory k.memory → r.settled p h q k
-  pub memories : (p q : Past) (h k : Holding) → r.settled p h q k → w.match_memory h.memory k.memory
+      (p q : Past) (h k : Holding) → r.by.match_memory p h q k → w.match_memory h.memory k.memory → r.by.settled p h q k
+  pub memories : (p q : Past) (h k : Holding) → r.by.settled p h q k → w.match_memory h.memory k.memory
   pub frame :
       (n : ℕ) (h k h' k' : Holding) → w.target_frame n h.memory h'.memory → w.source_frame n k.memory k'.memory
-      → r.frame n h k h' k'
+      → r.by.frame n h k h' k'
   pub frames :
-      (n : ℕ) (h k h' k' : Holding) → r.frame n h k h' k'
+      (n : ℕ) (h k h' k' : Holding) → r.by.frame n h k h' k'
       → w.target_frame n h.memory h'.memory × w.source_frame n k.memory k'.memory
   pub conditions : IsFrame w.target_frame × IsFrame w.source_frame

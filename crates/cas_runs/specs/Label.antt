@@ -4,6 +4,17 @@ use Rattle.cas_base.specs.declared.kind.Kind.{Kind}
 use Rattle.cas_base.specs.declared.label.Label.{Label}
 use Rattle.cas_base.specs.declared.label.Label.TheVariants as plain
 
+-- each of them is so
+abbrev pub Each : {A : Type 0} → (A → Type 0) → List A → Type 0
+Each P [] = Unit {0}
+Each P (x ∷ xs) = P x × Each P xs
+
+-- as many of both, each so of the other in its place
+abbrev pub Both : {A B : Type 0} → (A → B → Type 0) → List A → List B → Type 0
+Both P [] [] = Unit {0}
+Both P (x ∷ xs) (y ∷ ys) = P x y × Both P xs ys
+Both P _ _ = ⊥
+
 -- a name, by its bytes
 abbrev pub NameBytes : Type 0
 NameBytes = List ℕ
@@ -18,8 +29,8 @@ pub data Owner : Type 0 where
   Inside : Owner
   Outside : Owner
 
--- an object that has crossed: how many cells it has, and of which kind. It is dead where it has no contents any more. A cell's content is its
--- word, or none where it is a pointer, as no object of the source has
+-- an object that has crossed: how many cells it has, and of which kind. It is dead where it has no contents any more. A
+-- cell's content is its word, or none where it is a pointer, as no object of the source has
 pub record Object : Type 0 where
   pub owner : Owner
   pub kind : Kind
@@ -35,7 +46,8 @@ pub record Held : Type 0 where
 abbrev pub Share : Type 0
 Share = List Held
 
--- what crosses with a call, an entry or a return: arguments or result, the share, and the objects in the order of their first crossing
+-- what crosses with a call, an entry or a return: arguments or result, the share, and the objects in the order of their
+-- first crossing
 pub record Crossing : Type 0 where
   pub values : List Shown
   pub share : Share
@@ -52,16 +64,18 @@ pub data RunLabel : Type 0 where
   Call : (function : NameBytes) (crossing : Crossing) → RunLabel
   Leave : (crossing : Crossing) → RunLabel
 
+-- a Call of this function, or a Leave
+abbrev pub crossing_label : Option NameBytes → Crossing → RunLabel
+crossing_label (Some function) crossing = Call function crossing
+crossing_label None crossing = Leave crossing
+
 -- what the label is where runs of threads are put together: the crossing labels don't occur there
 abbrev pub plain_label : RunLabel → Option Label
 plain_label (Lock lock words) = Some (plain.Lock lock)
 plain_label (Unlock lock words) = Some (plain.Unlock lock)
 plain_label (Out word) = Some (plain.Out word)
 plain_label Done = Some plain.Done
-plain_label (Enter function crossing) = None
-plain_label (Back crossing) = None
-plain_label (Call function crossing) = None
-plain_label (Leave crossing) = None
+plain_label _ = None
 
 abbrev pub and_plain : Option Label → List Label → List Label
 and_plain None labels = labels
@@ -74,15 +88,13 @@ plain_labels (l ∷ ls) = and_plain (plain_label l) (plain_labels ls)
 
 -- none of them is a crossing label
 abbrev pub ArePlain : List RunLabel → Type 0
-ArePlain [] = Unit {0}
-ArePlain (l ∷ ls) = ((label : Label) × (plain_label l ≡ Some label)) × ArePlain ls
+ArePlain = Each (λ l. (label : Label) × (plain_label l ≡ Some label))
 
 -- the same name
 abbrev pub same_name : NameBytes → NameBytes → Bool
 same_name [] [] = true
-same_name [] (b ∷ bs) = false
-same_name (a ∷ rest) [] = false
 same_name (a ∷ rest) (b ∷ bs) = if nat_eq a b then same_name rest bs else false
+same_name _ _ = false
 
 -- the locks of a share, in ascending order
 abbrev pub locks_of : Share → List ℕ

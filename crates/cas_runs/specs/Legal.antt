@@ -14,7 +14,8 @@ pub data LockState : Type 0 where
   IsHeld : LockState
 
 abbrev pub value_if_guarded : ℕ → Cell → List ℕ → List ℕ
-value_if_guarded lock (SharedWord kind (Some guard) initial) words = if nat_eq guard lock then initial ∷ words else words
+value_if_guarded lock (SharedWord kind (Some guard) initial) words =
+    if nat_eq guard lock then initial ∷ words else words
 value_if_guarded lock (SharedWord kind None initial) words = words
 value_if_guarded lock LockWord words = words
 value_if_guarded lock (TableWord value) words = words

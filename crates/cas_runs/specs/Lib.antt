@@ -1,11 +1,10 @@
 pub mod Access
 pub mod Bounds
 pub mod Calls
+pub mod Chains
 pub mod Determined
 pub mod Edge
 pub mod Forms
-pub mod Forward
-pub mod Receiving
 pub mod Held
 pub mod Label
 pub mod Legal
@@ -15,6 +14,7 @@ pub mod Outside
 pub mod Passing
 pub mod Placing
 pub mod Pointing
+pub mod Receiving
 pub mod Refines
 pub mod Rules
 pub mod Sections

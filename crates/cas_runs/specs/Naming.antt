@@ -1,20 +1,22 @@
 -- Namings: which places of a machine's memory are the objects that have crossed.
-use Rattle.std.specs.Prelude.{ℕ, zero, suc, ◌+◌, ◌≤◌, nat_eq, nat_lt, nat_le, Bool, true, false, ◌&&◌, List, [], ◌∷◌, ◌++◌, length, Option, Some, None, slice_get, if◌then◌else◌}
+use Rattle.std.specs.Prelude.{ℕ, zero, suc, ◌+◌, ◌≤◌, nat_eq, nat_lt, nat_le, Bool, true, false, ◌&&◌, List, [], ◌∷◌}
+use Rattle.std.specs.Prelude.{◌++◌, length, Option, Some, None, slice_get, if◌then◌else◌}
 use Rattle.cas_base.specs.declared.kind.Kind.{Kind}
 use Rattle.cas_base.specs.declared.kind.Kind.TheVariants.{I8, U8, I16, U16, I32, U32}
 use Rattle.cas_base.specs.declared.reg.Reg.{Reg}
 use Rattle.cas_runs.specs.Label.{NameBytes, same_name, Shown, Word, Place, Owner, Inside, Outside, Object}
 
--- a block of memory: of an activation of this function, by its serial number and the place of the block among the function's, or an object of the
--- outside's, by its number
+-- a block of memory: of an activation of this function, by its serial number and the place of the block among the
+-- function's, or an object of the outside's, by its number
 pub data Home : Type 0 where
   Own : (function : NameBytes) (activation block : ℕ) → Home
   Theirs : (object : ℕ) → Home
 
--- what a cell or a register holds where no step may look into it: no value at all, or what the caller had in a register
+-- what a cell or a register holds where no step may look into it: no value at all, or what the caller of an
+-- activation had in a register. Another activation's is another value
 pub data Unseen : Type 0 where
   Unset : Unseen
-  Callers : (register : Reg) → Unseen
+  Callers : (activation : ℕ) (register : Reg) → Unseen
 
 -- a value of a language between: a word, or a place in a block; or what may only be kept and put back
 pub data Value : Type 0 where
@@ -35,11 +37,13 @@ Layout = NameBytes → ℕ → List Part
 -- the parts begin here or later, in order, don't overlap, and end within the block
 abbrev pub ArePlaced : ℕ → ℕ → List Part → Type 0
 ArePlaced from size [] = Unit {0}
-ArePlaced from size (p ∷ ps) = (from ≤ p.from) × (1 ≤ p.size) × (p.from + p.size ≤ size) × ArePlaced (p.from + p.size) size ps
+ArePlaced from size (p ∷ ps) =
+    (from ≤ p.from) × (1 ≤ p.size) × (p.from + p.size ≤ size) × ArePlaced (p.from + p.size) size ps
 
 -- the objects of a block of an activation that has begun, where so many have
 abbrev pub parts_at : Layout → (begun : ℕ) → Home → List Part
-parts_at layout begun (Own function activation block) = if nat_lt activation begun then layout function block else []
+parts_at layout begun (Own function activation block) =
+    if nat_lt activation begun then layout function block else []
 parts_at layout begun (Theirs object) = []
 
 -- an object that has crossed, as the machine has it
@@ -54,9 +58,8 @@ Naming = List Named
 -- the homes are equal
 abbrev pub same_home : Home → Home → Bool
 same_home (Own f a b) (Own g c d) = same_name f g && nat_eq a c && nat_eq b d
-same_home (Own f a b) (Theirs n) = false
-same_home (Theirs n) (Own f a b) = false
 same_home (Theirs n) (Theirs m) = nat_eq n m
+same_home _ _ = false
 
 -- the kinds are told apart by a number
 abbrev pub kind_number : Kind → ℕ
@@ -69,7 +72,8 @@ kind_number U32 = 5
 
 -- the parts are equal
 abbrev pub same_part : Part → Part → Bool
-same_part p q = nat_eq p.from q.from && nat_eq p.size q.size && nat_eq (kind_number p.kind) (kind_number q.kind)
+same_part p q =
+    nat_eq p.from q.from && nat_eq p.size q.size && nat_eq (kind_number p.kind) (kind_number q.kind)
 
 -- the object is this part of this block
 abbrev pub is_it : Home → Part → Named → Bool
@@ -97,7 +101,8 @@ part_by (p ∷ ps) at place = if is_place p at place then Some p else part_by ps
 -- an object that has crossed before crosses again
 abbrev pub again : Option Named → Naming → Home → (at place : ℕ) → Option Naming
 again None ns home at place = None
-again (Some n) ns home at place = if same_home n.home home && is_place n.part at place then Some ns else None
+again (Some n) ns home at place =
+    if same_home n.home home && is_place n.part at place then Some ns else None
 
 -- where it has no number yet
 abbrev pub if_new : Option ℕ → Naming → Named → Option Naming
@@ -106,19 +111,18 @@ if_new (Some k) ns n = None
 
 -- an object of the unit's crosses for the first time, and takes the next number
 abbrev pub first_time : Option Part → Naming → Home → Option Naming
-first_time None ns home = None
-first_time (Some part) ns (Theirs object) = None
-first_time (Some part) ns (Own function activation block) = if_new (number_of ns (Own function activation block) part) ns (record { home = Own function activation block; part = part })
+first_time (Some part) ns (Own function activation block) =
+    let named : Named = record { home = Own function activation block; part = part } in
+    if_new (number_of ns named.home part) ns named
+first_time _ ns home = None
 
 -- the naming after a value has crossed as this: none if it can't be shown so
 abbrev pub named_by : (Home → List Part) → Naming → Value → Shown → Option Naming
 named_by parts ns (Number v) (Word w) = if nat_eq v w then Some ns else None
-named_by parts ns (Number v) (Place object place) = None
-named_by parts ns (Pointer home at) (Word w) = None
-named_by parts ns (Hidden what) (Word w) = None
-named_by parts ns (Hidden what) (Place object place) = None
 named_by parts ns (Pointer home at) (Place object place) =
-    if nat_lt object (length ns) then again (slice_get ns object) ns home at place else if nat_eq object (length ns) then first_time (part_by (parts home) at place) ns home else None
+    if nat_lt object (length ns) then again (slice_get ns object) ns home at place
+    else if nat_eq object (length ns) then first_time (part_by (parts home) at place) ns home else None
+named_by parts ns _ _ = None
 
 -- goes on with a value, if there is one
 abbrev pub and_then : {A B : Type 0} → Option A → (A → Option B) → Option B
@@ -128,9 +132,8 @@ and_then (Some a) go = go a
 -- the same for several values, from the first to the last
 abbrev pub all_named_by : (Home → List Part) → Naming → List Value → List Shown → Option Naming
 all_named_by parts ns [] [] = Some ns
-all_named_by parts ns [] (x ∷ xs) = None
-all_named_by parts ns (v ∷ vs) [] = None
 all_named_by parts ns (v ∷ vs) (x ∷ xs) = and_then (named_by parts ns v x) (λ ms. all_named_by parts ms vs xs)
+all_named_by parts ns _ _ = None
 
 -- the place is within the part, or at its end
 abbrev pub reaches : Part → (at : ℕ) → Bool
@@ -175,8 +178,7 @@ cells (v ∷ vs) (suc from) (suc n) = cells vs from (suc n)
 -- the word of a cell, if it is one
 abbrev pub content : Value → Option ℕ
 content (Number w) = Some w
-content (Pointer home place) = None
-content (Hidden what) = None
+content _ = None
 
 -- the words of the cells
 abbrev pub contents : List Value → List (Option ℕ)
@@ -195,7 +197,12 @@ owner_of (Theirs object) = Outside
 
 -- an object, as a label shows it
 abbrev pub object_of : Memory → Named → Object
-object_of memory n = record { owner = owner_of n.home; kind = n.part.kind; size = n.part.size; contents = contents_in (memory n.home) n.part }
+object_of memory n = record {
+  owner = owner_of n.home;
+  kind = n.part.kind;
+  size = n.part.size;
+  contents = contents_in (memory n.home) n.part;
+}
 
 -- all of them
 abbrev pub objects_of : Memory → Naming → List Object
@@ -205,36 +212,33 @@ objects_of memory (n ∷ ns) = object_of memory n ∷ objects_of memory ns
 -- objects are compared field by field
 abbrev pub same_owner : Owner → Owner → Bool
 same_owner Inside Inside = true
-same_owner Inside Outside = false
-same_owner Outside Inside = false
 same_owner Outside Outside = true
+same_owner _ _ = false
 
 abbrev pub same_content : Option ℕ → Option ℕ → Bool
 same_content None None = true
-same_content None (Some w) = false
-same_content (Some v) None = false
 same_content (Some v) (Some w) = nat_eq v w
+same_content _ _ = false
 
 abbrev pub same_contents : List (Option ℕ) → List (Option ℕ) → Bool
 same_contents [] [] = true
-same_contents [] (w ∷ ws) = false
-same_contents (v ∷ vs) [] = false
 same_contents (v ∷ vs) (w ∷ ws) = same_content v w && same_contents vs ws
+same_contents _ _ = false
 
 abbrev pub same_state : Option (List (Option ℕ)) → Option (List (Option ℕ)) → Bool
 same_state None None = true
-same_state None (Some ws) = false
-same_state (Some vs) None = false
 same_state (Some vs) (Some ws) = same_contents vs ws
+same_state _ _ = false
 
 abbrev pub same_object : Object → Object → Bool
-same_object o p = same_owner o.owner p.owner && nat_eq (kind_number o.kind) (kind_number p.kind) && nat_eq o.size p.size && same_state o.contents p.contents
+same_object o p =
+    same_owner o.owner p.owner && nat_eq (kind_number o.kind) (kind_number p.kind) && nat_eq o.size p.size
+    && same_state o.contents p.contents
 
 abbrev pub same_objects : List Object → List Object → Bool
 same_objects [] [] = true
-same_objects [] (p ∷ ps) = false
-same_objects (o ∷ os) [] = false
 same_objects (o ∷ os) (p ∷ ps) = same_object o p && same_objects os ps
+same_objects _ _ = false
 
 -- the value that crosses as this, where these objects have crossed
 abbrev pub value_at : Option Named → (place : ℕ) → Option Value
@@ -306,9 +310,11 @@ pub record Crossed : Type 0 where
 abbrev pub and_named : Named → Crossed → Crossed
 and_named n c = record { naming = n ∷ c.naming; memory = c.memory }
 
--- what the outside leaves, from the object with number k on: new contents of the objects that have crossed, and objects of its own. Nothing else of
--- a block changes
+-- what the outside leaves, from the object with number k on: new contents of the objects that have crossed, and objects
+-- of its own. Nothing else of a block changes
 abbrev pub brought : Memory → Naming → (k : ℕ) → List Object → Crossed
 brought memory ns k [] = record { naming = ns; memory = memory }
-brought memory [] k (o ∷ os) = and_named (theirs k o) (brought (with_block memory (Theirs k) (new_block o.size o.contents)) [] (k + 1) os)
-brought memory (n ∷ ns) k (o ∷ os) = and_named n (brought (with_block memory n.home (left_in n (memory n.home) o.contents)) ns (k + 1) os)
+brought memory [] k (o ∷ os) =
+    and_named (theirs k o) (brought (with_block memory (Theirs k) (new_block o.size o.contents)) [] (k + 1) os)
+brought memory (n ∷ ns) k (o ∷ os) =
+    and_named n (brought (with_block memory n.home (left_in n (memory n.home) o.contents)) ns (k + 1) os)

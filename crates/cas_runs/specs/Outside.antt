@@ -1,8 +1,11 @@
 -- What the outside may bring, after the labels of a run so far. It rests on labels alone, and on no language.
-use Rattle.std.specs.Prelude.{◌≡◌, ℕ, ◌+◌, ◌≤◌, nat_eq, nat_lt, true, List, [], ◌∷◌, length, Option, Some, None, if◌then◌else◌}
+use Rattle.std.specs.Prelude.{◌≡◌, ℕ, ◌+◌, ◌≤◌, nat_eq, nat_lt, true, List, [], ◌∷◌, length, Option, Some, None}
+use Rattle.std.specs.Prelude.{if◌then◌else◌}
 use Rattle.cas_base.specs.declared.kind.Kind.{Kind}
-use Rattle.cas_runs.specs.Label.{NameBytes, Shown, Word, Place, Outside, Object, Crossing, RunLabel, Lock, Unlock, Out, Done, Enter, Back, Call, Leave, locks_of}
-use Rattle.cas_runs.specs.Edge.{Signature, Edge, IsOfKind, IsShare, AreOfTypes, returned, signature_of, most_cells, most_live}
+use Rattle.cas_runs.specs.Label.{Each, NameBytes, Shown, Word, Place, Owner, Outside, Object, Crossing, RunLabel}
+use Rattle.cas_runs.specs.Label.{Enter, Back, Call, Leave, locks_of}
+use Rattle.cas_runs.specs.Edge.{Signature, Edge, IsOfKind, IsShare, AreOfTypes, returned, signature_of, most_cells}
+use Rattle.cas_runs.specs.Edge.{most_live}
 
 -- a call or an entry that hasn't returned yet, with the locks of the share that came or went with it
 pub data Pending : Type 0 where
@@ -20,10 +23,7 @@ pending (Enter f crossing ∷ ls) = Entered f (locks_of crossing.share) ∷ pend
 pending (Call f crossing ∷ ls) = Called f (locks_of crossing.share) ∷ pending ls
 pending (Back crossing ∷ ls) = without_newest (pending ls)
 pending (Leave crossing ∷ ls) = without_newest (pending ls)
-pending (Lock l words ∷ ls) = pending ls
-pending (Unlock l words ∷ ls) = pending ls
-pending (Out w ∷ ls) = pending ls
-pending (Done ∷ ls) = pending ls
+pending (l ∷ ls) = pending ls
 
 -- the objects that have crossed, as the newest crossing shows them
 abbrev pub crossed : List RunLabel → List Object
@@ -32,38 +32,45 @@ crossed (Enter f crossing ∷ ls) = crossing.objects
 crossed (Call f crossing ∷ ls) = crossing.objects
 crossed (Back crossing ∷ ls) = crossing.objects
 crossed (Leave crossing ∷ ls) = crossing.objects
-crossed (Lock l words ∷ ls) = crossed ls
-crossed (Unlock l words ∷ ls) = crossed ls
-crossed (Out w ∷ ls) = crossed ls
-crossed (Done ∷ ls) = crossed ls
+crossed (l ∷ ls) = crossed ls
 
--- contents that the outside may leave: words of the kind
+-- what an object's cells show: none where it is dead
+abbrev pub Contents : Type 0
+Contents = Option (List (Option ℕ))
+
+-- a cell's content is a word of the kind
+abbrev pub IsWordOf : Kind → Option ℕ → Type 0
+IsWordOf kind (Some w) = IsOfKind w kind
+IsWordOf kind None = ⊥
+
 abbrev pub AreWordsOf : Kind → List (Option ℕ) → Type 0
-AreWordsOf kind [] = Unit {0}
-AreWordsOf kind (Some w ∷ ws) = IsOfKind w kind × AreWordsOf kind ws
-AreWordsOf kind (None ∷ ws) = ⊥
+AreWordsOf kind = Each (IsWordOf kind)
 
 -- new contents of an object: as many words as it has cells, each of its kind
 pub record Fills (object : Object) (contents : List (Option ℕ)) : Type 0 where
   pub size : length contents ≡ object.size
   pub kinds : AreWordsOf object.kind contents
 
+-- the same object, but for its owner and its contents, which may be such
+pub record SameBut (MayOwn : Owner → Owner → Type 0) (MayShow : Object → Contents → Contents → Type 0)
+    (old new : Object) : Type 0 where
+  pub owner : MayOwn new.owner old.owner
+  pub kind : new.kind ≡ old.kind
+  pub size : new.size ≡ old.size
+  pub contents : MayShow old old.contents new.contents
+
 -- what the outside may make of an object's contents: an object of its own may die, and a dead one stays dead
-abbrev pub ChangesTo : Object → Option (List (Option ℕ)) → Option (List (Option ℕ)) → Type 0
+abbrev pub ChangesTo : Object → Contents → Contents → Type 0
 ChangesTo o (Some old) (Some new) = Fills o new
 ChangesTo o (Some old) None = o.owner ≡ Outside
 ChangesTo o None None = Unit {0}
 ChangesTo o None (Some new) = ⊥
 
--- the same object, as the outside may leave it
-pub record Changes (old new : Object) : Type 0 where
-  pub owner : new.owner ≡ old.owner
-  pub kind : new.kind ≡ old.kind
-  pub size : new.size ≡ old.size
-  pub contents : ChangesTo old old.contents new.contents
+abbrev pub Changes : Object → Object → Type 0
+Changes = SameBut (λ o p. o ≡ p) ChangesTo
 
 -- what a new object may contain: it may be dead
-abbrev pub NewContents : Object → Option (List (Option ℕ)) → Type 0
+abbrev pub NewContents : Object → Contents → Type 0
 NewContents o None = Unit {0}
 NewContents o (Some new) = Fills o new
 
@@ -74,23 +81,25 @@ pub record IsNew (object : Object) : Type 0 where
   pub most : object.size ≤ most_cells
   pub contents : NewContents object object.contents
 
-abbrev pub AreNew : List Object → Type 0
-AreNew [] = Unit {0}
-AreNew (o ∷ os) = IsNew o × AreNew os
-
 -- the objects that crossed before are still there, and the others are new
-abbrev pub Continues : List Object → List Object → Type 0
-Continues [] news = AreNew news
-Continues (o ∷ os) [] = ⊥
-Continues (o ∷ os) (n ∷ ns) = Changes o n × Continues os ns
+abbrev pub Extend : (May : Object → Object → Type 0) → (IsFirst : Object → Type 0) → List Object → List Object → Type 0
+Extend May IsFirst [] news = Each IsFirst news
+Extend May IsFirst (o ∷ os) (n ∷ ns) = May o n × Extend May IsFirst os ns
+Extend May IsFirst _ _ = ⊥
 
--- how many objects have crossed with these values, where each crosses under the next number: none if a number is skipped
+-- as the outside may leave them
+abbrev pub Continues : List Object → List Object → Type 0
+Continues = Extend Changes IsNew
+
+-- how many objects have crossed with these values, where each crosses under the next number: none if a number is
+-- skipped
 abbrev pub numbered : ℕ → List Shown → Option ℕ
 numbered n [] = Some n
 numbered n (Word w ∷ vs) = numbered n vs
-numbered n (Place object place ∷ vs) = if nat_lt object n then numbered n vs else if nat_eq object n then numbered (n + 1) vs else None
+numbered n (Place object place ∷ vs) =
+    if nat_lt object n then numbered n vs else if nat_eq object n then numbered (n + 1) vs else None
 
-abbrev pub cells_if : Option (List (Option ℕ)) → (size : ℕ) → ℕ
+abbrev pub cells_if : Contents → (size : ℕ) → ℕ
 cells_if None size = 0
 cells_if (Some contents) size = size
 
@@ -99,7 +108,8 @@ abbrev pub live_cells : List Object → ℕ
 live_cells [] = 0
 live_cells (o ∷ os) = cells_if o.contents o.size + live_cells os
 
--- what the outside may bring with an entry or a return: a share, and the objects, with no more live cells than a thread has words of stack
+-- what the outside may bring with an entry or a return: a share, and the objects, with no more live cells than a thread
+-- has words of stack
 pub record Brings (edge : Edge) (before : List Object) (crossing : Crossing) : Type 0 where
   pub share : IsShare edge crossing.share
   pub objects : Continues before crossing.objects
@@ -113,8 +123,7 @@ pub data IsAmong : ℕ → List ℕ → Type 0 where
 
 -- each of the second locks is one of the first
 abbrev pub Holds : List ℕ → List ℕ → Type 0
-Holds locks [] = Unit {0}
-Holds locks (l ∷ ls) = IsAmong l locks × Holds locks ls
+Holds locks = Each (λ l. IsAmong l locks)
 
 -- the outside enters a function of the unit, with values of its parameters' types and at least the locks that it holds
 pub record MayEnter (edge : Edge) (before : List RunLabel) (function : NameBytes) (crossing : Crossing) : Type 0 where
@@ -128,22 +137,15 @@ pub record MayEnter (edge : Edge) (before : List RunLabel) (function : NameBytes
 -- the outside returns from the newest call, with a value of the result's type and the locks that were there at the call
 pub record MayReturn (edge : Edge) (before : List RunLabel) (crossing : Crossing) : Type 0 where
   pub function : NameBytes
-  pub locks : List ℕ
   pub older : List Pending
-  pub newest : pending before ≡ Called function locks ∷ older
+  pub newest : pending before ≡ Called function (locks_of crossing.share) ∷ older
   pub signature : Signature
   pub known : signature_of edge.functions function ≡ Some signature
   pub values : AreOfTypes crossing.objects (returned signature.ret) crossing.values
-  pub same_locks : locks_of crossing.share ≡ locks
   pub brings : Brings edge (crossed before) crossing
 
 -- the outside may bring this label after these
 abbrev pub MayBring : Edge → List RunLabel → RunLabel → Type 0
 MayBring edge before (Enter f crossing) = MayEnter edge before f crossing
 MayBring edge before (Back crossing) = MayReturn edge before crossing
-MayBring edge before (Lock l words) = ⊥
-MayBring edge before (Unlock l words) = ⊥
-MayBring edge before (Out w) = ⊥
-MayBring edge before Done = ⊥
-MayBring edge before (Call f crossing) = ⊥
-MayBring edge before (Leave crossing) = ⊥
+MayBring edge before l = ⊥

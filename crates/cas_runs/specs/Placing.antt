@@ -1,12 +1,15 @@
 -- Passes that put the blocks of an activation elsewhere: each block of the source is a stretch of one of the target's.
 use Rattle.std.specs.Prelude.{◌≡◌, ℕ, ◌+◌, ◌≤◌, List, [], ◌∷◌, length, Option, Some, None, slice_get, ◌⊎◌}
+use Rattle.cas_base.specs.declared.decl.Decl.{Decl}
 use Rattle.cas_runs.specs.Label.{NameBytes}
-use Rattle.cas_runs.specs.Naming.{Home, Own, Theirs, Value, Number, Pointer, Hidden, Part, Layout, Named, Naming, Memory, part_by}
-use Rattle.cas_runs.specs.Machine.{Block}
+use Rattle.cas_runs.specs.Naming.{Home, Own, Theirs, Value, Number, Pointer, Hidden, Part, Layout, Named, Naming}
+use Rattle.cas_runs.specs.Naming.{Memory, part_by}
+use Rattle.cas_runs.specs.Bounds.{IsTariff, waiting_price}
 use Rattle.cas_runs.specs.Access.{Holding}
-use Rattle.cas_runs.specs.Unit.{Setting}
-use Rattle.cas_runs.specs.Calls.{Activations, Past}
-use Rattle.cas_runs.specs.Passing.{Relation}
+use Rattle.cas_runs.specs.Unit.{Setting, LaidOutToo}
+use Rattle.cas_runs.specs.Calls.{Activations, Past, language}
+use Rattle.cas_runs.specs.Passing.{Position, Matches, Relation, AllMade, MadeSo, Matching, MadeOf, RunTogether}
+use Rattle.cas_runs.specs.Held.{Activation, Held, Steps, Midway}
 
 -- where a block of the source begins in the target
 pub record Spot : Type 0 where
@@ -39,7 +42,8 @@ AllMoved place (v ∷ vs) (w ∷ ws) = SameMoved place v w × AllMoved place vs 
 
 -- from the offset on, the block of the target has the words of the source's
 abbrev pub CellsMoved : Placing → (offset : ℕ) → List Value → List Value → Type 0
-CellsMoved place offset vs ws = (i : ℕ) (w : Value) → slice_get ws i ≡ Some w → (v : Value) × (slice_get vs (offset + i) ≡ Some v) × SameMoved place v w
+CellsMoved place offset vs ws = (i : ℕ) (w : Value) → slice_get ws i ≡ Some w →
+    (v : Value) × (slice_get vs (offset + i) ≡ Some v) × SameMoved place v w
 
 abbrev pub BlockMoved : Placing → (offset : ℕ) → Option (List Value) → Option (List Value) → Type 0
 BlockMoved place offset vs None = vs ≡ None
@@ -55,16 +59,21 @@ ObjectMoved place (Some vs) (Some ws) = AllMoved place vs ws
 
 -- the memory of the target has that of the source, whose blocks have these sizes
 pub record MemoryMoved (place : Placing) (sizes : NameBytes → ℕ → ℕ) (t s : Memory) : Type 0 where
-  pub own : (function : NameBytes) (activation block : ℕ) (to : Spot) → place function block ≡ Some to → BlockMoved place to.offset (t (Own function activation to.block)) (s (Own function activation block))
+  pub own : (function : NameBytes) (activation block : ℕ) (to : Spot) → place function block ≡ Some to →
+      BlockMoved place to.offset (t (Own function activation to.block)) (s (Own function activation block))
   pub theirs : (object : ℕ) → ObjectMoved place (t (Theirs object)) (s (Theirs object))
-  pub have_sizes : (function : NameBytes) (activation block : ℕ) (ws : List Value) → s (Own function activation block) ≡ Some ws → length ws ≡ sizes function block
+  pub have_sizes : (function : NameBytes) (activation block : ℕ) (ws : List Value) →
+      s (Own function activation block) ≡ Some ws → length ws ≡ sizes function block
 
 abbrev pub moved_part : ℕ → Part → Part
 moved_part offset p = record { from = offset + p.from; size = p.size; kind = p.kind }
 
 -- the object of the target is this one of the source, moved. It is in its block
 abbrev pub NamedMoved : Placing → (NameBytes → ℕ → ℕ) → Named → Home → Part → Type 0
-NamedMoved place sizes m (Own function activation block) part = (to : Spot) × (place function block ≡ Some to) × (m ≡ record { home = Own function activation to.block; part = moved_part to.offset part }) × (1 ≤ part.size) × (part.from + part.size ≤ sizes function block)
+NamedMoved place sizes m (Own function activation block) part =
+    (to : Spot) × (place function block ≡ Some to)
+    × (m ≡ record { home = Own function activation to.block; part = moved_part to.offset part }) × (1 ≤ part.size)
+    × (part.from + part.size ≤ sizes function block)
 NamedMoved place sizes m (Theirs object) part = m ≡ record { home = Theirs object; part = part }
 
 abbrev pub NamingMoved : Placing → (NameBytes → ℕ → ℕ) → Naming → Naming → Type 0
@@ -74,43 +83,122 @@ NamingMoved place sizes (m ∷ ms) [] = ⊥
 NamingMoved place sizes (m ∷ ms) (n ∷ ns) = NamedMoved place sizes m n.home n.part × NamingMoved place sizes ms ns
 
 -- what both threads hold, where blocks are moved so
-pub record AlikeMoved (place : Placing) (sizes : NameBytes → ℕ → ℕ) (p : Past) (h : Holding) (q : Past) (k : Holding) : Type 0 where
+pub record AlikeMoved (place : Placing) (sizes : NameBytes → ℕ → ℕ) (p : Past) (h : Holding) (q : Past)
+    (k : Holding) : Type 0 where
   pub begun : p.begun ≡ q.begun
   pub share : h.share ≡ k.share
   pub memory : MemoryMoved place sizes h.memory k.memory
   pub naming : NamingMoved place sizes p.naming q.naming
 
--- the blocks of the source that the target doesn't have are as they were, of the activations with smaller serial numbers than this
-abbrev pub KeepsUnplaced : Placing → ℕ → Holding → Holding → Holding → Holding → Type 0
-KeepsUnplaced place n h k h' k' = (function : NameBytes) (activation block : ℕ) → activation + 1 ≤ n → place function block ≡ None → k'.memory (Own function activation block) ≡ k.memory (Own function activation block)
+-- the same of the shares alone, and of the objects that have crossed
+pub record SharesMoved (place : Placing) (sizes : NameBytes → ℕ → ℕ) (p : Past) (h : Holding) (q : Past)
+    (k : Holding) : Type 0 where
+  pub begun : p.begun ≡ q.begun
+  pub share : h.share ≡ k.share
+  pub naming : NamingMoved place sizes p.naming q.naming
 
--- and of all activations
-abbrev pub UnplacedKept : Placing → Memory → Memory → Type 0
-UnplacedKept place before s = (function : NameBytes) (activation block : ℕ) → place function block ≡ None → s (Own function activation block) ≡ before (Own function activation block)
+-- the blocks of the source that the target doesn't have are as they were, of the activations with smaller serial
+-- numbers than this
+abbrev pub KeepsUnplaced : Placing → ℕ → Memory → Memory → Type 0
+KeepsUnplaced place n s s' =
+    (function : NameBytes) (activation block : ℕ) → activation + 1 ≤ n → place function block ≡ None
+    → s' (Own function activation block) ≡ s (Own function activation block)
 
 -- the blocks of a function lie in those of the other without overlap, and the objects of a block go with it
-pub record IsPlacing {F A G B : Type 0} (target : Activations F A) (source : Activations G B) (made : F → G → Type 0) (place : Placing) (sizes : NameBytes → ℕ → ℕ) (placed layout : Layout) : Type 0 where
+pub record IsPlacing {F A G B : Type 0} (target : Activations F A) (source : Activations G B) (made : F → G → Type 0)
+    (place : Placing) (sizes : NameBytes → ℕ → ℕ) (placed layout : Layout) : Type 0 where
   pub names : (f : F) (g : G) → made f g → target.name f ≡ source.name g
   pub first_words : target.first_word ≡ source.first_word
   pub first_same : SameMoved place source.first_word source.first_word
-  pub known : (f : F) (g : G) → made f g → (block size : ℕ) → slice_get (source.blocks g) block ≡ Some size → size ≡ sizes (source.name g) block
-  pub room : (f : F) (g : G) → made f g → (block : ℕ) (s : Spot) → place (source.name g) block ≡ Some s → (size total : ℕ) × (slice_get (source.blocks g) block ≡ Some size) × (slice_get (target.blocks f) s.block ≡ Some total) × (s.offset + size ≤ total)
-  pub apart : (function : NameBytes) (b c : ℕ) (s t : Spot) → place function b ≡ Some s → place function c ≡ Some t → s.block ≡ t.block → (b ≡ c) ⊎ (s.offset + sizes function b ≤ t.offset) ⊎ (t.offset + sizes function c ≤ s.offset)
-  pub parts : (function : NameBytes) (block : ℕ) (s : Spot) → place function block ≡ Some s → (at in_part : ℕ) (p : Part) → part_by (layout function block) at in_part ≡ Some p → (part_by (placed function s.block) (s.offset + at) in_part ≡ Some (moved_part s.offset p)) × (1 ≤ p.size) × (p.from + p.size ≤ sizes function block)
+  pub known : (f : F) (g : G) → made f g → (block size : ℕ) → slice_get (source.blocks g) block ≡ Some size →
+      size ≡ sizes (source.name g) block
+  pub room : (f : F) (g : G) → made f g → (block : ℕ) (s : Spot) → place (source.name g) block ≡ Some s →
+      (size total : ℕ) × (slice_get (source.blocks g) block ≡ Some size)
+      × (slice_get (target.blocks f) s.block ≡ Some total) × (s.offset + size ≤ total)
+  pub apart : (function : NameBytes) (b c : ℕ) (s t : Spot) → place function b ≡ Some s → place function c ≡ Some t →
+      s.block ≡ t.block → (b ≡ c) ⊎ (s.offset + sizes function b ≤ t.offset) ⊎ (t.offset + sizes function c ≤ s.offset)
+  pub parts : (function : NameBytes) (block : ℕ) (s : Spot) → place function block ≡ Some s →
+      (at in_part : ℕ) (p : Part) → part_by (layout function block) at in_part ≡ Some p →
+      (part_by (placed function s.block) (s.offset + at) in_part ≡ Some (moved_part s.offset p))
+      × (1 ≤ p.size) × (p.from + p.size ≤ sizes function block)
 
--- the relation of such a pass, by where activations match
-abbrev pub moves_blocks : {F A G B : Type 0} → Activations F A → Activations G B → Setting → Layout → List F → List G → (F → G → Type 0) → Placing → (NameBytes → ℕ → ℕ) → (F → G → ℕ → A → Holding → Block → B → Holding → Block → Type 0) → Relation F A G B
-moves_blocks target source setting placed ts ss made place sizes match_states = record {
-  target = target;
-  source = source;
-  setting = setting;
-  placed = placed;
-  targets = ts;
-  sources = ss;
+-- what matches, by where activations match
+abbrev pub moved_matches : {F A G B : Type 0} → Placing → (NameBytes → ℕ → ℕ) → (F → G → Type 0) →
+    (F → G → ℕ → Position A → Position B → Type 0) → Matches F A G B
+moved_matches place sizes made match_states = record {
   made = made;
   match_values = SameMoved place;
-  match_memory = AlikeMoved place sizes;
+  match_memory = SharesMoved place sizes;
   settled = AlikeMoved place sizes;
-  frame = KeepsUnplaced place;
+  frame = λ n h k h' k'. KeepsUnplaced place n k.memory k'.memory;
   match_states = match_states;
 }
+
+-- what it names for the law over memories, by where both begin a step. What an activation has in blocks that the target
+-- doesn't have is its own: no other one stores there
+abbrev pub moving :
+    {F A G B : Type 0} → Placing → (NameBytes → ℕ → ℕ) → (Activation F G → A → Memory → B → Memory → Type 0)
+    → Held F A G B
+moving place sizes match_states = record {
+  match_states = match_states;
+  match_memory = MemoryMoved place sizes;
+  target_frame = λ n t t'. Unit {0};
+  source_frame = KeepsUnplaced place;
+}
+
+-- such a pass, by what it makes, where it puts blocks, and where both begin a step, for all functions that run
+-- together in a setting
+pub record Moved (F A G B : Type 0) : Type 1 where
+  pub target : Activations F A
+  pub source : Activations G B
+  pub made : List Decl → F → G → Type 0
+  pub naming : List G → Layout → Layout
+  pub place : List G → Placing
+  pub sizes : List G → NameBytes → ℕ → ℕ
+  pub match_states : Setting → List F → List G → Activation F G → A → Memory → B → Memory → Type 0
+
+module _ {F A G B : Type 0} (p : Moved F A G B) where
+  abbrev pub places : Setting → List F → List G → Held F A G B
+  places setting ts ss = moving (p.place ss) (p.sizes ss) (p.match_states setting ts ss)
+
+  -- the relation over which the steps are shown
+  abbrev pub bare : Setting → List F → List G → (F → G → Type 0) → Relation F A G B
+  bare setting ts ss made = record {
+    target = p.target;
+    source = p.source;
+    setting = setting;
+    placed = p.naming ss setting.layout;
+    targets = ts;
+    sources = ss;
+    by = moved_matches (p.place ss) (p.sizes ss) made (λ f g n x y. Unit {0});
+  }
+
+  abbrev pub moved_blocks : Matching F A G B
+  moved_blocks = record {
+    target = p.target;
+    source = p.source;
+    made = p.made;
+    naming = p.naming;
+    matches = λ setting ts ss made.
+        moved_matches (p.place ss) (p.sizes ss) made (Midway (bare setting ts ss made) (places setting ts ss));
+  }
+
+  -- what it shows
+  pub record IsMoved : Type 0 where
+    pub names : (decls : List Decl) (f : F) (g : G) → p.made decls f g → p.target.name f ≡ p.source.name g
+    pub laid_out_too :
+        (ts : List F) (ss : List G) → AllMade (MadeSo p.made) ts ss
+        → LaidOutToo (language p.target) (language p.source) ts ss (p.naming ss)
+    pub is_placing :
+        (setting : Setting) (decls : List Decl) (ts : List F) (ss : List G) →
+        RunTogether moved_blocks setting decls ts ss
+        → IsPlacing p.target p.source (MadeOf moved_blocks setting ts ss) (p.place ss) (p.sizes ss)
+        (p.naming ss setting.layout) setting.layout
+    pub prices : IsTariff p.target.tariff
+    pub waits :
+        (ts : List F) (ss : List G) → AllMade (MadeSo p.made) ts ss
+        → waiting_price p.target.tariff ts ≤ waiting_price p.source.tariff ss
+    pub steps :
+        (setting : Setting) (decls : List Decl) (ts : List F) (ss : List G) →
+        RunTogether moved_blocks setting decls ts ss
+        → Steps (bare setting ts ss (MadeOf moved_blocks setting ts ss)) (places setting ts ss)

@@ -1,5 +1,5 @@
--- A small language on which it is shown that a place of an object crosses as itself: the function `main` has one variable, and shows a place of it to
--- the function `show` of another unit.
+-- A small language on which it is shown that a place of an object crosses as itself: the function `main` has one
+-- variable, and shows a place of it to the function `show` of another unit.
 use Rattle.std.specs.Prelude.{ℕ, zero, suc, true, false, List, [], ◌∷◌, Option, Some, None}
 use Rattle.cas_base.specs.declared.kind.Kind.TheVariants.{I32}
 use Rattle.cas_base.specs.declared.kind.Ty.TheVariants.{Void, Ptr}
@@ -43,7 +43,9 @@ pointing = record {
 abbrev pub edge : Edge
 edge = record {
   cells = [];
-  functions = record { name = main_name; ret = Void; params = []; holds = []; inside = true } ∷ record { name = show_name; ret = Void; params = Ptr I32 ∷ []; holds = []; inside = false } ∷ [];
+  words = λ name. None;
+  functions = record { name = main_name; ret = Void; params = []; holds = []; inside = true }
+      ∷ record { name = show_name; ret = Void; params = Ptr I32 ∷ []; holds = []; inside = false } ∷ [];
 }
 
 -- the variable is one object of one cell
@@ -52,7 +54,13 @@ one_object zero = record { from = 0; size = 1; kind = I32 } ∷ []
 one_object (suc block) = []
 
 abbrev pub setting : Setting
-setting = record { edge = edge; words = λ name. None; layout = λ name. one_object; stack = record { address = 268435456; size = 16 }; code = λ name. record { first = 8; size = 16 }; unknown = λ occasion place. 0 }
+setting = record {
+  edge = edge;
+  layout = λ name. one_object;
+  stack = record { address = 268435456; size = 16 };
+  code = λ name. record { first = 8; size = 16 };
+  unknown = λ occasion place. 0;
+}
 
 -- the unit whose function shows this place
 abbrev pub shows : (place : ℕ) → Machine (Thread ℕ Pointing)

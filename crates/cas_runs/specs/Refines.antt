@@ -1,9 +1,10 @@
 -- What it means that one machine refines another.
 use Rattle.std.specs.Prelude.{◌≡◌, ℕ, ◌<◌, ◌≤◌, List, [], ◌∷◌, ◌++◌, ◌⊎◌, Option, Some}
-use Rattle.cas_runs.specs.Label.{NameBytes, RunLabel}
+use Rattle.cas_runs.specs.Label.{NameBytes, Share, RunLabel}
 use Rattle.cas_runs.specs.Edge.{Edge}
 use Rattle.cas_runs.specs.Outside.{IsAmong}
-use Rattle.cas_runs.specs.Machine.{Act, Quiet, Emits, Crosses, Locks, Receives, Bad, Stops, Halt, Ended, Taken, Full, Opened, Open, Machine, CanCross, StepsTo, IsBad, Block, Run}
+use Rattle.cas_runs.specs.Machine.{Act, Quiet, Emits, Crosses, Locks, Receives, Stops, Full, Names, Opened, Open}
+use Rattle.cas_runs.specs.Machine.{Machine, open_functions, IsBad, Block, Run, Always}
 
 -- the same functions in order, with some left out, between the same calls of the outside
 pub data Subsequence : List Opened → List Opened → Type 0 where
@@ -11,7 +12,8 @@ pub data Subsequence : List Opened → List Opened → Type 0 where
   keep : {x : Opened} {xs ys : List Opened} → Subsequence xs ys → Subsequence (x ∷ xs) (x ∷ ys)
   skip : {function : NameBytes} {xs ys : List Opened} → Subsequence xs ys → Subsequence xs (Open function ∷ ys)
 
--- a block of the target is within one of the source: it pays at most as much, writes only what that writes, and reads only what that reads or writes
+-- a block of the target is within one of the source: it pays at most as much, writes only what that writes, and reads
+-- only what that reads or writes
 pub record Within (b c : Block) : Type 0 where
   pub price : b.price ≤ c.price
   pub writes : (w : ℕ) → IsAmong w b.writes → IsAmong w c.writes
@@ -22,120 +24,86 @@ pub data EachWithin : List Block → List Block → Type 0 where
   none : EachWithin [] []
   more : {b c : Block} {bs cs : List Block} → Within b c → EachWithin bs cs → EachWithin (b ∷ bs) (c ∷ cs)
 
--- the source has a run with these labels
-pub record HasRun {S : Type 0} (edge : Edge) (s : Machine S) (labels : List RunLabel) : Type 0 where
+-- where a run stands: the blocks that its labels ended, the newest first, the block in which it is, and its state
+pub record Reached (S : Type 0) : Type 0 where
   pub blocks : List Block
   pub block : Block
   pub at : S
-  pub run : Run edge s labels blocks block at
+
+-- a run with these labels stands there
+abbrev pub Reaches : {S : Type 0} → Edge → Machine S → List RunLabel → Reached S → Type 0
+Reaches edge m labels x = Run edge m labels x.blocks x.block x.at
+
+-- the machine has a run with these labels that stands where this holds
+pub record Comes {S : Type 0} (edge : Edge) (m : Machine S) (labels : List RunLabel)
+    (P : Reached S → Type 0) : Type 0 where
+  pub to : Reached S
+  pub run : Reaches edge m labels to
+  pub there : P to
+
+-- the machine has a run with these labels
+abbrev pub HasRun : {S : Type 0} → Edge → Machine S → List RunLabel → Type 0
+HasRun edge m labels = Comes edge m labels (λ x. Unit {0})
 
 -- the source has a run whose labels are the first of these and whose next step is Bad
 pub record BadBefore {S : Type 0} (edge : Edge) (s : Machine S) (labels : List RunLabel) : Type 0 where
   pub since : List RunLabel
   pub before : List RunLabel
   pub prefix : labels ≡ since ++ before
-  pub blocks : List Block
-  pub block : Block
-  pub at : S
-  pub run : Run edge s before blocks block at
-  pub bad : IsBad (s.act at)
+  pub bad : Comes edge s before (λ y. IsBad (s.act y.at))
 
--- the source has a run with these labels, within whose blocks and open functions those of the target's run are. The target's next step isn't Bad, and isn't free
-pub record Kept {T S : Type 0} (edge : Edge) (t : Machine T) (s : Machine S) (labels : List RunLabel) (blocks : List Block) (block : Block) (at : T) : Type 0 where
-  pub s_blocks : List Block
-  pub s_block : Block
-  pub s_at : S
-  pub run : Run edge s labels s_blocks s_block s_at
-  pub fine : IsBad (t.act at) → ⊥
-  pub costs : 1 ≤ t.price at
-  pub within : EachWithin blocks s_blocks
-  pub within_now : Within block s_block
-  pub opened : Subsequence (t.open_functions at) (s.open_functions s_at)
+-- the target's step isn't free, its block is within the source's, and so are its open functions
+pub record Fine {T S : Type 0} (t : Machine T) (s : Machine S) (x : T) (b : Block) (y : S) (c : Block) : Type 0 where
+  pub costs : 1 ≤ t.price x
+  pub within : Within b c
+  pub opened : Subsequence (open_functions t x) (open_functions s y)
 
--- the source comes to a Call or Leave, and each label that it can have there is one that the target can have
-pub record CrossesAs {T S : Type 0} (edge : Edge) (s : Machine S) (labels : List RunLabel) (next : RunLabel → Option T) : Type 0 where
-  pub blocks : List Block
-  pub block : Block
-  pub at : S
-  pub run : Run edge s labels blocks block at
-  pub s_next : RunLabel → Option S
-  pub crosses : s.act at ≡ Crosses s_next
-  pub some_label : RunLabel
-  pub some_next : S
-  pub can_cross : CanCross some_label
-  pub has_label : s_next some_label ≡ Some some_next
-  pub each : (l : RunLabel) (y : S) → CanCross l → s_next l ≡ Some y → (x : T) × (next l ≡ Some x)
+-- the source keeps the target's run: each block of that is within its own, and the target's next step isn't Bad
+pub record Kept {T S : Type 0} (t : Machine T) (s : Machine S) (x : Reached T) (y : Reached S) : Type 0 where
+  pub fine : Fine t s x.at x.block y.at y.block
+  pub within : EachWithin x.blocks y.blocks
+  pub meant : IsBad (t.act x.at) → ⊥
 
--- the source has a run with these labels that has no next step, for this reason
-pub record Halted {S : Type 0} (edge : Edge) (s : Machine S) (labels : List RunLabel) (why : Halt) : Type 0 where
-  pub blocks : List Block
-  pub block : Block
-  pub at : S
-  pub run : Run edge s labels blocks block at
-  pub stops : s.act at ≡ Stops why
+-- the source can name what crosses, and each way in which it can is one of the target's
+pub record CrossesAs {T S : Type 0} (next : Names → Option T) (s_next : Names → Option S) : Type 0 where
+  pub names : Names
+  pub to : S
+  pub has_names : s_next names ≡ Some to
+  pub each : (n : Names) (y : S) → s_next n ≡ Some y → (x : T) × (next n ≡ Some x)
 
--- the source halts too. A full stack is the target's own
-abbrev pub HaltsToo : {S : Type 0} → Edge → Machine S → List RunLabel → Halt → Type 0
-HaltsToo edge s labels Ended = Halted edge s labels Ended
-HaltsToo edge s labels (Taken lock) = Halted edge s labels (Taken lock)
-HaltsToo edge s labels Full = Unit {0}
+-- the source does what the target does, when both stand at these acts. A full stack is the target's own
+abbrev pub Answered : {T S : Type 0} → Act T → Act S → Type 0
+Answered (Quiet x) a = Unit {0}
+Answered (Emits event x) (Emits other y) = event ≡ other
+Answered (Crosses function share next) (Crosses other s_share s_next) =
+    (function ≡ other) × (share ≡ s_share) × CrossesAs next s_next
+Answered (Locks lock next) (Locks other s_next) = lock ≡ other
+Answered (Receives next) (Receives s_next) = Unit {0}
+Answered (Stops Full) a = Unit {0}
+Answered (Stops why) (Stops other) = why ≡ other
+Answered _ _ = ⊥
 
--- the source has a run with these labels that waits for this lock
-pub record AtLock {S : Type 0} (edge : Edge) (s : Machine S) (labels : List RunLabel) (lock : ℕ) : Type 0 where
-  pub blocks : List Block
-  pub block : Block
-  pub at : S
-  pub run : Run edge s labels blocks block at
-  pub next : List ℕ → S
-  pub waits : s.act at ≡ Locks lock next
-
--- the source has a run with these labels that waits for the outside
-pub record AtReceiving {S : Type 0} (edge : Edge) (s : Machine S) (labels : List RunLabel) : Type 0 where
-  pub blocks : List Block
-  pub block : Block
-  pub at : S
-  pub run : Run edge s labels blocks block at
-  pub next : RunLabel → S
-  pub waits : s.act at ≡ Receives next
-
--- the act is a Call or a Leave
-abbrev pub IsCrossing : {S : Type 0} → Act S → Type 0
-IsCrossing (Crosses next) = Unit {0}
-IsCrossing (Quiet next) = ⊥
-IsCrossing (Emits event next) = ⊥
-IsCrossing (Locks lock next) = ⊥
-IsCrossing (Receives next) = ⊥
-IsCrossing Bad = ⊥
-IsCrossing (Stops why) = ⊥
-
--- the target does only what the source does, until the source is Bad. A Call or Leave of the target can have several labels, as one address can be
--- the end of an object and the beginning of the next: its labels are those by which the source names what crosses
+-- the target does only what the source does, until the source is Bad. What crosses at a Call or Leave of the target can
+-- have several names, as one address can be the end of an object and the beginning of the next: the source names it
 pub record Refines {T S : Type 0} (edge : Edge) (t : Machine T) (s : Machine S) : Type 0 where
-  -- each run of the target is kept by the source
-  pub kept : (ls : List RunLabel) (bs : List Block) (b : Block) (x : T) → Run edge t ls bs b x → HasRun edge s ls → BadBefore edge s ls ⊎ Kept edge t s ls bs b x
-  -- each further label of the target, but a Call or a Leave, is one of the source
-  pub follows : (ls : List RunLabel) (bs : List Block) (b : Block) (x : T) → Run edge t ls bs b x → HasRun edge s ls → (IsCrossing (t.act x) → ⊥) → (l : RunLabel) (y : T) → StepsTo edge ls (t.act x) l y → BadBefore edge s ls ⊎ HasRun edge s (l ∷ ls)
-  -- where the target is at a Call or a Leave, the source comes to one, and names what crosses in a way that the target can
-  pub crosses : (ls : List RunLabel) (bs : List Block) (b : Block) (x : T) → Run edge t ls bs b x → HasRun edge s ls → (next : RunLabel → Option T) → t.act x ≡ Crosses next → BadBefore edge s ls ⊎ CrossesAs edge s ls next
-  -- where the target waits for a lock, the source comes to wait for it, also where no words may come
-  pub locks : (ls : List RunLabel) (bs : List Block) (b : Block) (x : T) → Run edge t ls bs b x → HasRun edge s ls → (lock : ℕ) (next : List ℕ → T) → t.act x ≡ Locks lock next → BadBefore edge s ls ⊎ AtLock edge s ls lock
-  -- where the target waits for the outside, the source comes to wait for it, also where no label may come
-  pub receives : (ls : List RunLabel) (bs : List Block) (b : Block) (x : T) → Run edge t ls bs b x → HasRun edge s ls → (next : RunLabel → T) → t.act x ≡ Receives next → BadBefore edge s ls ⊎ AtReceiving edge s ls
-  -- where the target has no next step, the source has none, unless the target's stack is full
-  pub halts : (ls : List RunLabel) (bs : List Block) (b : Block) (x : T) → Run edge t ls bs b x → HasRun edge s ls → (why : Halt) → t.act x ≡ Stops why → BadBefore edge s ls ⊎ HaltsToo edge s ls why
+  -- each run of the target whose labels the source has is kept by the source
+  pub kept : (ls : List RunLabel) (x : Reached T) → Reaches edge t ls x → HasRun edge s ls →
+      BadBefore edge s ls ⊎ Comes edge s ls (Kept t s x)
+  -- and where its next step isn't quiet, the source comes to one that answers it
+  pub answers : (ls : List RunLabel) (x : Reached T) → Reaches edge t ls x → HasRun edge s ls →
+      BadBefore edge s ls ⊎ Comes edge s ls (λ y. Answered (t.act x.at) (s.act y.at))
 
--- the source has a run with these labels, which pays more than this in its last block
-pub record PaysMore {S : Type 0} (edge : Edge) (s : Machine S) (labels : List RunLabel) (count : ℕ) : Type 0 where
-  pub blocks : List Block
-  pub block : Block
-  pub at : S
-  pub run : Run edge s labels blocks block at
-  pub more_than : count < block.price
+-- at each Call and each Leave that the machine comes to there is at most one way to name what crosses
+abbrev pub NamesAlone : {T : Type 0} → Edge → Machine T → Type 0
+NamesAlone {T = T} edge t =
+    Always edge t (λ ls x. (function : Option NameBytes) (share : Share) (next : Names → Option T) →
+    t.act x ≡ Crosses function share next → (n m : Names) (y z : T) → next n ≡ Some y → next m ≡ Some z → n ≡ m)
 
--- each Call and each Leave that the machine comes to has at most one label
-pub record NamesAlone {T : Type 0} (edge : Edge) (t : Machine T) : Type 0 where
-  pub alone : (ls : List RunLabel) (bs : List Block) (b : Block) (x : T) → Run edge t ls bs b x → (next : RunLabel → Option T) → t.act x ≡ Crosses next → (k l : RunLabel) (y z : T) → CanCross k → next k ≡ Some y → CanCross l → next l ≡ Some z → k ≡ l
+-- the machine has a run with these labels, which pays more than this in its last block
+abbrev pub PaysMore : {S : Type 0} → Edge → Machine S → List RunLabel → ℕ → Type 0
+PaysMore edge m labels count = Comes edge m labels (λ x. count < x.block.price)
 
--- each run of the target meets one of the two cases
-pub record EachKept {T S : Type 0} (edge : Edge) (t : Machine T) (s : Machine S) : Type 0 where
-  pub each : (ls : List RunLabel) (bs : List Block) (b : Block) (x : T) → Run edge t ls bs b x → BadBefore edge s ls ⊎ Kept edge t s ls bs b x
+-- each run of the target is kept, or the source is Bad before
+abbrev pub EachKept : {T S : Type 0} → Edge → Machine T → Machine S → Type 0
+EachKept {T = T} edge t s = (ls : List RunLabel) (x : Reached T) → Reaches edge t ls x →
+    BadBefore edge s ls ⊎ Comes edge s ls (Kept t s x)

@@ -1,8 +1,10 @@
--- A small language of critical sections, on which what the definitions refuse is shown: one lock, the one word that it guards, and a register.
+-- A small language of critical sections, on which what the definitions refuse is shown: one lock, the one word that
+-- it guards, and a register.
 use Rattle.std.specs.Prelude.{ℕ, List, [], ◌∷◌, Option, Some, None}
 use Rattle.cas_base.specs.declared.kind.Kind.TheVariants.{U32}
 use Rattle.cas_runs.specs.Edge.{Edge, LockWord, SharedWord, IsOfKind}
-use Rattle.cas_runs.specs.Machine.{Act, Quiet, Emits, Locks, Bad, Stops, Taken, Ended, Unlocks, Prints, Ends, Footprint, Machine}
+use Rattle.cas_runs.specs.Machine.{Act, Quiet, Emits, Locks, Bad, Stops, Taken, Ended, Unlocks, Prints, Ends}
+use Rattle.cas_runs.specs.Machine.{Footprint, Machine}
 
 pub data Instruction : Type 0 where
   Take : Instruction
@@ -19,7 +21,7 @@ pub data Standing : Type 0 where
 
 -- the lock is word 0, and it guards word 1
 abbrev pub one_lock : Edge
-one_lock = record { cells = LockWord ∷ SharedWord U32 (Some 0) 0 ∷ []; functions = [] }
+one_lock = record { cells = LockWord ∷ SharedWord U32 (Some 0) 0 ∷ []; words = λ name. None; functions = [] }
 
 abbrev pub standing : List Instruction → ℕ → Option ℕ → Standing
 standing rest register held = At rest register held
@@ -73,7 +75,14 @@ footprint_at Over = no_footprint
 
 -- a program as it runs, where each step costs this
 abbrev pub sections : ℕ → List Instruction → Machine Standing
-sections price program = record { start = standing program 0 None; act = act_at; price = λ x. price; footprint = footprint_at; open_functions = λ x. [] }
+sections price program = record {
+  start = standing program 0 None;
+  act = act_at;
+  price = λ x. price;
+  footprint = footprint_at;
+  activations = λ x. [];
+  called = λ x. None;
+}
 
 -- what the program stores are words
 abbrev pub StoresWords : List Instruction → Type 0

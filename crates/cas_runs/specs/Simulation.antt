@@ -1,81 +1,71 @@
 -- What a pass shows, so that its result refines its argument: a relation of states, and one case for each act.
-use Rattle.std.specs.Prelude.{◌≡◌, ℕ, ◌≤◌, List, [], ◌∷◌, Option, Some, ◌⊎◌}
+use Rattle.std.specs.Prelude.{◌≡◌, ℕ, List, [], ◌∷◌, Option, Some, ◌⊎◌}
 use Rattle.cas_runs.specs.Label.{RunLabel, Lock}
 use Rattle.cas_runs.specs.Edge.{Edge, AreGuarded}
 use Rattle.cas_runs.specs.Outside.{MayBring}
-use Rattle.cas_runs.specs.Machine.{Act, Quiet, Emits, Crosses, Locks, Receives, Bad, Stops, Halt, Ended, Taken, Full, Machine, label_of, CanCross, StepsTo, IsBad, Block, begun, onward}
-use Rattle.cas_runs.specs.Refines.{Within, Subsequence}
+use Rattle.cas_runs.specs.Machine.{Act, Quiet, Emits, Crosses, Locks, Receives, Stops, Full, Names, Machine, label_of}
+use Rattle.cas_runs.specs.Machine.{crossing_by, IsBad, Block, begun, onward}
+use Rattle.cas_runs.specs.Refines.{EachWithin, Reached, Reaches, Fine}
 
--- quiet steps lead to a step that is Bad
-pub data GoesWrong {S : Type 0} (m : Machine S) : S → Type 0 where
-  now : {y : S} → IsBad (m.act y) → GoesWrong m y
-  soon : {y : S} (y' : S) → m.act y ≡ Quiet y' → GoesWrong m y' → GoesWrong m y
+-- quiet steps lead from here to where this holds of the state and of the block so far, or to a step that is Bad
+pub data Quietly {S : Type 0} (act : S → Act S) (on : Block → S → Block) (P : S → Block → Type 0) : S → Block →
+    Type 0 where
+  here : {y : S} {c : Block} → P y c → Quietly act on P y c
+  step : {y : S} {c : Block} (y' : S) → act y ≡ Quiet y' → Quietly act on P y' (on c y') → Quietly act on P y c
+  fails : {y : S} {c : Block} → IsBad (act y) → Quietly act on P y c
 
--- quiet steps lead to a state without a next step, for this reason, or to a step that is Bad
-pub data HaltsSoon {S : Type 0} (m : Machine S) (why : Halt) : S → Type 0 where
-  halts : {y : S} → m.act y ≡ Stops why → HaltsSoon m why y
-  fails_halting : {y : S} → IsBad (m.act y) → HaltsSoon m why y
-  step_halting : {y : S} (y' : S) → m.act y ≡ Quiet y' → HaltsSoon m why y' → HaltsSoon m why y
+-- the machine goes wrong: quiet steps lead to a step that is Bad
+abbrev pub GoesWrong : {S : Type 0} → Machine S → S → Block → Type 0
+GoesWrong m y c = Quietly m.act (onward m) (λ y' c'. ⊥) y c
 
--- what the source does where the target halts for this reason. A full stack is the target's own
-abbrev pub StopsToo : {S : Type 0} → Machine S → Halt → S → Type 0
-StopsToo m Ended y = HaltsSoon m Ended y
-StopsToo m (Taken lock) y = HaltsSoon m (Taken lock) y
-StopsToo m Full y = Unit {0}
+module _ {T S : Type 0} (edge : Edge) (t : Machine T) (s : Machine S)
+    (match_states : List RunLabel → T → Block → S → Block → Type 0) where
+  -- the source goes on quietly to where it matches x
+  abbrev pub Follows : List RunLabel → T → Block → S → Block → Type 0
+  Follows ls x b y c = Quietly s.act (onward s) (match_states ls x b) y c
 
-module _ {T S : Type 0} (edge : Edge) (t : Machine T) (s : Machine S) (match_states : List RunLabel → T → Block → S → Block → Type 0) where
-  -- from y the source goes by quiet steps to a state that is related to x, or reaches a step that is Bad
-  pub data Follows (ls : List RunLabel) (x : T) (b : Block) : S → Block → Type 0 where
-    related : {y : S} {c : Block} → match_states ls x b y c → Follows ls x b y c
-    fails : {y : S} {c : Block} → IsBad (s.act y) → Follows ls x b y c
-    step : {y : S} {c : Block} (y' : S) → s.act y ≡ Quiet y' → Follows ls x b y' (onward s c y') → Follows ls x b y c
+  -- the same from states at which a block of both begins
+  abbrev pub After : List RunLabel → T → S → Type 0
+  After ls x y = Follows ls x (begun t x) y (begun s y)
 
-  -- the same, with one label on the way, which is this one, unless the Bad step comes before it
-  pub data FollowsBy (ls : List RunLabel) (l : RunLabel) (x : T) : S → Type 0 where
-    by : {y : S} (y' : S) → StepsTo edge ls (s.act y) l y' → Follows (l ∷ ls) x (begun t x) y' (begun s y') → FollowsBy ls l x y
-    fails_before : {y : S} → IsBad (s.act y) → FollowsBy ls l x y
-    step_before : {y : S} (y' : S) → s.act y ≡ Quiet y' → FollowsBy ls l x y' → FollowsBy ls l x y
+  -- the source can name what crosses; each way in which it can is one of the target's, and both go on to where they
+  -- match
+  pub record CrossesToo (ls : List RunLabel) (label_by : Names → RunLabel) (next : Names → Option T)
+      (s_next : Names → Option S) : Type 0 where
+    pub names : Names
+    pub to : S
+    pub has_names : s_next names ≡ Some to
+    pub each : (n : Names) (y : S) → s_next n ≡ Some y → (x : T) × (next n ≡ Some x) × After (label_by n ∷ ls) x y
 
-  -- what the target does by each label that the source can have at its Call or Leave
-  abbrev pub CrossesEach : List RunLabel → (RunLabel → Option T) → (RunLabel → Option S) → Type 0
-  CrossesEach ls next s_next = (l : RunLabel) (y : S) → CanCross l → s_next l ≡ Some y → (x : T) × (next l ≡ Some x) × Follows (l ∷ ls) x (begun t x) y (begun s y)
+  -- both stand at acts that do the same, and go on to where they match
+  abbrev pub Meets : List RunLabel → Act T → Act S → Type 0
+  Meets ls (Emits event x) (Emits other y) = (event ≡ other) × After (label_of event ∷ ls) x y
+  Meets ls (Crosses function share next) (Crosses other s_share s_next) =
+      (function ≡ other) × (share ≡ s_share) × CrossesToo ls (crossing_by other s_share) next s_next
+  Meets ls (Locks lock next) (Locks other s_next) =
+      (lock ≡ other)
+      × ((words : List ℕ) → AreGuarded edge lock words → After (Lock lock words ∷ ls) (next words) (s_next words))
+  Meets ls (Receives next) (Receives s_next) =
+      (l : RunLabel) → MayBring edge ls l → After (l ∷ ls) (next l) (s_next l)
+  Meets ls (Stops Full) a = Unit {0}
+  Meets ls (Stops why) (Stops other) = why ≡ other
+  Meets _ _ _ = ⊥
 
-  -- the source comes to a Call or Leave, with labels that the target can have, unless the Bad step comes before it
-  pub data FollowsCrossing (ls : List RunLabel) (next : RunLabel → Option T) : S → Type 0 where
-    crosses : {y : S} (s_next : RunLabel → Option S) → s.act y ≡ Crosses s_next → (l : RunLabel) (z : S) → CanCross l → s_next l ≡ Some z → CrossesEach ls next s_next → FollowsCrossing ls next y
-    fails_crossing : {y : S} → IsBad (s.act y) → FollowsCrossing ls next y
-    step_crossing : {y : S} (y' : S) → s.act y ≡ Quiet y' → FollowsCrossing ls next y' → FollowsCrossing ls next y
-
-  -- the source comes to wait for the same lock, and both go on with the words that come, unless the Bad step comes before
-  pub data FollowsLock (ls : List RunLabel) (lock : ℕ) (next : List ℕ → T) : S → Type 0 where
-    waits_too : {y : S} (s_next : List ℕ → S) → s.act y ≡ Locks lock s_next → ((words : List ℕ) → AreGuarded edge lock words → Follows (Lock lock words ∷ ls) (next words) (begun t (next words)) (s_next words) (begun s (s_next words))) → FollowsLock ls lock next y
-    fails_waiting : {y : S} → IsBad (s.act y) → FollowsLock ls lock next y
-    step_waiting : {y : S} (y' : S) → s.act y ≡ Quiet y' → FollowsLock ls lock next y' → FollowsLock ls lock next y
-
-  -- the source comes to wait for the outside, and both go on with the label that comes, unless the Bad step comes before
-  pub data FollowsHearing (ls : List RunLabel) (next : RunLabel → T) : S → Type 0 where
-    hears_too : {y : S} (s_next : RunLabel → S) → s.act y ≡ Receives s_next → ((l : RunLabel) → MayBring edge ls l → Follows (l ∷ ls) (next l) (begun t (next l)) (s_next l) (begun s (s_next l))) → FollowsHearing ls next y
-    fails_hearing : {y : S} → IsBad (s.act y) → FollowsHearing ls next y
-    step_hearing : {y : S} (y' : S) → s.act y ≡ Quiet y' → FollowsHearing ls next y' → FollowsHearing ls next y
-
-  -- what the source does where the target stands at this act
+  -- what the source does where the target stands at this act: it goes wrong where that is Bad
   abbrev pub Answers : List RunLabel → Act T → Block → S → Block → Type 0
   Answers ls (Quiet x) b y c = Follows ls x (onward t b x) y c
-  Answers ls (Emits event x) b y c = FollowsBy ls (label_of event) x y
-  Answers ls (Crosses next) b y c = FollowsCrossing ls next y
-  Answers ls (Locks lock next) b y c = FollowsLock ls lock next y
-  Answers ls (Receives next) b y c = FollowsHearing ls next y
-  Answers ls Bad b y c = GoesWrong s y
-  Answers ls (Stops why) b y c = StopsToo s why y
+  Answers ls a b y c = Quietly s.act (onward s) (λ y' c'. Meets ls a (s.act y')) y c
 
-  -- what is asked of the blocks, of the price and of the open functions
-  pub record Fine (x : T) (b : Block) (y : S) (c : Block) : Type 0 where
-    pub costs : 1 ≤ t.price x
-    pub within : Within b c
-    pub opened : Subsequence (t.open_functions x) (s.open_functions y)
-
-  -- what a pass shows of a relation between a state of t and a state of s, each with its block so far, after the same labels
+  -- what a pass shows of a relation between a state of t and a state of s, each with its block so far, after runs with
+  -- the same labels
   pub record Simulates : Type 0 where
-    pub starts : Follows [] t.start (begun t t.start) s.start (begun s s.start)
-    pub fine : (ls : List RunLabel) (x : T) (b : Block) (y : S) (c : Block) → match_states ls x b y c → GoesWrong s y ⊎ Fine x b y c
-    pub answers : (ls : List RunLabel) (x : T) (b : Block) (y : S) (c : Block) → match_states ls x b y c → Answers ls (t.act x) b y c
+    pub starts : After [] t.start s.start
+    pub fine : (ls : List RunLabel) (x : Reached T) (y : Reached S) → Reaches edge t ls x → Reaches edge s ls y →
+        match_states ls x.at x.block y.at y.block → GoesWrong s y.at y.block ⊎ Fine t s x.at x.block y.at y.block
+    pub answers : (ls : List RunLabel) (x : Reached T) (y : Reached S) → Reaches edge t ls x → Reaches edge s ls y →
+        match_states ls x.at x.block y.at y.block → Answers ls (t.act x.at) x.block y.at y.block
+
+  -- runs with the same labels match: the blocks of the target's are within those of the source's, and so do the states
+  pub record RunsMatch (ls : List RunLabel) (x : Reached T) (y : Reached S) : Type 0 where
+    pub within : EachWithin x.blocks y.blocks
+    pub states : match_states ls x.at x.block y.at y.block

@@ -1,5 +1,7 @@
 -- Refinement of units, of functions and of threads, in any two languages of the compiler.
-use Rattle.std.specs.Prelude.{◌≡◌, ℕ, ◌+◌, ◌*◌, ◌^◌, ◌<◌, ◌≤◌, Bool, true, false, ◌&&◌, if◌then◌else◌, List, [], ◌∷◌, ◌++◌, length, Option, Some, None, slice_get, ◌⊎◌}
+use Rattle.std.specs.Prelude.{◌≡◌, ℕ, ◌+◌, ◌*◌, ◌^◌, ◌<◌, ◌≤◌, Bool, true, false, ◌&&◌, if◌then◌else◌, List, [], ◌∷◌}
+use Rattle.std.specs.Prelude.{◌++◌, length, Option, Some, None, slice_get, ◌⊎◌}
+use Rattle.cas_base.specs.declared.kind.Kind.{Kind}
 use Rattle.cas_base.specs.declared.kind.Kind.TheVariants.{I32, U32}
 use Rattle.cas_base.specs.declared.kind.Ty.{Ty}
 use Rattle.cas_base.specs.declared.kind.Ty.TheVariants.{Void, Int, Ptr, Array}
@@ -9,9 +11,9 @@ use Rattle.cas_base.specs.declared.decl.Form.TheVariants.{Lock, Shared, Table, F
 use Rattle.cas_base.specs.declared.decl.Global.{Global}
 use Rattle.cas_base.specs.declared.decl.Unit.{Unit as UnitOf}
 use Rattle.cas_base.specs.Ty.{words_of_ty}
-use Rattle.cas_runs.specs.Label.{NameBytes, same_name}
-use Rattle.cas_runs.specs.Edge.{Cell, LockWord, SharedWord, TableWord, Signature, Edge, signature_of, IsOfKind, most_words, most_live}
-use Rattle.cas_runs.specs.Access.{Stretch, Words}
+use Rattle.cas_runs.specs.Label.{Each, NameBytes, same_name}
+use Rattle.cas_runs.specs.Edge.{Cell, LockWord, SharedWord, TableWord, Stretch, Words, Signature, Edge, signature_of}
+use Rattle.cas_runs.specs.Edge.{IsOfKind, most_words, most_live}
 use Rattle.cas_runs.specs.Naming.{Layout, Part, ArePlaced}
 use Rattle.cas_runs.specs.Machine.{Machine}
 use Rattle.cas_runs.specs.Outside.{Holds}
@@ -26,12 +28,17 @@ pub record Stack : Type 0 where
 abbrev pub first_address : ℕ
 first_address = 4096
 
--- a stack that a thread can have at the edge: at whole words past those of globals and locks, not too small or too large, with addresses that are words,
--- also that of its end, which is never 0
+-- no stack begins below this address, so that no frame that a function can have reaches below 0
+abbrev pub least_stack : ℕ
+least_stack = 268435456
+
+-- a stack that a thread can have: at whole words past those of globals and locks, not too small or too large, with
+-- addresses that are words, also that of its end, which is never 0
 pub record IsStack (edge : Edge) (stack : Stack) : Type 0 where
   pub words_before : ℕ
   pub aligned : stack.address ≡ 4 * words_before
   pub past_words : first_address + 4 * length edge.cells ≤ stack.address
+  pub far : least_stack ≤ stack.address
   pub in_reach : stack.address + 4 * stack.size < 2 ^ 32
   pub least : 16 ≤ stack.size
   pub most : stack.size ≤ most_live
@@ -48,25 +55,30 @@ first_place = 8
 abbrev pub end_place : ℕ
 end_place = 4294967295
 
+-- a function has these places
+pub record IsPlaced (places : Stretch) : Type 0 where
+  pub past_locks : first_place ≤ places.first
+  pub before_end : places.first + places.size < end_place
+  pub some : 1 ≤ places.size
+
 -- the places of two functions are apart
 abbrev pub ArePlacesApart : Code → (f g : NameBytes) → Type 0
-ArePlacesApart code f g = (f ≡ g) ⊎ ((code f).first + (code f).size ≤ (code g).first) ⊎ ((code g).first + (code g).size ≤ (code f).first)
+ArePlacesApart code f g =
+    (f ≡ g) ⊎ ((code f).first + (code f).size ≤ (code g).first) ⊎ ((code g).first + (code g).size ≤ (code f).first)
 
-abbrev pub PlacesFrom : Code → NameBytes → List Signature → Type 0
-PlacesFrom code name [] = Unit {0}
-PlacesFrom code name (f ∷ fs) = ArePlacesApart code name f.name × PlacesFrom code name fs
-
--- the functions stand past Lock and Unlock and before the place that ends a thread, each apart from the others
+-- the functions stand past Lock and Unlock and before the place that ends a thread, each at one place at least and
+-- apart from the others
 abbrev pub IsCode : Code → List Signature → Type 0
 IsCode code [] = Unit {0}
-IsCode code (f ∷ fs) = ((first_place ≤ (code f.name).first) × ((code f.name).first + (code f.name).size < end_place)) × PlacesFrom code f.name fs × IsCode code fs
+IsCode code (f ∷ fs) =
+    IsPlaced (code f.name) × Each (λ (g : Signature). ArePlacesApart code f.name g.name) fs × IsCode code fs
 
--- where a machine runs: the edge, where the words of each global and lock stand, which stretches of blocks are objects, the stack, where the
--- instructions of each function stand, and the values that nothing fixes, at each occasion one for each place. Those are flags and words below the stack's top
--- after a call of the lock; and at Enter and Back esp, the registers that a function keeps, the return word and the addresses of the outside's objects
+-- where a machine runs: the edge, which stretches of blocks are objects, the stack, where the instructions of each
+-- function stand, and the values that nothing fixes, at each occasion one for each place. Those are flags and words
+-- below the stack's top after a call of the lock; and at Enter and Back esp, the registers that a function keeps, the
+-- return word and the addresses of the outside's objects
 pub record Setting : Type 0 where
   pub edge : Edge
-  pub words : Words
   pub layout : Layout
   pub stack : Stack
   pub code : Code
@@ -74,7 +86,7 @@ pub record Setting : Type 0 where
 
 -- the setting with another layout
 abbrev pub laid_out : Setting → Layout → Setting
-laid_out setting layout = record { edge = setting.edge; words = setting.words; layout = layout; stack = setting.stack; code = setting.code; unknown = setting.unknown }
+laid_out setting layout = record setting { layout = layout }
 
 -- a language: of its functions F the names and the sizes of an activation's blocks, and its runs with states S
 pub record Language (F S : Type 0) : Type 0 where
@@ -104,69 +116,77 @@ AreLaidOut (size ∷ sizes) k parts = ArePlaced 0 size (parts k) × AreLaidOut s
 
 -- the blocks of each function that is found are laid out within their sizes
 abbrev pub IsLayout : {F S : Type 0} → Language F S → List F → Layout → Type 0
-IsLayout {F = F} l fs layout = (name : NameBytes) (f : F) → found l.name fs name ≡ Some f → AreLaidOut (l.blocks f) 0 (layout name)
+IsLayout {F = F} l fs layout =
+    (name : NameBytes) (f : F) → found l.name fs name ≡ Some f → AreLaidOut (l.blocks f) 0 (layout name)
 
 -- the word is a lock
 abbrev pub lock_at : Option Cell → ℕ → Option ℕ
 lock_at (Some LockWord) n = Some n
-lock_at (Some (SharedWord kind guard initial)) n = None
-lock_at (Some (TableWord value)) n = None
-lock_at None n = None
+lock_at _ n = None
 
 abbrev pub lock_number : List Cell → Option Stretch → Option ℕ
 lock_number cells None = None
 lock_number cells (Some s) = lock_at (slice_get cells s.first) s.first
 
 -- the number of the lock of this name, if it is one
-abbrev pub guard_of : Edge → Words → NameBytes → Option ℕ
-guard_of edge words name = lock_number edge.cells (words name)
+abbrev pub guard_of : Edge → NameBytes → Option ℕ
+guard_of edge name = lock_number edge.cells (edge.words name)
 
 abbrev pub and_number : Option ℕ → List ℕ → List ℕ
 and_number None ns = ns
 and_number (Some n) ns = n ∷ ns
 
 -- the numbers of the locks of these names
-abbrev pub lock_numbers : Edge → Words → List NameBytes → List ℕ
-lock_numbers edge words [] = []
-lock_numbers edge words (n ∷ ns) = and_number (guard_of edge words n) (lock_numbers edge words ns)
+abbrev pub lock_numbers : Edge → List NameBytes → List ℕ
+lock_numbers edge [] = []
+lock_numbers edge (n ∷ ns) = and_number (guard_of edge n) (lock_numbers edge ns)
+
+-- the kind of the words of a global of the type
+abbrev pub kind_of_words : Ty → Option Kind
+kind_of_words (Int kind) = Some kind
+kind_of_words (Array kind size) = Some kind
+kind_of_words _ = None
+
+-- a cell with a value of the kind
+abbrev pub HasValue : Option Kind → (ℕ → Kind → Cell) → Cell → Type 0
+HasValue None cell_of c = ⊥
+HasValue (Some kind) cell_of c = (value : ℕ) × IsOfKind value kind × (c ≡ cell_of value kind)
 
 -- a shared word of the type, with its guard
 abbrev pub IsSharedCell : Ty → Option ℕ → Cell → Type 0
-IsSharedCell Void guard c = ⊥
-IsSharedCell (Ptr kind) guard c = ⊥
-IsSharedCell (Int kind) guard c = (initial : ℕ) × IsOfKind initial kind × (c ≡ SharedWord kind guard initial)
-IsSharedCell (Array kind size) guard c = (initial : ℕ) × IsOfKind initial kind × (c ≡ SharedWord kind guard initial)
+IsSharedCell ty guard = HasValue (kind_of_words ty) (λ value kind. SharedWord kind guard value)
 
 -- a word of a table of the type
 abbrev pub IsTableCell : Ty → Cell → Type 0
-IsTableCell Void c = ⊥
-IsTableCell (Ptr kind) c = ⊥
-IsTableCell (Int kind) c = (value : ℕ) × IsOfKind value kind × (c ≡ TableWord value)
-IsTableCell (Array kind size) c = (value : ℕ) × IsOfKind value kind × (c ≡ TableWord value)
+IsTableCell ty = HasValue (kind_of_words ty) (λ value kind. TableWord value)
 
 -- the stretch has so many words, and each is such a cell
 abbrev pub AreCells : Edge → Option Stretch → ℕ → (Cell → Type 0) → Type 0
-AreCells edge stretch count IsSuch = (s : Stretch) × (stretch ≡ Some s) × (s.size ≡ count) × ((k : ℕ) → k < count → (c : Cell) × (slice_get edge.cells (s.first + k) ≡ Some c) × IsSuch c)
+AreCells edge stretch count IsSuch =
+    (s : Stretch) × (stretch ≡ Some s) × (s.size ≡ count)
+    × ((k : ℕ) → k < count → (c : Cell) × (slice_get edge.cells (s.first + k) ≡ Some c) × IsSuch c)
 
 -- the same locks, in whatever order and however often
 abbrev pub AreSameLocks : List ℕ → List ℕ → Type 0
 AreSameLocks locks others = Holds locks others × Holds others locks
 
 -- the function is known by its types and by the set of locks that it holds
-abbrev pub IsKnown : Edge → Words → NameBytes → Ty → List Ty → List NameBytes → Type 0
-IsKnown edge words name ret params holds = (f : Signature) × (signature_of edge.functions name ≡ Some f) × (f.ret ≡ ret) × (f.params ≡ params) × AreSameLocks f.holds (lock_numbers edge words holds)
+abbrev pub IsKnown : Edge → NameBytes → Ty → List Ty → List NameBytes → Type 0
+IsKnown edge name ret params holds =
+    (f : Signature) × (signature_of edge.functions name ≡ Some f) × (f.ret ≡ ret) × (f.params ≡ params)
+    × AreSameLocks f.holds (lock_numbers edge holds)
 
 -- the edge has what is declared
-abbrev pub IsDeclared : Edge → Words → NameBytes → Form → Type 0
-IsDeclared edge words name Lock = AreCells edge (words name) 1 (λ c. c ≡ LockWord)
-IsDeclared edge words name (Shared ty lock) = AreCells edge (words name) (words_of_ty ty) (IsSharedCell ty (guard_of edge words lock))
-IsDeclared edge words name (Table ty) = AreCells edge (words name) (words_of_ty ty) (IsTableCell ty)
-IsDeclared edge words name (Function ret params holds) = IsKnown edge words name ret params holds
+abbrev pub IsDeclared : Edge → NameBytes → Form → Type 0
+IsDeclared edge name Lock = AreCells edge (edge.words name) 1 (λ c. c ≡ LockWord)
+IsDeclared edge name (Shared ty lock) =
+    AreCells edge (edge.words name) (words_of_ty ty) (IsSharedCell ty (guard_of edge lock))
+IsDeclared edge name (Table ty) = AreCells edge (edge.words name) (words_of_ty ty) (IsTableCell ty)
+IsDeclared edge name (Function ret params holds) = IsKnown edge name ret params holds
 
 -- the edge has all of these
-abbrev pub AreDeclared : Edge → Words → List Decl → Type 0
-AreDeclared edge words [] = Unit {0}
-AreDeclared edge words (d ∷ ds) = IsDeclared edge words d.name d.form × AreDeclared edge words ds
+abbrev pub AreDeclared : Edge → List Decl → Type 0
+AreDeclared edge = Each (λ (d : Decl). IsDeclared edge d.name d.form)
 
 -- the value that a word has at first
 abbrev pub first_value : Cell → ℕ
@@ -177,32 +197,29 @@ first_value (TableWord value) = value
 -- the words from this one on have these values at first
 abbrev pub HaveValues : Edge → ℕ → List ℕ → Type 0
 HaveValues edge n [] = Unit {0}
-HaveValues edge n (v ∷ vs) = ((c : Cell) × (slice_get edge.cells n ≡ Some c) × (first_value c ≡ v)) × HaveValues edge (n + 1) vs
+HaveValues edge n (v ∷ vs) =
+    ((c : Cell) × (slice_get edge.cells n ≡ Some c) × (first_value c ≡ v)) × HaveValues edge (n + 1) vs
 
 -- the defined globals have their values. A lock has none among a unit's data: its word is 1 at first
-abbrev pub HaveData : Edge → Words → List Global → Type 0
-HaveData edge words [] = Unit {0}
-HaveData edge words (g ∷ gs) = ((s : Stretch) × (words g.decl.name ≡ Some s) × HaveValues edge s.first g.values) × HaveData edge words gs
+abbrev pub HaveData : Edge → List Global → Type 0
+HaveData edge =
+    Each (λ (g : Global). (s : Stretch) × (edge.words g.decl.name ≡ Some s) × HaveValues edge s.first g.values)
 
 -- the words of two names are apart
 abbrev pub AreApart : Words → Decl → Decl → Type 0
-AreApart words d e = (s t : Stretch) → words d.name ≡ Some s → words e.name ≡ Some t → (d.name ≡ e.name) ⊎ (s.first + s.size ≤ t.first) ⊎ (t.first + t.size ≤ s.first)
-
-abbrev pub ApartFrom : Words → Decl → List Decl → Type 0
-ApartFrom words d [] = Unit {0}
-ApartFrom words d (e ∷ es) = AreApart words d e × ApartFrom words d es
+AreApart words d e =
+    (s t : Stretch) → words d.name ≡ Some s → words e.name ≡ Some t →
+    (d.name ≡ e.name) ⊎ (s.first + s.size ≤ t.first) ⊎ (t.first + t.size ≤ s.first)
 
 -- no two of them share words
 abbrev pub AllApart : Words → List Decl → Type 0
 AllApart words [] = Unit {0}
-AllApart words (d ∷ ds) = ApartFrom words d ds × AllApart words ds
+AllApart words (d ∷ ds) = Each (AreApart words d) ds × AllApart words ds
 
 -- the declaration is a function's definition
 abbrev pub defined_as : Form → Bool → Bool
-defined_as Lock defined = false
-defined_as (Shared ty lock) defined = false
-defined_as (Table ty) defined = false
 defined_as (Function ret params holds) defined = defined
+defined_as _ defined = false
 
 -- the unit defines a function of this name
 abbrev pub defines : List Decl → NameBytes → Bool
@@ -220,8 +237,7 @@ AreDefined l decls fs = (name : NameBytes) → has_function l fs name ≡ define
 
 -- the outside may enter the functions for which the test is true, and no others
 abbrev pub OnlyInside : (NameBytes → Bool) → List Signature → Type 0
-OnlyInside test [] = Unit {0}
-OnlyInside test (f ∷ fs) = (f.inside ≡ test f.name) × OnlyInside test fs
+OnlyInside test = Each (λ (f : Signature). f.inside ≡ test f.name)
 
 -- what the word is at first is a value of its kind, or a word
 abbrev pub IsInKind : Cell → Type 0
@@ -229,39 +245,36 @@ IsInKind LockWord = Unit {0}
 IsInKind (SharedWord kind guard initial) = IsOfKind initial kind
 IsInKind (TableWord value) = IsOfKind value U32
 
-abbrev pub AreInKind : List Cell → Type 0
-AreInKind [] = Unit {0}
-AreInKind (c ∷ cs) = IsInKind c × AreInKind cs
-
 -- an edge that a program can have: not too many words, and what they are at first is in kind
 pub record IsEdge (edge : Edge) : Type 0 where
   pub few : length edge.cells ≤ most_words
-  pub kinds : AreInKind edge.cells
+  pub kinds : Each IsInKind edge.cells
 
--- an edge, a stack and places of code at which a unit with these declarations and data may run
-pub record FitsUnit (edge : Edge) (words : Words) (stack : Stack) (code : Code) (decls : List Decl) (globals : List Global) : Type 0 where
-  pub edge_is : IsEdge edge
-  pub stack_is : IsStack edge stack
-  pub code_is : IsCode code edge.functions
-  pub declared : AreDeclared edge words decls
-  pub data_there : HaveData edge words globals
-  pub apart : AllApart words decls
-  pub entered : OnlyInside (defines decls) edge.functions
+-- a setting in which a unit with these declarations and data may run
+pub record FitsUnit (setting : Setting) (decls : List Decl) (globals : List Global) : Type 0 where
+  pub edge_is : IsEdge setting.edge
+  pub stack_is : IsStack setting.edge setting.stack
+  pub code_is : IsCode setting.code setting.edge.functions
+  pub declared : AreDeclared setting.edge decls
+  pub data_there : HaveData setting.edge globals
+  pub apart : AllApart setting.edge.words decls
+  pub entered : OnlyInside (defines decls) setting.edge.functions
 
--- an edge, a stack and places of code at which the function of this name, of a unit with these declarations, may run alone: all others are outside
-pub record FitsFunction (edge : Edge) (words : Words) (stack : Stack) (code : Code) (decls : List Decl) (name : NameBytes) : Type 0 where
-  pub edge_is : IsEdge edge
-  pub stack_is : IsStack edge stack
-  pub code_is : IsCode code edge.functions
-  pub declared : AreDeclared edge words decls
-  pub apart : AllApart words decls
-  pub entered : OnlyInside (same_name name) edge.functions
+-- a setting in which the function of this name, of a unit with these declarations, may run alone: all others are
+-- outside
+pub record FitsFunction (setting : Setting) (decls : List Decl) (name : NameBytes) : Type 0 where
+  pub edge_is : IsEdge setting.edge
+  pub stack_is : IsStack setting.edge setting.stack
+  pub code_is : IsCode setting.code setting.edge.functions
+  pub declared : AreDeclared setting.edge decls
+  pub apart : AllApart setting.edge.words decls
+  pub entered : OnlyInside (same_name name) setting.edge.functions
 
--- what is known where these functions run, in a unit, alone or in a program, with these declarations: the edge has all that is declared, no two names
--- share words, and each of the functions is declared as defined
-pub record AreKnown {F S : Type 0} (l : Language F S) (edge : Edge) (words : Words) (decls : List Decl) (fs : List F) : Type 0 where
-  pub declared : AreDeclared edge words decls
-  pub apart : AllApart words decls
+-- what is known where these functions run, in a unit, alone or in a program, with these declarations: the edge has all
+-- that is declared, no two names share words, and each of the functions is declared as defined
+pub record AreKnown {F S : Type 0} (l : Language F S) (edge : Edge) (decls : List Decl) (fs : List F) : Type 0 where
+  pub declared : AreDeclared edge decls
+  pub apart : AllApart edge.words decls
   pub defined : (name : NameBytes) → has_function l fs name ≡ true → defines decls name ≡ true
 
 -- the function has the type of a thread's entry: it takes the thread's number, returns nothing and holds no lock
@@ -287,42 +300,61 @@ abbrev pub all_functions : {F : Type 0} → List (UnitOf F) → List F
 all_functions [] = []
 all_functions (u ∷ us) = u.funs ++ all_functions us
 
--- an edge at which a thread of the whole program of these units may run: the edge has all that they declare, with their data, their functions are those
--- that they declare as defined, and the entry is one of them
-pub record FitsProgram {F S : Type 0} (l : Language F S) (edge : Edge) (words : Words) (units : List (UnitOf F)) (entry : NameBytes) : Type 0 where
+-- an edge at which a thread of the whole program of these units may run: the edge has all that they declare, with their
+-- data, their functions are those that they declare as defined, and the entry is one of them
+pub record FitsProgram {F S : Type 0} (l : Language F S) (edge : Edge) (units : List (UnitOf F))
+    (entry : NameBytes) : Type 0 where
   pub edge_is : IsEdge edge
-  pub declared : AreDeclared edge words (all_decls units)
-  pub data_there : HaveData edge words (all_globals units)
-  pub apart : AllApart words (all_decls units)
+  pub declared : AreDeclared edge (all_decls units)
+  pub data_there : HaveData edge (all_globals units)
+  pub apart : AllApart edge.words (all_decls units)
   pub defined : AreDefined l (all_decls units) (all_functions units)
   pub there : has_function l (all_functions units) entry ≡ true
   pub entry_is : IsEntry edge entry
 
--- the unit t refines the unit s: their declarations, their data and the names of their functions are equal, the functions are those that are declared as defined,
--- and its runs refine those of s in each setting of s, where its own objects are at the places that the naming gives
-pub record UnitRefines {F G S T : Type 0} (lt : Language F T) (ls : Language G S) (t : UnitOf F) (s : UnitOf G) : Type 0 where
+-- what a naming of layouts makes of a layout of the source's blocks is one of the target's
+abbrev pub LaidOutToo : {F G S T : Type 0} → Language F T → Language G S → List F → List G → (Layout → Layout) → Type 0
+LaidOutToo lt ls ts ss naming = (layout : Layout) → IsLayout ls ss layout → IsLayout lt ts (naming layout)
+
+-- the unit t refines the unit s: their declarations, their data and the names of their functions are equal, the
+-- functions are those that are declared as defined, and its runs refine those of s in each setting of s, where its
+-- own objects are at the places that the naming gives
+pub record UnitRefines {F G S T : Type 0} (lt : Language F T) (ls : Language G S) (t : UnitOf F)
+    (s : UnitOf G) : Type 0 where
   pub decls : t.decls ≡ s.decls
   pub globals : t.globals ≡ s.globals
   pub names : names_of lt t.funs ≡ names_of ls s.funs
   pub defined : AreDefined ls s.decls s.funs
   pub naming : Layout → Layout
-  pub laid_out_too : (layout : Layout) → IsLayout ls s.funs layout → IsLayout lt t.funs (naming layout)
-  pub refines : (setting : Setting) → FitsUnit setting.edge setting.words setting.stack setting.code s.decls s.globals → IsLayout ls s.funs setting.layout → Refines setting.edge (lt.unit (laid_out setting (naming setting.layout)) t.funs) (ls.unit setting s.funs)
+  pub laid_out_too : LaidOutToo lt ls t.funs s.funs naming
+  pub refines : (setting : Setting) → FitsUnit setting s.decls s.globals → IsLayout ls s.funs setting.layout →
+      Refines setting.edge (lt.unit (laid_out setting (naming setting.layout)) t.funs) (ls.unit setting s.funs)
 
--- the function t refines the function s, where these are the declarations of the unit of both, and both have this name, which they define
-pub record FunctionRefines {F G S T : Type 0} (lt : Language F T) (ls : Language G S) (decls : List Decl) (name : NameBytes) (t : F) (s : G) : Type 0 where
+-- the function t refines the function s, where these are the declarations of the unit of both, and both have this name,
+-- which they define
+pub record FunctionRefines {F G S T : Type 0} (lt : Language F T) (ls : Language G S) (decls : List Decl)
+    (name : NameBytes) (t : F) (s : G) : Type 0 where
   pub target_name : lt.name t ≡ name
   pub source_name : ls.name s ≡ name
   pub defined : defines decls name ≡ true
   pub naming : Layout → Layout
-  pub laid_out_too : (layout : Layout) → IsLayout ls (s ∷ []) layout → IsLayout lt (t ∷ []) (naming layout)
-  pub refines : (setting : Setting) → FitsFunction setting.edge setting.words setting.stack setting.code decls name → IsLayout ls (s ∷ []) setting.layout → Refines setting.edge (lt.alone (laid_out setting (naming setting.layout)) t) (ls.alone setting s)
+  pub laid_out_too : LaidOutToo lt ls (t ∷ []) (s ∷ []) naming
+  pub refines : (setting : Setting) → FitsFunction setting decls name → IsLayout ls (s ∷ []) setting.layout →
+      Refines setting.edge (lt.alone (laid_out setting (naming setting.layout)) t) (ls.alone setting s)
 
--- at an edge that fits the program of the units ss, the thread of this entry and number of the program of ts, with equal declarations and data, refines that of ss, on each stack that it can have and wherever its code can stand
-pub record ThreadRefines {F G S T : Type 0} (lt : Language F T) (ls : Language G S) (edge : Edge) (words : Words) (ts : List (UnitOf F)) (ss : List (UnitOf G)) (entry : NameBytes) (thread : ℕ) : Type 0 where
-  pub fits : FitsProgram ls edge words ss entry
+-- at an edge that fits the program of the units ss, each thread of this entry of the program of ts, with equal
+-- declarations, data and names of functions, refines that of ss, in each layout, on each stack and wherever the code
+-- can stand. A thread's number is a word
+pub record ThreadRefines {F G S T : Type 0} (lt : Language F T) (ls : Language G S) (edge : Edge) (ts : List (UnitOf F))
+    (ss : List (UnitOf G)) (entry : NameBytes) : Type 0 where
+  pub fits : FitsProgram ls edge ss entry
   pub decls : all_decls ts ≡ all_decls ss
   pub globals : all_globals ts ≡ all_globals ss
+  pub names : names_of lt (all_functions ts) ≡ names_of ls (all_functions ss)
   pub naming : Layout → Layout
-  pub laid_out_too : (layout : Layout) → IsLayout ls (all_functions ss) layout → IsLayout lt (all_functions ts) (naming layout)
-  pub refines : (layout : Layout) (stack : Stack) (code : Code) (unknown : (occasion place : ℕ) → ℕ) → IsStack edge stack → IsCode code edge.functions → IsLayout ls (all_functions ss) layout → Refines edge (lt.thread (record { edge = edge; words = words; layout = naming layout; stack = stack; code = code; unknown = unknown }) (all_functions ts) entry thread) (ls.thread (record { edge = edge; words = words; layout = layout; stack = stack; code = code; unknown = unknown }) (all_functions ss) entry thread)
+  pub laid_out_too : LaidOutToo lt ls (all_functions ts) (all_functions ss) naming
+  pub refines : (setting : Setting) (thread : ℕ) → setting.edge ≡ edge → IsStack setting.edge setting.stack →
+      IsCode setting.code setting.edge.functions → IsLayout ls (all_functions ss) setting.layout → IsOfKind thread U32 →
+      Refines setting.edge
+      (lt.thread (laid_out setting (naming setting.layout)) (all_functions ts) entry thread)
+      (ls.thread setting (all_functions ss) entry thread)

@@ -3,7 +3,7 @@
 use Rattle.std.specs.Prelude.{◌≡◌, List, [], ◌∷◌}
 use Rattle.cas_runs.specs.Label.{RunLabel}
 use Rattle.cas_runs.specs.Edge.{Edge}
-use Rattle.cas_runs.specs.Machine.{Act, Quiet, Machine, Footprint, StepsTo, IsBad, Opened, Block, begun, onward, Run}
+use Rattle.cas_runs.specs.Machine.{Act, Quiet, Machine, Footprint, StepsTo, Opened, Block, begun, onward, Run}
 
 -- silent steps lead from one state to another, and from the block so far to the block with these steps
 pub data Star {S : Type 0} (m : Machine S) : Block → S → Block → S → Type 0 where
@@ -35,14 +35,6 @@ module _ {S : Type 0} (edge : Edge) (m : Machine S) where
     pub begins : Begins ls bs origin
     pub star : Star m (begun m origin) origin b y
 
-  -- a run with all of these labels comes to a step that is Bad
-  pub record BadNow (ls : List RunLabel) : Type 0 where
-    pub blocks : List Block
-    pub block : Block
-    pub at : S
-    pub run : Run edge m ls blocks block at
-    pub bad : IsBad (m.act at)
-
 -- blocks begin at the same state, after the same blocks
 pub record SameBeginning {S : Type 0} (bs cs : List Block) (x y : S) : Type 0 where
   pub blocks : bs ≡ cs
@@ -53,7 +45,8 @@ pub record DoSame {S : Type 0} (m n : Machine S) (x : S) : Type 0 where
   pub act : m.act x ≡ n.act x
   pub price : m.price x ≡ n.price x
   pub footprint : m.footprint x ≡ n.footprint x
-  pub open_functions : m.open_functions x ≡ n.open_functions x
+  pub activations : m.activations x ≡ n.activations x
+  pub called : m.called x ≡ n.called x
 
 -- the machines are equal at each state that a run of the first reaches
 pub record EqualWhereReached {S : Type 0} (edge : Edge) (m n : Machine S) : Type 0 where

@@ -3,7 +3,6 @@
 ghost use Rattle.std.specs.Prelude.{◌≡◌, ℕ, ◌⊎◌, List, true};
 ghost use Rattle.cas_base.specs.declared.decl.Unit.{Unit as UnitOf};
 ghost use Rattle.cas_base.specs.declared.decl.Decl.{Decl};
-ghost use Rattle.cas_runs.specs.Access.{Words};
 ghost use Rattle.cas_runs.specs.Bounds.{IsTariff};
 ghost use Rattle.cas_runs.specs.Calls.{Activations, language};
 ghost use Rattle.cas_runs.specs.Label.{NameBytes, RunLabel};
@@ -35,7 +34,7 @@ pub fn functions_compose<F, G, H, T, S, R>()
 /// Refinements of threads compose.
 #[tactic(auto, using(crate::proofs::Units::threads_both))]
 pub fn threads_compose<F, G, H, T, S, R>()
-    ensures { (lt : Language F T) (ls : Language G S) (lr : Language H R) (edge : Edge) (words : Words) (ts : List (UnitOf F)) (ss : List (UnitOf G)) (rs : List (UnitOf H)) (entry : NameBytes) (thread : ℕ) → ThreadRefines lt ls edge words ts ss entry thread → ThreadRefines ls lr edge words ss rs entry thread → ThreadRefines lt lr edge words ts rs entry thread }
+    ensures { (lt : Language F T) (ls : Language G S) (lr : Language H R) (edge : Edge) (ts : List (UnitOf F)) (ss : List (UnitOf G)) (rs : List (UnitOf H)) (entry : NameBytes) → ThreadRefines lt ls edge ts ss entry → ThreadRefines ls lr edge ss rs entry → ThreadRefines lt lr edge ts rs entry }
 {}
 
 /// Where each Call and Leave of the target has one label, each of its runs is kept by the source, or the
@@ -63,7 +62,7 @@ pub fn functions_refine_themselves<F, A>()
 
 /// And a thread of a whole program, at an edge that fits it.
 pub fn threads_refine_themselves<F, A>()
-    ensures { (l : Activations F A) → IsTariff l.tariff → (edge : Edge) (words : Words) (units : List (UnitOf F)) (entry : NameBytes) (thread : ℕ) → FitsProgram (language l) edge words units entry → ThreadRefines (language l) (language l) edge words units units entry thread }
+    ensures { (l : Activations F A) → IsTariff l.tariff → (edge : Edge) (units : List (UnitOf F)) (entry : NameBytes) → FitsProgram (language l) edge units entry → ThreadRefines (language l) (language l) edge units units entry }
 {}
 
 /// A thread of a whole program has no Call and no Leave. So where it refines, each of its runs is kept, or the

@@ -17,16 +17,17 @@ pub use compose::{
     threads_refine_themselves, units_compose, units_refine_themselves,
 };
 pub use layer::{FunctionPass, functions_refine, threads_refine, units_refine};
-pub use pass::{Pass, run_pass, steps_refine};
+pub use pass::{Pass, run_pass, runs_match, steps_refine};
 pub use refused::{
     dropped_store_refused, endless_loop_refused, kept_word_refused, self_lock_refused,
     wrong_place_refused,
 };
 pub use rules::{
-    crossings_are_received, functions_keep_rules, programs_know_results, sections_keep_kinds,
-    sections_keep_locks, sections_keep_rules, threads_keep_rules, threads_never_cross,
-    units_call_out, units_in_order_are_defined, units_keep_rules,
+    crossings_are_received, functions_keep_rules, never_full, programs_know_results,
+    sections_keep_kinds, sections_keep_locks, sections_keep_rules, threads_keep_rules,
+    threads_never_cross, units_call_out, units_in_order_are_defined, units_keep_rules,
 };
 pub use walking::{
-    bad_now, beginnings_are_one, equal_machines_run, longest_run, runs_are_walks, walks_are_runs,
+    bad_now, beginnings_are_one, equal_machines_refine, equal_machines_run, longest_run,
+    runs_are_walks, walks_are_runs,
 };

@@ -1,19 +1,19 @@
 //! Passes, as relations of the states of two machines.
 
-ghost use Rattle.std.specs.Prelude.{IfOk, List};
+ghost use Rattle.std.specs.Prelude.{IfOk, List, ◌⊎◌};
 ghost use Rattle.cas_runs.specs.Label.{RunLabel};
 ghost use Rattle.cas_runs.specs.Machine.{Machine, Block};
 ghost use Rattle.cas_runs.specs.Naming.{Layout};
-ghost use Rattle.cas_runs.specs.Refines.{Refines};
-ghost use Rattle.cas_runs.specs.Simulation.{Simulates};
+ghost use Rattle.cas_runs.specs.Refines.{BadBefore, Comes, HasRun, Reached, Reaches, Refines};
+ghost use Rattle.cas_runs.specs.Simulation.{RunsMatch, Simulates};
 ghost use Rattle.cas_runs.specs.Unit.{Setting, laid_out};
 
 use cas_base::NoMemory;
 use std::alloc::Global;
 
 /// A pass of the compiler, from what it takes to what it makes. An implementation names what is made of
-/// what, and a relation between the states of the two machines, with the block so far of each; `simulates`
-/// shows that each step of the target keeps the relation.
+/// what, and which states of the two machines match, with the block so far of each; `simulates` shows that
+/// each step of the target keeps them matched.
 pub trait Pass {
     /// What it takes.
     type Source;
@@ -42,16 +42,16 @@ pub trait Pass {
     /// The target is what the pass makes of the source.
     ghost makes: { Self.Source → Self.Target → Type 0 };
 
-    /// Behind these labels, the states of target and source with the block so far of each, where they stand for one another.
-    ghost related: { Setting → Self.Source → Self.Target → List RunLabel → target_state → Block → source_state → Block → Type 0 };
+    /// After these labels, the states of target and source with the block so far of each, where they match.
+    ghost match_states: { Setting → Self.Source → Self.Target → List RunLabel → target_state → Block → source_state → Block → Type 0 };
 
     /// What the pass makes of the source.
     fn apply(&self, alloc: Global, from: &Self::Source) -> Result<Self::Target, NoMemory>
         ensures { IfOk result (λ to. makes from.now to) };
 
-    /// The law that each step of the target keeps the relation.
+    /// The law that each step of the target keeps states matched.
     fn simulates()
-        ensures { (setting : Setting) (a : Self.Source) (b : Self.Target) → makes a b → fits setting a → Simulates setting.edge (target (laid_out setting (naming a setting.layout)) b) (source setting a) (related setting a b) };
+        ensures { (setting : Setting) (a : Self.Source) (b : Self.Target) → makes a b → fits setting a → Simulates setting.edge (target (laid_out setting (naming a setting.layout)) b) (source setting a) (match_states setting a b) };
 }
 
 /// What a pass makes refines what it is made of, in each setting that fits that. Which settings fit is the
@@ -69,4 +69,17 @@ pub fn run_pass<P: Pass>(alloc: Global, pass: &P, from: &P::Source) -> Result<P:
 {
     P::simulates();
     pass.apply(alloc, from)
+}
+
+/// Each run of what the pass makes, with labels that the source has, matches one of the source with the same
+/// labels, or the source is Bad before.
+pub fn runs_match<P: Pass>()
+    ensures { (setting : Setting) (a : P.Source) (b : P.Target) → P.makes a b → P.fits setting a
+        → (ls : List RunLabel) (x : Reached P.target_state)
+        → Reaches setting.edge (P.target (laid_out setting (P.naming a setting.layout)) b) ls x
+        → HasRun setting.edge (P.source setting a) ls
+        → BadBefore setting.edge (P.source setting a) ls
+        ⊎ Comes setting.edge (P.source setting a) ls (RunsMatch setting.edge (P.target (laid_out setting (P.naming a setting.layout)) b) (P.source setting a) (P.match_states setting a b) ls x) }
+{
+    P::simulates();
 }

@@ -5,12 +5,11 @@ ghost use Rattle.std.specs.List.{AllByRecursion};
 ghost use Rattle.cas_base.specs.declared.decl.Decl.{Decl};
 ghost use Rattle.cas_base.specs.declared.decl.Unit.{Unit as UnitOf};
 ghost use Rattle.cas_base.specs.Unit.{IsInOrder};
-ghost use Rattle.cas_runs.specs.Access.{Words};
 ghost use Rattle.cas_runs.specs.Bounds.{IsTariff};
-ghost use Rattle.cas_runs.specs.Calls.{Activations, Thread, language};
+ghost use Rattle.cas_runs.specs.Calls.{Activations, Scene, Thread, language, machine};
 ghost use Rattle.cas_runs.specs.Edge.{Edge, results_of};
 ghost use Rattle.cas_runs.specs.Label.{ArePlain, NameBytes, RunLabel};
-ghost use Rattle.cas_runs.specs.Machine.{Block, Run};
+ghost use Rattle.cas_runs.specs.Machine.{Block, Full, Run, Stops};
 ghost use Rattle.cas_runs.specs.Receiving.{CallsAreReceived, ReturnsAreReceived};
 ghost use Rattle.cas_runs.specs.Rules.{CallsOut, KeepsKinds, KeepsLocks, KeepsRules};
 ghost use Rattle.cas_runs.specs.Sections.{Instruction, StoresWords, one_lock, sections};
@@ -48,6 +47,13 @@ pub fn threads_keep_rules<F, A>()
     ensures { (l : Activations F A) (setting : Setting) → IsTariff l.tariff → (fs : List F) (entry : NameBytes) (thread : ℕ) → IsLayout (language l) fs setting.layout → KeepsRules setting.edge ((language l).thread setting fs entry thread) }
 {}
 
+/// No machine of the layer of calls stops for want of stack, whatever its functions do: that comes in languages with
+/// addresses alone.
+#[tactic(auto, using(crate::proofs::Opening::never_full))]
+pub fn never_full<F, A>()
+    ensures { (l : Activations F A) (setting : Setting) (scene : Scene F) (start x : Thread F A) → (machine l setting scene start).act x ≡ Stops Full → ⊥ }
+{}
+
 /// In a run of a thread of a whole program no call crosses: each of its labels is a Lock, an Unlock, an Out or
 /// Done.
 #[tactic(auto, using(crate::proofs::Closed::threads_plain))]
@@ -65,13 +71,13 @@ pub fn units_in_order_are_defined<F, S>()
 /// The machine of a unit whose functions are its defined declarations calls over its edge no function that the
 /// edge has inside.
 pub fn units_call_out<F, A>()
-    ensures { (l : Activations F A) (decl_of : F → Decl) (unit : UnitOf F) (setting : Setting) → ((f : F) → (decl_of f).name ≡ l.name f) → IsInOrder decl_of unit → FitsUnit setting.edge setting.words setting.stack setting.code unit.decls unit.globals → CallsOut setting.edge ((language l).unit setting unit.funs) }
+    ensures { (l : Activations F A) (decl_of : F → Decl) (unit : UnitOf F) (setting : Setting) → ((f : F) → (decl_of f).name ≡ l.name f) → IsInOrder decl_of unit → FitsUnit setting unit.decls unit.globals → CallsOut setting.edge ((language l).unit setting unit.funs) }
 {}
 
 /// At an edge that fits a whole program it is known of each of its functions how many values it returns. So a
 /// return to a function of the program is no step without a meaning for want of that.
 pub fn programs_know_results<F, S>()
-    ensures { (l : Language F S) (edge : Edge) (words : Words) (units : List (UnitOf F)) (entry : NameBytes) → FitsProgram l edge words units entry → (name : NameBytes) → has_function l (all_functions units) name ≡ true → (n : ℕ) × (results_of edge name ≡ Some n) }
+    ensures { (l : Language F S) (edge : Edge) (units : List (UnitOf F)) (entry : NameBytes) → FitsProgram l edge units entry → (name : NameBytes) → has_function l (all_functions units) name ≡ true → (n : ℕ) × (results_of edge name ≡ Some n) }
 {}
 
 /// What a unit emits another may hear: where it keeps the rules, emits what is in kind, and has the locks that are due, its
