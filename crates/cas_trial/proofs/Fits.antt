@@ -5,9 +5,8 @@ use Rattle.cas_base.specs.declared.kind.Kind.TheVariants.{I32}
 use Rattle.cas_base.specs.declared.kind.Ty.TheVariants.{Int}
 use Rattle.std.specs.Prelude.{slice_get}
 use Rattle.cas_runs.specs.Label.{same_name, Place, Crossing, RunLabel, Lock, Unlock, Out, Enter, Back, Call}
-use Rattle.cas_runs.specs.Edge.{LockWord, SharedWord, Cell}
+use Rattle.cas_runs.specs.Edge.{LockWord, SharedWord, Cell, Stretch}
 use Rattle.cas_runs.specs.Naming.{ArePlaced}
-use Rattle.cas_runs.specs.Access.{Stretch}
 use Rattle.cas_runs.specs.Machine.{Quiet, Machine, StepsTo, begun, onward, starts, quiet, labelled}
 use Rattle.cas_runs.specs.Refines.{HasRun}
 use Rattle.cas_runs.specs.Rules.{KeepsRules}
@@ -17,7 +16,7 @@ use Rattle.cas_runs.specs.Unit.{AreDefined, FitsUnit, AreApart, IsSharedCell, Se
 use Rattle.cas_runs.specs.Calls.{Thread, language}
 use Rattle.cas_trial.specs.declared.joining.Apart.{Apart}
 use Rattle.cas_trial.specs.Stages.{main_name, show_name, lock_name, global_name, Stage, apart}
-use Rattle.cas_trial.proofs.Joins.{apart_prices}
+use Rattle.cas_trial.proofs.joining.Simulation.{apart_prices}
 use Rattle.cas_trial.specs.Fitting.{lock_decl, global_decl, main_decl, show_decl, decls, globals, edge, words, setting, two_words, first_object, labels, program}
 
 -- a name without words is apart from all
@@ -37,11 +36,11 @@ at_global : (k : ℕ) → k < 1 → (c : Cell) × (slice_get edge.cells (1 + k) 
 at_global zero less = (SharedWord I32 (Some 0) 5, refl, (5, refl, refl))
 at_global (suc k) less = absurd (omega (arith, less))
 
-pub unit_fits : FitsUnit edge words setting.stack setting.code decls globals
+pub unit_fits : FitsUnit setting decls globals
 unit_fits = record {
   edge_is = record { few = omega arith; kinds = (tt, (refl, tt)) };
-  stack_is = record { words_before = 67108864; aligned = omega arith; past_words = omega arith; in_reach = omega arith; least = omega arith; most = omega arith };
-  code_is = ((omega arith, omega arith), (inr (inl (omega arith)), tt), ((omega arith, omega arith), tt, tt));
+  stack_is = record { words_before = 67108864; aligned = omega arith; past_words = omega arith; far = omega arith; in_reach = omega arith; least = omega arith; most = omega arith };
+  code_is = ((record { past_locks = omega arith; before_end = omega arith; some = omega arith }), (inr (inl (omega arith)), tt), ((record { past_locks = omega arith; before_end = omega arith; some = omega arith }), tt, tt));
   declared = ((record { first = 0; size = 1 }, refl, refl, λ k less. at_lock k less), ((record { first = 1; size = 1 }, refl, refl, λ k less. at_global k less), ((_, refl, refl, refl, (tt, tt)), ((_, refl, refl, refl, (tt, tt)), tt))));
   data_there = ((record { first = 0; size = 1 }, refl, tt), ((record { first = 1; size = 1 }, refl, ((SharedWord I32 (Some 0) 5, refl, refl), tt)), tt));
   apart = ((lock_and_global, (no_words lock_decl main_decl (inr refl), (no_words lock_decl show_decl (inr refl), tt))), ((no_words global_decl main_decl (inr refl), (no_words global_decl show_decl (inr refl), tt)), ((no_words main_decl show_decl (inr refl), tt), (tt, tt))));
@@ -80,17 +79,17 @@ front zero ls = ls
 front (suc n) [] = []
 front (suc n) (l ∷ ls) = front n ls
 
-abbrev on : (ls : List RunLabel) (h : HasRun edge m ls) (y : Thread Apart Stage) → m.act h.at ≡ Quiet y → HasRun edge m ls
-on ls h y e = record { blocks = h.blocks; block = onward m h.block y; at = y; run = quiet y h.run e }
+abbrev on : (ls : List RunLabel) (h : HasRun edge m ls) (y : Thread Apart Stage) → m.act h.to.at ≡ Quiet y → HasRun edge m ls
+on ls h y e = record { to = record { blocks = h.to.blocks; block = onward m h.to.block y; at = y }; run = quiet y h.run e; there = tt }
 
-abbrev by_label : (ls : List RunLabel) (l : RunLabel) (h : HasRun edge m ls) (y : Thread Apart Stage) → StepsTo edge ls (m.act h.at) l y → HasRun edge m (l ∷ ls)
-by_label ls l h y e = record { blocks = h.block ∷ h.blocks; block = begun m y; at = y; run = labelled l y h.run e }
+abbrev by_label : (ls : List RunLabel) (l : RunLabel) (h : HasRun edge m ls) (y : Thread Apart Stage) → StepsTo edge ls (m.act h.to.at) l y → HasRun edge m (l ∷ ls)
+by_label ls l h y e = record { to = record { blocks = h.to.block ∷ h.to.blocks; block = begun m y; at = y }; run = labelled l y h.run e; there = tt }
 
 abbrev nothing_crossed : Crossing
 nothing_crossed = record { values = []; share = []; objects = [] }
 
 abbrev entered : HasRun edge m (front 6 labels)
-entered = by_label [] (Enter main_name nothing_crossed) (record { blocks = []; block = begun m m.start; at = m.start; run = starts }) _ (record { signature = _; known = refl; inside = refl; values = tt; holds = tt; brings = record { share = tt; objects = tt; room = omega arith; numbers = refl } }, refl)
+entered = by_label [] (Enter main_name nothing_crossed) (record { to = record { blocks = []; block = begun m m.start; at = m.start }; run = starts; there = tt }) _ (record { signature = _; known = refl; inside = refl; values = tt; holds = tt; brings = record { share = tt; objects = tt; room = omega arith; numbers = refl } }, refl)
 
 abbrev stored : HasRun edge m (front 6 labels)
 stored = on (front 6 labels) entered _ refl
@@ -105,19 +104,17 @@ abbrev unlocked : HasRun edge m (front 4 labels)
 unlocked = by_label (front 5 labels) (Unlock 0 (3 ∷ [])) wrote _ (refl, refl)
 
 abbrev showed : HasRun edge m (front 3 labels)
-showed = by_label (front 4 labels) (Call show_name (record { values = Place 0 1 ∷ []; share = []; objects = first_object 3 ∷ [] })) unlocked _ (tt, refl)
+showed = by_label (front 4 labels) (Call show_name (record { values = Place 0 1 ∷ []; share = []; objects = first_object 3 ∷ [] })) unlocked _ (record { values = Place 0 1 ∷ []; objects = first_object 3 ∷ [] }, refl, refl)
 
 abbrev came : HasRun edge m (front 2 labels)
 came = by_label (front 3 labels) (Back (record { values = Place 0 0 ∷ []; share = []; objects = first_object 9 ∷ [] })) showed _ (
   record {
     function = show_name;
-    locks = [];
     older = _;
     newest = refl;
     signature = _;
     known = refl;
     values = (record { it = first_object 9; there = refl; same_kind = λ live. refl; in_reach = omega arith }, tt);
-    same_locks = refl;
     brings = record { share = tt; objects = (record { owner = refl; kind = refl; size = refl; contents = record { size = refl; kinds = (refl, tt) } }, tt); room = omega arith; numbers = refl };
   },
   refl,

@@ -1,7 +1,5 @@
 pub mod Fits
+pub mod Pacing
 pub mod Received
-pub mod Joins
-pub mod Slowing
-pub mod Sums
-pub mod Tailcalls
 pub mod Whole
+pub mod Wrong

@@ -16,7 +16,7 @@ abbrev same_number : ℕ → Option ℕ
 same_number n = Some n
 
 same_object : IsSame (first_object 3) their_object
-same_object = record { kind = refl; size = refl; contents = refl }
+same_object = record { owner = tt; kind = refl; size = refl; contents = refl }
 
 said_there : (i j : ℕ) (o : Object) → slice_get emitted.objects i ≡ Some o → same_number i ≡ Some j → (new : Object) × (slice_get received.objects j ≡ Some new) × IsSame o new
 said_there zero j o at number =
@@ -50,13 +50,13 @@ known = record { cells = refl; here = _; there = _; known_here = refl; known_the
 of_show : (P : Signature → Type 0) (s : Signature) → P (known.here) → signature_of edge.functions show_name ≡ Some s → P s
 of_show P s h e = let same : known.here ≡ s = cc e in subst P same h
 
-pub call_crosses : MayCross edge before (Call show_name emitted)
-call_crosses = record { share = tt; same_locks = refl; objects = (record { owner = refl; contents = refl }, tt); numbers = refl }
+pub call_crosses : MayCross edge before (Some show_name) emitted
+call_crosses = record { returns = tt; carries = record { share = tt; same_locks = refl; objects = (record { owner = refl; contents = refl }, tt); numbers = refl } }
 
 pub call_in_kind : EmitsInKind edge before (Call show_name emitted)
 call_in_kind s e =
     of_show (λ (x : Signature). CrossInKind edge x.params emitted) s
-    (record { values = (record { it = first_object 3; there = refl; same_kind = λ live. refl; in_reach = omega arith }, tt); share = tt; objects = ((refl, tt), tt); sizes = (omega arith, omega arith, tt) }) e
+    (record { values = (record { it = first_object 3; there = refl; same_kind = λ live. refl; in_reach = omega arith }, tt); share = tt; objects = ((refl, tt), tt); sizes = ((omega arith, omega arith), tt) }) e
 
 pub call_holds : EmitsLocks edge before (Call show_name emitted)
 call_holds s e = of_show (λ (x : Signature). Holds [] x.holds) s tt e

@@ -6,9 +6,8 @@ use Rattle.cas_base.specs.declared.decl.Decl.{Decl}
 use Rattle.cas_base.specs.declared.decl.Form.TheVariants as forms
 use Rattle.cas_base.specs.declared.decl.Global.{Global}
 use Rattle.cas_runs.specs.Label.{same_name, Place, Inside, Object, RunLabel, Lock, Unlock, Out, Enter, Back, Call}
-use Rattle.cas_runs.specs.Edge.{Edge, LockWord, SharedWord}
+use Rattle.cas_runs.specs.Edge.{Edge, LockWord, SharedWord, Words}
 use Rattle.cas_runs.specs.Naming.{Part, Layout}
-use Rattle.cas_runs.specs.Access.{Words}
 use Rattle.cas_runs.specs.Unit.{Setting}
 use Rattle.cas_trial.specs.declared.joining.Apart.{Apart}
 use Rattle.cas_trial.specs.Stages.{main_name, show_name, lock_name, global_name}
@@ -33,14 +32,15 @@ abbrev pub globals : List Global
 globals = record { decl = lock_decl; values = [] } ∷ record { decl = global_decl; values = 5 ∷ [] } ∷ []
 
 -- the lock is word 0, and it guards word 1
+abbrev pub words : Words
+words = λ name. if same_name name lock_name then Some (record { first = 0; size = 1 }) else if same_name name global_name then Some (record { first = 1; size = 1 }) else None
+
 abbrev pub edge : Edge
 edge = record {
   cells = LockWord ∷ SharedWord I32 (Some 0) 5 ∷ [];
+  words = words;
   functions = record { name = main_name; ret = Void; params = []; holds = []; inside = true } ∷ record { name = show_name; ret = Ptr I32; params = Ptr I32 ∷ []; holds = []; inside = false } ∷ [];
 }
-
-abbrev pub words : Words
-words = λ name. if same_name name lock_name then Some (record { first = 0; size = 1 }) else if same_name name global_name then Some (record { first = 1; size = 1 }) else None
 
 -- the first two blocks are one word each
 abbrev pub two_words : ℕ → List Part
@@ -53,7 +53,7 @@ abbrev pub one_word_each : Layout
 one_word_each = λ function. two_words
 
 abbrev pub setting : Setting
-setting = record { edge = edge; words = words; layout = one_word_each; stack = record { address = 268435456; size = 16 }; code = λ name. if same_name name main_name then record { first = 8; size = 16 } else record { first = 24; size = 16 }; unknown = λ occasion place. 0 }
+setting = record { edge = edge; layout = one_word_each; stack = record { address = 268435456; size = 16 }; code = λ name. if same_name name main_name then record { first = 8; size = 16 } else record { first = 24; size = 16 }; unknown = λ occasion place. 0 }
 
 -- the first variable with this word
 abbrev pub first_object : ℕ → Object

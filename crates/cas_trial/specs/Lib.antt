@@ -1,8 +1,12 @@
 pub mod Fitting
+pub mod Joining
+pub mod Lowering
+pub mod Pacing
 pub mod Receiving
-pub mod Paces
-pub mod Places
 pub mod Relays
 pub mod Stages
+pub mod Summing
 pub mod Sums
+pub mod Tailing
 pub mod Whole
+pub mod Wrong

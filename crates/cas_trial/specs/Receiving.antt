@@ -11,6 +11,7 @@ use Rattle.cas_trial.specs.Stages.{main_name, show_name}
 abbrev pub other : Edge
 other = record {
   cells = edge.cells;
+  words = edge.words;
   functions = record { name = main_name; ret = Void; params = []; holds = []; inside = false } ∷ record { name = show_name; ret = Ptr I32; params = Ptr I32 ∷ []; holds = []; inside = true } ∷ [];
 }
 

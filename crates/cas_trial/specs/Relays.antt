@@ -1,11 +1,9 @@
 -- Two small languages without blocks of memory. A program's function `main` calls `show` with a word and returns its result, or nothing: by a call and
 -- a return, or by a tail call.
-use Rattle.std.specs.Prelude.{◌≡◌, ℕ, List, [], ◌∷◌, ◌++◌, Option, Some, None}
+use Rattle.std.specs.Prelude.{ℕ, List, [], ◌∷◌, Option, Some, None}
 use Rattle.cas_runs.specs.Naming.{Value, Number}
-use Rattle.cas_runs.specs.Machine.{Block}
-use Rattle.cas_runs.specs.Refines.{Within}
 use Rattle.cas_runs.specs.Bounds.{ByForms}
-use Rattle.cas_runs.specs.Access.{Accesses, Then, Holding}
+use Rattle.cas_runs.specs.Access.{Accesses, Then}
 use Rattle.cas_runs.specs.Calls.{Last, Calls, Tails, Returns, Activations}
 use Rattle.cas_trial.specs.declared.tailing.Relayed.{Relayed}
 use Rattle.cas_trial.specs.declared.tailing.Relaying.{Relaying}
@@ -61,15 +59,3 @@ tailing = record {
   form = tailing_form;
   tariff = ByForms (λ a. 2) (λ a. []) 1 (λ f. 0) (λ f. 0) (λ f. 2 ∷ []);
 }
-
--- the program of the other language with the same word
-abbrev pub IsTailing : Relayed → Relaying → Type 0
-IsTailing to from = to.word ≡ from.word
-
--- both stand at their calls: after its call the target has nothing more to do
-pub data AtCall : ℕ → Relay → Holding → Block → Relay → Holding → Block → Type 0 where
-  at_call : {n word : ℕ} {h k : Holding} {b c : Block} → Within b c → AtCall n (Begins word) h b (Begins word) k c
-
--- the results that it returns are the first of those that come
-abbrev pub ReturnsFirst : (List Value → List Value) → Type 0
-ReturnsFirst returned = (values : List Value) → (more : List Value) × (values ≡ returned values ++ more)

@@ -45,7 +45,3 @@ plain = record {
   form = sum_form (λ v. v);
   tariff = ByForms (λ a. 1) (λ a. []) 1 (λ f. 0) (λ f. 0) (λ f. 1 ∷ 1 ∷ 1 ∷ 1 ∷ []);
 }
-
--- both stand at the same place
-pub data SameSum : Sum → Sum → Type 0 where
-  same_sum : {x : Sum} → SameSum x x

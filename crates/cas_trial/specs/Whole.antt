@@ -7,10 +7,10 @@ use Rattle.cas_base.specs.declared.decl.Decl.{Decl}
 use Rattle.cas_base.specs.declared.decl.Unit.{Unit as UnitOf}
 use Rattle.cas_base.specs.declared.decl.Form.TheVariants as forms
 use Rattle.cas_runs.specs.Label.{NameBytes, same_name, RunLabel, Out, Done}
-use Rattle.cas_runs.specs.Edge.{Edge, TableWord}
+use Rattle.cas_runs.specs.Edge.{Edge, TableWord, Words}
 use Rattle.cas_runs.specs.Naming.{Value, Number}
 use Rattle.cas_runs.specs.Bounds.{ByForms}
-use Rattle.cas_runs.specs.Access.{Accesses, Reads, Then, Words}
+use Rattle.cas_runs.specs.Access.{Accesses, Reads, Then}
 use Rattle.cas_runs.specs.Unit.{Setting}
 use Rattle.cas_runs.specs.Calls.{Last, Puts, Calls, Returns, Activations}
 use Rattle.cas_trial.specs.Stages.{main_name, global_name}
@@ -73,17 +73,25 @@ abbrev pub program : List (UnitOf Routine)
 program = unit ∷ []
 
 -- the table is word 0
-abbrev pub edge : Edge
-edge = record {
-  cells = TableWord 1 ∷ [];
-  functions = record { name = helper_name; ret = Void; params = []; holds = []; inside = false } ∷ record { name = main_name; ret = Void; params = Int I32 ∷ []; holds = []; inside = false } ∷ [];
-}
-
 abbrev pub words : Words
 words = λ name. if same_name name global_name then Some (record { first = 0; size = 1 }) else None
 
+abbrev pub edge : Edge
+edge = record {
+  cells = TableWord 1 ∷ [];
+  words = words;
+  functions = record { name = helper_name; ret = Void; params = []; holds = []; inside = false }
+      ∷ record { name = main_name; ret = Void; params = Int I32 ∷ []; holds = []; inside = false } ∷ [];
+}
+
 abbrev pub setting : Setting
-setting = record { edge = edge; words = words; layout = λ function block. []; stack = record { address = 268435456; size = 16 }; code = λ name. if same_name name main_name then record { first = 8; size = 16 } else record { first = 24; size = 16 }; unknown = λ occasion place. 0 }
+setting = record {
+  edge = edge;
+  layout = λ function block. [];
+  stack = record { address = 268435456; size = 16 };
+  code = λ name. if same_name name main_name then record { first = 8; size = 16 } else record { first = 24; size = 16 };
+  unknown = λ occasion place. 0;
+}
 
 abbrev pub labels : List RunLabel
 labels = Done ∷ Out 1 ∷ []

@@ -6,8 +6,10 @@ ghost use Rattle.cas_base.specs.declared.decl.Unit.{Unit as UnitOf};
 ghost use Rattle.cas_runs.specs.Calls.{language};
 ghost use Rattle.cas_runs.specs.Passing.{AllMade};
 ghost use Rattle.cas_runs.specs.Unit.{AreDefined, FunctionRefines, UnitRefines, defines};
-ghost use Rattle.cas_runs.specs.Unmoved.{Equal};
-ghost use Rattle.cas_trial.specs.Relays.{AtCall, IsTailing, Relay, calling, dropping, tailing};
+ghost use Rattle.cas_runs.specs.Unmoved.{unmoved};
+ghost use Rattle.cas_trial.specs.Relays.{Relay, calling, dropping, tailing};
+ghost use Rattle.cas_trial.specs.Tailing.Makes.{IsTailing};
+ghost use Rattle.cas_trial.specs.Tailing.Match.{tail_calls};
 ghost use Rattle.cas_trial.specs.Stages.{main_name};
 
 use cas_base::NoMemory;
@@ -39,33 +41,13 @@ impl FunctionPass for TailCalls {
 
     ghost target_activation = { Relay };
 
-    ghost source = { calling };
-
-    ghost target = { tailing };
-
-    ghost made = { IsTailing };
-
-    ghost naming = { λ ss layout. layout };
-
-    ghost match_values = { λ setting ts ss v w. v ≡ w };
-
-    ghost match_memory = { λ setting ts ss. Equal };
-
-    ghost settled = { λ setting ts ss. Equal };
-
-    ghost frame = { λ setting ts ss n h k u v. Unit {0} };
-
-    ghost match_states = { λ setting ts ss f g. AtCall };
+    ghost matching = { unmoved (tail_calls (λ values. values)) };
 
     fn translate(&self, _alloc: Global, from: &Relaying) -> Result<Relayed, NoMemory> {
         Ok(Relayed { word: from.word })
     }
 
-    fn names_stay() {}
-
-    fn laid_out_too() {}
-
-    fn passes() {}
+    fn shows() {}
 }
 
 /// Makes the tail call. The result refines the program as a function: its activation is gone where the
@@ -74,7 +56,8 @@ impl FunctionPass for TailCalls {
 /// Errors: none but want of memory.
 pub fn relay(alloc: Global, program: &Relaying) -> Result<Relayed, NoMemory>
     ensures word { IfOk result (λ made. IsTailing made program.now) }
-    ensures refines { IfOk result (λ made. (decls : List Decl) → defines decls main_name ≡ true → FunctionRefines (language tailing) (language calling) decls main_name made program.now) }
+    ensures refines { IfOk result (λ made. (decls : List Decl) → defines decls main_name ≡ true
+        → FunctionRefines (language tailing) (language calling) decls main_name made program.now) }
 {
     functions_refine::<TailCalls>();
     TailCalls.translate(alloc, program)
@@ -82,13 +65,17 @@ pub fn relay(alloc: Global, program: &Relaying) -> Result<Relayed, NoMemory>
 
 /// Units of such programs refine, where their declarations and data are equal.
 pub fn units_relay()
-    ensures { (s : UnitOf Relaying) (t : UnitOf Relayed) → t.decls ≡ s.decls → t.globals ≡ s.globals → AreDefined (language calling) s.decls s.funs → AllMade IsTailing t.funs s.funs → UnitRefines (language tailing) (language calling) t s }
+    ensures { (s : UnitOf Relaying) (t : UnitOf Relayed) → t.decls ≡ s.decls → t.globals ≡ s.globals
+        → AreDefined (language calling) s.decls s.funs → AllMade IsTailing t.funs s.funs
+        → UnitRefines (language tailing) (language calling) t s }
 {
     units_refine::<TailCalls>();
 }
 
 /// So do units of programs that return nothing of the result: who called them takes none.
-#[tactic(auto, using(crate::proofs::Tailcalls::units_drop))]
+#[tactic(auto, using(crate::proofs::tailing::Simulation::units_drop))]
 pub fn units_drop()
-    ensures { (s : UnitOf Relaying) (t : UnitOf Relayed) → t.decls ≡ s.decls → t.globals ≡ s.globals → AreDefined (language dropping) s.decls s.funs → AllMade IsTailing t.funs s.funs → UnitRefines (language tailing) (language dropping) t s }
+    ensures { (s : UnitOf Relaying) (t : UnitOf Relayed) → t.decls ≡ s.decls → t.globals ≡ s.globals
+        → AreDefined (language dropping) s.decls s.funs → AllMade IsTailing t.funs s.funs
+        → UnitRefines (language tailing) (language dropping) t s }
 {}
