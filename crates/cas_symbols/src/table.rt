@@ -1,6 +1,6 @@
 //! The symbol table of a module.
 
-ghost use Rattle.std.specs.Prelude.{OnOk, Some, length, map, ◌++◌, ◌∷◌, ◌≡◌, []};
+ghost use Rattle.std.specs.Prelude.{OnErr, OnOk, Some, length, map, ◌++◌, ◌∷◌, ◌≡◌, []};
 ghost use Rattle.std.specs.List.{list_any};
 ghost use Rattle.cas_base.specs.Decl.{definitions, is_named};
 ghost use Rattle.cas_symbols.specs.Meanings.{is_defined, symbol_meaning};
@@ -97,7 +97,8 @@ impl<'a> Symbols<'a> {
 
     /// Adds a declaration. If it runs out of memory, or has `u32::MAX` declarations, the table stays as it is.
     pub fn declare(&mut self, decl: &'a Decl) -> Result<(), NoMemory>
-        ensures { OnOk result (self.new ≡ self.old ++ decl.now ∷ []) }
+        ensures added { OnOk result (self.new ≡ self.old ++ decl.now ∷ []) }
+        ensures kept { OnErr result (self.new ≡ self.old) }
     {
         if self.len() == u32::MAX {
             return Err(NoMemory);
