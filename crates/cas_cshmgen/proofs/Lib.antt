@@ -4,3 +4,5 @@ pub mod Values
 pub mod Simulation
 pub mod Entry
 pub mod Statements
+pub mod Rows
+pub mod Sizes

@@ -21,5 +21,6 @@
 
 mod expr;
 mod parts;
+mod stmt;
 
 pub use expr::make_expr;
