@@ -4,7 +4,7 @@ use Rattle.cas_base.specs.declared.decl.Decl.{Decl}
 use Rattle.cas_base.specs.declared.decl.Global.{Global}
 use Rattle.cas_base.specs.declared.decl.Unit.{Unit as UnitOf}
 use Rattle.cas_syntax.specs.Tree.{FunTree, ItemTree, global, prototype, define}
-use Rattle.cas_typed.specs.Counts.{local_types, nodes_of}
+use Rattle.cas_typed.specs.Counts.{nodes_of}
 use Rattle.cas_typed.specs.Modules.{decl_of}
 use Rattle.cas_typed.specs.Resolved.{TypedFunTree, TypedModuleTree}
 use Rattle.cas_clight.specs.Clight.{ClightFun}
@@ -29,7 +29,7 @@ abbrev pub function_of : List Decl → FunTree → TypedFunTree → ClightFun
 function_of decls f r = record {
   decl = f.decl;
   decls = decls;
-  locals = local_types f;
+  locals = map (λ v. v.ty) r.locals;
   body = r.body;
   nodes = nodes_of f;
 }

@@ -6,3 +6,5 @@ pub mod Entry
 pub mod Statements
 pub mod Rows
 pub mod Sizes
+pub mod Weights
+pub mod Functions

@@ -1,5 +1,6 @@
 -- How much of Csharpminor is made of a text's tree: what it costs, and how many values it has.
 use Rattle.std.proofs.Common.{◌≡◌, ℕ, zero, suc, ◌+◌, ◌*◌, ◌≤◌, List, [], ◌∷◌, ◌++◌, Option, Some, None, refl, ap, sym, ◌∙◌, subst, arith, map}
+use Rattle.std.proofs.lemmas.List.Sums.{sum_by-cons}
 use Rattle.cas_base.specs.declared.decl.Decl.{Decl}
 use Rattle.cas_base.specs.declared.kind.Ty.{Ty}
 use Rattle.cas_syntax.specs.declared.tree.BinaryOperator.{BinaryOperator}
@@ -8,20 +9,22 @@ use Rattle.cas_syntax.specs.declared.tree.Ident.{Ident}
 use Rattle.cas_mid.specs.declared.tree.Binop.{Binop}
 use Rattle.cas_mid.specs.declared.tree.Binop.TheVariants.{OnWords, PointerPlus, PlusPointer, PointerMinus, PointerDifference, Compare}
 use Rattle.cas_syntax.specs.Tree.{ExprTree, literal, name, index, deref, address, address_index, unary, cast, binary, and_also, or_else, conditional}
-use Rattle.cas_typed.specs.Counts.{nodes_of_expr}
+use Rattle.cas_typed.specs.Counts.{nodes_of_expr, nodes_of_exprs}
 use Rattle.cas_typed.specs.Resolved as t
 use Rattle.cas_typed.specs.Resolved.{TypedExprTree}
 use Rattle.cas_typed.specs.Scopes.{Scope}
 use Rattle.cas_typed.specs.Typing as ty
-use Rattle.cas_typed.specs.Typing.{HasType, Tests}
+use Rattle.cas_typed.specs.Typing.{HasType, Tests, Gives, GivesEach}
 use Rattle.cas_runs.specs.Bounds.{total}
 use Rattle.cas_mid.specs.Trees.{Expression, word, temporary, own, global, element, load, unop, binop, if_}
 use Rattle.cas_mid.specs.Expressions.{value_prices, word_operator_price, operator_price}
-use Rattle.cas_mid.specs.Rooms.{inner_values, unless_own, unless_temporary}
-use Rattle.cas_cshmgen.specs.Makes.{made_expr, made_condition, condition_of, is_null}
+use Rattle.cas_mid.specs.Language.{argument_prices}
+use Rattle.cas_mid.specs.Csharpminor.{csharp_parts}
+use Rattle.cas_mid.specs.Rooms.{inner_values, unless_own, unless_temporary, values as values_of, argument_values}
+use Rattle.cas_cshmgen.specs.Makes.{made_expr, made_exprs, made_condition, condition_of, is_null}
 
 pub total_append : (ms ns : List ℕ) → total (ms ++ ns) ≡ total ms + total ns
-total_append [] ns = refl
+total_append [] ns = omega arith
 total_append (m ∷ ms) ns = let rest = total_append ms ns in omega (arith, rest)
 
 -- what an expression costs
@@ -58,11 +61,11 @@ word_price op.Shr = omega arith
 word_price _ = omega arith
 
 -- a temporary or an own address has no value of its own
-less_temporary : (a : Expression) (n : ℕ) → unless_temporary a n ≤ n
+pub less_temporary : (a : Expression) (n : ℕ) → unless_temporary a n ≤ n
 less_temporary (temporary t) n = omega arith
 less_temporary _ n = omega arith
 
-less_own : (a : Expression) (n : ℕ) → unless_own a n ≤ n
+pub less_own : (a : Expression) (n : ℕ) → unless_own a n ≤ n
 less_own (own i) n = omega arith
 less_own _ n = omega arith
 
@@ -81,18 +84,18 @@ condition_values (binop (Compare op.Ne) p (word zero)) = let less = inner_less p
 condition_values _ = omega arith
 
 -- what is made of an expression with so many nodes
-record IsSized (a : Expression) (n : ℕ) : Type 0 where
-  prices : price a ≤ 61 * n
-  values : inner_values a + 1 ≤ 3 * n
+pub record IsSized (a : Expression) (n : ℕ) : Type 0 where
+  pub prices : price a ≤ 61 * n
+  pub values : inner_values a + 1 ≤ 3 * n
 
 -- the same as a condition, and as a value
-record IsTestSized (a : Expression) (n : ℕ) : Type 0 where
-  condition_prices : price (condition_of a) ≤ 61 * n
-  condition_counts : inner_values (condition_of a) + 1 ≤ 3 * n
-  prices : price a ≤ 26 + 61 * n
-  values : inner_values a + 1 ≤ 3 * n + 2
+pub record IsTestSized (a : Expression) (n : ℕ) : Type 0 where
+  pub condition_prices : price (condition_of a) ≤ 61 * n
+  pub condition_counts : inner_values (condition_of a) + 1 ≤ 3 * n
+  pub prices : price a ≤ 26 + 61 * n
+  pub values : inner_values a + 1 ≤ 3 * n + 2
 
-one_operand : (a : Expression) (n : ℕ) → IsSized a n → unless_temporary a (inner_values a + 1) ≤ 3 * n
+pub one_operand : (a : Expression) (n : ℕ) → IsSized a n → unless_temporary a (inner_values a + 1) ≤ 3 * n
 one_operand a n h = let v = h.values in let less = less_temporary a (inner_values a + 1) in omega (arith, v, less)
 
 module _ (ds : List Decl) (s : Scope) where
@@ -100,7 +103,7 @@ module _ (ds : List Decl) (s : Scope) where
   M a = made_expr ds a
 
   -- a name's value, or a pointer to it
-  named : {x : Ident} {p : TypedExprTree} {ty : Ty} → HasType s (name x) p ty → (price (M p) ≤ 26) × (inner_values (M p) ≤ 0)
+  pub named : {x : Ident} {p : TypedExprTree} {ty : Ty} → HasType s (name x) p ty → (price (M p) ≤ 26) × (inner_values (M p) ≤ 0)
   named (ty.a_local x n k m) = (omega arith, omega arith)
   named (ty.a_local_pointer x n k m) = (omega arith, omega arith)
   named (ty.a_global x g form k m v) = (omega arith, omega arith)
@@ -112,8 +115,15 @@ module _ (ds : List Decl) (s : Scope) where
       let v = one_operand p m h in let w = one_operand q n k in
       record { prices = omega (arith, le, a, b); values = omega (arith, v, w) }
 
+  chosen : (d a b : TypedExprTree) (l m n : ℕ) → IsTestSized (M d) l → IsSized (M a) m → IsSized (M b) n → IsSized (M (t.choose d a b)) (1 + (l + (m + n)))
+  chosen d a b l m n h i k =
+      let a' = h.condition_prices in let v = h.condition_counts in
+      let b' = i.prices in let w = i.values in let c' = k.prices in let x = k.values in
+      let less = less_temporary (condition_of (M d)) (inner_values (condition_of (M d)) + 1) in
+      record { prices = omega (arith, a', b', c'); values = omega (arith, v, w, x, less) }
+
   mutual
-    sized : {e : ExprTree} {a : TypedExprTree} {ty : Ty} → HasType s e a ty → IsSized (M a) (nodes_of_expr e)
+    pub sized : {e : ExprTree} {a : TypedExprTree} {ty : Ty} → HasType s e a ty → IsSized (M a) (nodes_of_expr e)
     sized (ty.a_literal n k) = record { prices = omega arith; values = omega arith }
     sized (ty.a_local x n k m) = record { prices = omega arith; values = omega arith }
     sized (ty.a_local_pointer x n k m) = record { prices = omega arith; values = omega arith }
@@ -175,7 +185,7 @@ module _ (ds : List Decl) (s : Scope) where
         record { prices = omega (arith, n0, v); values = omega (arith, n1, w, l) }
     sized (ty.first_element x n len k m) = record { prices = omega arith; values = omega arith }
 
-    tests_sized : {e : ExprTree} {c : TypedExprTree} → Tests s e c → IsTestSized (M c) (nodes_of_expr e)
+    pub tests_sized : {e : ExprTree} {c : TypedExprTree} → Tests s e c → IsTestSized (M c) (nodes_of_expr e)
     tests_sized (ty.an_integer_test a e k h) =
         let i = sized h in let v = i.prices in let w = i.values in let p = condition_price (M e) in let q = condition_values (M e) in
         record { condition_prices = omega (arith, v, p); condition_counts = omega (arith, w, q); prices = omega (arith, v); values = omega (arith, w) }
@@ -183,9 +193,42 @@ module _ (ds : List Decl) (s : Scope) where
         let i = sized h in let v = i.prices in let w = i.values in let l = less_temporary (M p) (inner_values (M p) + 1) in
         record { condition_prices = omega (arith, v); condition_counts = omega (arith, w); prices = omega (arith, v); values = omega (arith, w, l) }
 
-    chosen : (d a b : TypedExprTree) (l m n : ℕ) → IsTestSized (M d) l → IsSized (M a) m → IsSized (M b) n → IsSized (M (t.choose d a b)) (1 + (l + (m + n)))
-    chosen d a b l m n h i k =
-        let a' = h.condition_prices in let v = h.condition_counts in
-        let b' = i.prices in let w = i.values in let c' = k.prices in let x = k.values in
-        let less = less_temporary (condition_of (M d)) (inner_values (condition_of (M d)) + 1) in
-        record { prices = omega (arith, a', b', c'); values = omega (arith, v, w, x, less) }
+-- Statements: what they cost with their locals, how many values they have, and that their expressions are paid for.
+
+pub nodes_positive : (e : ExprTree) → 1 ≤ nodes_of_expr e
+nodes_positive (literal n k) = omega arith
+nodes_positive (name x) = omega arith
+nodes_positive (index x a) = omega arith
+nodes_positive (deref a) = omega arith
+nodes_positive (address x) = omega arith
+nodes_positive (address_index x a) = omega arith
+nodes_positive (unary o a) = omega arith
+nodes_positive (cast k a) = omega arith
+nodes_positive (binary o a b) = omega arith
+nodes_positive (and_also a b) = omega arith
+nodes_positive (or_else a b) = omega arith
+nodes_positive (conditional c a b) = omega arith
+
+-- a value that is converted
+pub record IsGiven (a : Expression) (n : ℕ) : Type 0 where
+  pub prices : total (value_prices a) ≤ 13 + 61 * n
+  pub values : values_of a ≤ 3 * n + 1
+
+module _ (ds : List Decl) (s : Scope) where
+  pub given : {e : ExprTree} {a : TypedExprTree} {ty : Ty} → Gives s e ty a → IsGiven (made_expr ds a) (nodes_of_expr e)
+  given (ty.an_integer e a j k h) =
+      let i = sized ds s h in let p = i.prices in let v = one_operand (made_expr ds a) (nodes_of_expr e) i in let q = price_is (made_expr ds a) in
+      record { prices = omega (arith, p, q); values = omega (arith, v) }
+  given (ty.a_pointer e a k h) =
+      let i = sized ds s h in let p = i.prices in let v = one_operand (made_expr ds a) (nodes_of_expr e) i in let q = price_is (made_expr ds a) in
+      record { prices = omega (arith, p, q); values = omega (arith, v) }
+  given (ty.a_null e k null) = record { prices = omega arith; values = omega arith }
+
+  pub arguments_sized : {args : List ExprTree} {tys : List Ty} {es : List TypedExprTree} → GivesEach s args tys es → (total (argument_prices csharp_parts (made_exprs ds es)) ≤ 82 * nodes_of_exprs args) × (argument_values (made_exprs ds es) ≤ 8 * nodes_of_exprs args)
+  arguments_sized ty.no_argument = (omega arith, omega arith)
+  arguments_sized (ty.an_argument a args ty tys e es h rest) =
+      let i = given h in let p = i.prices in let v = i.values in let n = nodes_positive a in
+      let more = arguments_sized rest in let more0 = more.0 in let more1 = more.1 in
+      let both = total_append (value_prices (made_expr ds e)) (argument_prices csharp_parts (made_exprs ds es)) in
+      let count : nodes_of_exprs (a ∷ args) ≡ nodes_of_expr a + nodes_of_exprs args = sum_by-cons (λ (i : ℕ). i) (nodes_of_expr a) (map nodes_of_expr args) in
+      (omega (arith, p, n, more0, both, count), omega (arith, v, n, more1, count))

@@ -11,6 +11,8 @@ use Rattle.std.specs.Prelude.{◌≡◌, ⊤, ℕ, ◌*◌, ◌<◌, ◌≤◌, 
 use Rattle.cas_base.specs.Ty.{words_of_ty}
 use Rattle.cas_base.specs.declared.decl.Decl.{Decl}
 use Rattle.cas_base.specs.declared.place.Place.{Place}
+use Rattle.cas_syntax.specs.Tree as tree
+use Rattle.cas_syntax.specs.Tree.{StmtTree, StmtOption, StmtList}
 use Rattle.cas_typed.specs.declared.tree.Destination.{Destination}
 use Rattle.cas_typed.specs.Resolved as t
 use Rattle.cas_typed.specs.Resolved.{TypedExprTree, TypedStmtTree, TypedStmtOption, TypedStmtList}
@@ -27,6 +29,35 @@ use Rattle.cas_mid.specs.Csharpminor.{CsharpState, csharp_parts}
 use Rattle.cas_clight.specs.Clight as clight
 use Rattle.cas_clight.specs.Clight.{ClightFun, ClightState, parameters_of, result_of, cells_of}
 use Rattle.cas_cshmgen.specs.Makes.{Csharp, made_stmt, made_part, made_call, keeps, tests, while_loop, do_loop, for_loop, closing, made_routine}
+
+-- a statement that may be the first or last part of a for
+abbrev pub IsSimpleText : StmtTree → Type 0
+IsSimpleText (tree.declare p ty x a) = ⊤
+IsSimpleText (tree.assign p target o a) = ⊤
+IsSimpleText (tree.call p x f args) = ⊤
+IsSimpleText _ = ⊥
+
+abbrev pub IsSimplePart : StmtOption → Type 0
+IsSimplePart tree.absent = ⊤
+IsSimplePart (tree.present a) = IsSimpleText a
+
+abbrev mutual
+  -- the first and last parts of each for are such statements, as in each text
+  pub ForsAreSimple : StmtTree → Type 0
+  ForsAreSimple (tree.block p bs) = AllForsAreSimple bs
+  ForsAreSimple (tree.if_ p c a b) = ForsAreSimple a × PartForsAreSimple b
+  ForsAreSimple (tree.while_ p c a) = ForsAreSimple a
+  ForsAreSimple (tree.do_ p a c) = ForsAreSimple a
+  ForsAreSimple (tree.for_ p i c u a) = IsSimplePart i × IsSimplePart u × ForsAreSimple a
+  ForsAreSimple _ = ⊤
+
+  pub PartForsAreSimple : StmtOption → Type 0
+  PartForsAreSimple tree.absent = ⊤
+  PartForsAreSimple (tree.present a) = ForsAreSimple a
+
+  pub AllForsAreSimple : StmtList → Type 0
+  AllForsAreSimple tree.no_more = ⊤
+  AllForsAreSimple (tree.one_more a bs) = ForsAreSimple a × AllForsAreSimple bs
 
 abbrev pub Rest : Type 0
 Rest = Continuation Expression Target Expression

@@ -20,6 +20,7 @@
 #![tactic(auto)]
 
 mod expr;
+mod function;
 mod parts;
 mod stmt;
 
