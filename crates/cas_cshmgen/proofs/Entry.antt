@@ -1,5 +1,7 @@
 -- Activations begin, and each step is paid for.
-use Rattle.std.proofs.Common.{◌≡◌, ℕ, zero, suc, ◌+◌, ◌*◌, ◌<◌, ◌≤◌, List, [], ◌∷◌, Option, Some, None, length, slice_get, refl, sym, ap, subst, arith}
+use Rattle.std.proofs.Common.{◌≡◌, ℕ, zero, suc, ◌+◌, ◌*◌, ◌<◌, ◌≤◌, List, [], ◌∷◌, Option, Some, None, length, slice_get, refl, sym, ap, subst, arith, Bool, true, false, if◌then◌else◌}
+use Rattle.std.proofs.lemmas.Bool.Decides.{nat_tests}
+use Rattle.cas_runs.specs.Label.{NameBytes, same_name}
 use Rattle.cas_base.specs.Word.{narrowed}
 use Rattle.cas_base.specs.declared.decl.Decl.{Decl}
 use Rattle.cas_base.specs.declared.kind.Kind.{Kind}
@@ -11,10 +13,10 @@ use Rattle.cas_typed.specs.Resolved.{TypedExprTree, TypedStmtTree, TypedStmtOpti
 use Rattle.cas_step.specs.Continuation as items
 use Rattle.cas_runs.specs.Held.{Activation, Leads, meets_there, begins_at_once, BeginIf, both_store}
 use Rattle.cas_runs.specs.Naming.{Value, Number, Pointer, Hidden, Memory}
-use Rattle.cas_runs.specs.Bounds.{total, first_price, entry_price}
+use Rattle.cas_runs.specs.Bounds.{total, first_price, entry_price, greater, most_of}
 use Rattle.cas_runs.specs.Access.{Accesses, Stores, with_value}
 use Rattle.cas_runs.specs.Calls.{Last}
-use Rattle.cas_runs.specs.Unit.{Setting}
+use Rattle.cas_runs.specs.Unit.{Setting, found}
 use Rattle.cas_mid.specs.declared.tree.CsharpFun.{CsharpFun}
 use Rattle.cas_mid.specs.Trees.{Routine, Expression, Target}
 use Rattle.cas_mid.specs.Operators.{on_word}
@@ -80,7 +82,7 @@ fill (suc n) k (v ∷ vs) = by (fill n (k + 1) vs)
         shifted zero u e = e
         shifted (suc j) u e = each j u e
 
-module _ (setting : Setting) (ts : List CsharpFun) (ss : List ClightFun) (act : Activation CsharpFun ClightFun) where
+module _ (setting : Setting) (ts : List CsharpFun) (ss : List ClightFun) (made_so : CsharpFun → ClightFun → Type 0) (act : Activation CsharpFun ClightFun) where
   abbrev N : ℕ
   N = nodes_in ss
 
@@ -88,11 +90,11 @@ module _ (setting : Setting) (ts : List CsharpFun) (ss : List ClightFun) (act : 
   K = cells_in ss
 
   abbrev Goal : ℕ → Memory → Accesses (Last CsharpState) → Accesses (Last ClightState) → Type 0
-  Goal credit m x y = Does setting ts ss act credit m x y
+  Goal credit m x y = Does setting ts ss made_so act credit m x y
 
   module _ (fn : ClightFun) (serial : ℕ) (temps : List Value) (room : HasResult fn temps) where
     abbrev Fr : Frame
-    Fr = F setting ts ss act fn serial temps room
+    Fr = F setting ts ss made_so act fn serial temps room
 
     -- the arguments are stored, from this local on
     stores_all : (count k : ℕ) (vs : List Value) (hs : List Passed) → clight.arguments k count vs ≡ Some hs → ((j : ℕ) (v : Value) → slice_get vs j ≡ Some v → slice_get temps (k + j) ≡ Some v) → (after : Csharps) (y : Accesses (Last ClightState)) (credit least : ℕ) → count * 32 + least ≤ credit → ((m : Memory) (c : ℕ) → least ≤ c → Goal c m (goes csharp_parts Fr (begin_all after [])) y) → (m : Memory) → Goal credit m (goes csharp_parts Fr (begin_all (stored_arguments k count after) [])) (storing fn serial hs y)
@@ -113,7 +115,7 @@ module _ (setting : Setting) (ts : List CsharpFun) (ss : List ClightFun) (act : 
         by (Some hs') next i q =
             let same : record { local = k; value = v } ∷ hs' ≡ hs = cc q in
             subst (λ x. Goal credit m (goes csharp_parts Fr (begin_all (stored_arguments k (suc count) after) [])) (storing fn serial x y)) same
-            (one_on setting ts ss act fn serial temps room (begin_all (stored_arguments k (suc count) after) []) (count * 32 + least) credit (omega (arith, le))
+            (one_on setting ts ss made_so act fn serial temps room (begin_all (stored_arguments k (suc count) after) []) (count * 32 + least) credit (omega (arith, le))
             (subst (λ o. Goal (count * 32 + least) m (with_value o (λ x. Stores (own_home fn serial k) 0 x (goes csharp_parts Fr (begin_all (stored_arguments (k + 1) count after) [])))) (Stores (own_home fn serial k) 0 v (storing fn serial hs' y))) (sym there)
             (both_store (λ room'. room') tt tt (λ room'. next hs' i later _))))
 
@@ -150,41 +152,56 @@ module _ (setting : Setting) (ts : List CsharpFun) (ss : List ClightFun) (act : 
       by (Array k i) = omega arith
 
   -- each step
-  pub steps_lead : (x : CsharpState) (m : Memory) (y : ClightState) (s : Memory) → MatchStates N act x m y s → Leads (R setting ts ss) (held ss) act x m y s
+  pub steps_lead : (x : CsharpState) (m : Memory) (y : ClightState) (s : Memory) → MatchStates N act x m y s → Leads (R setting ts ss made_so) (held setting ts ss) act x m y s
   steps_lead x m y s (runs {fn = fn} {serial = serial} {ts = temps} {cont = cont} {rest = rest} {m = m'} room h) =
-      let there = cont_paid setting ts ss act fn serial temps room cont rest h in
+      let there = cont_paid setting ts ss made_so act fn serial temps room cont rest h in
       let cheap = there.pays in
       meets_there there.credit (omega (arith, cheap)) (there.steps m')
   steps_lead x m y s (has_result {fn = fn} {serial = serial} {ts = temps} d v {u = u} {cont = cont} {rest = rest} {m = m'} room got conv h) =
-      let there = cont_paid setting ts ss act fn serial temps room cont rest h in
+      let there = cont_paid setting ts ss made_so act fn serial temps room cont rest h in
       let first = store_price d (parameters_of fn) rest in
       meets_there (40 + 130 * N) (omega (arith, first))
       (converted_amounts fn serial temps room d v u got (40 + 130 * N) m' _ _
-      (both_store (λ room'. room') tt tt (λ room'. one_on setting ts ss act fn serial temps room rest there.credit (40 + 130 * N) there.pays (there.steps _))) conv)
+      (both_store (λ room'. room') tt tt (λ room'. one_on setting ts ss made_so act fn serial temps room rest there.credit (40 + 130 * N) there.pays (there.steps _))) conv)
 
   -- an activation begins
-  pub begins_made : (f : CsharpFun) (g : ClightFun) (serial : ℕ) (decls : List Decl) → f ≡ act.target → g ≡ act.source → IsMade decls f g → g.nodes ≤ N → cells_of g ≤ K → (m : Memory) (vs : List Value) → BeginIf (R setting ts ss) (held ss) act (begun csharp_parts (made_routine g) serial (filled (suc (parameters_of g)) (parameters_of g) vs)) m (clight.begun g serial (clight.arguments 0 (parameters_of g) vs)) m
+  pub begins_made : (f : CsharpFun) (g : ClightFun) (serial : ℕ) (decls : List Decl) → f ≡ act.target → g ≡ act.source → IsMade decls f g → g.nodes ≤ N → cells_of g ≤ K → (m : Memory) (vs : List Value) → BeginIf (R setting ts ss made_so) (held setting ts ss) act (begun csharp_parts (made_routine g) serial (filled (suc (parameters_of g)) (parameters_of g) vs)) m (clight.begun g serial (clight.arguments 0 (parameters_of g) vs)) m
   begins_made f g serial decls is_target is_source made few cells m vs = by refl (fill (parameters_of g) 0 vs)
     where
-      first : first_price csharpminor.tariff csharpminor.blocks act.target ≤ 18 * (cells_of g + (suc (cells_of g) + cells_of g) + cells_of g + 8)
+      first : first_price csharpminor.tariff csharpminor.blocks act.target ≤ 18 * (cells_of g + (suc (parameters_of g) + (parameters_of g + g.nodes)) + parameters_of g + 8)
       first =
-          let c = made.cells in let l = made.locals in let p = made.parameters in
-          subst (λ (v : CsharpFun). first_price csharpminor.tariff csharpminor.blocks v ≤ 18 * (cells_of g + (suc (cells_of g) + cells_of g) + cells_of g + 8)) is_target
-          (subst (λ (v : Routine Expression Target Expression). entry_price 18 (total v.blocks) v.names v.parameters ≤ 18 * (cells_of g + (suc (cells_of g) + cells_of g) + cells_of g + 8)) (sym made.routine) (omega (arith, c, l, p)))
+          let c = made.cells in let l = made.locals in
+          subst (λ (v : CsharpFun). first_price csharpminor.tariff csharpminor.blocks v ≤ 18 * (cells_of g + (suc (parameters_of g) + (parameters_of g + g.nodes)) + parameters_of g + 8)) is_target
+          (subst (λ (v : Routine Expression Target Expression). entry_price 18 (total v.blocks) v.names v.parameters ≤ 18 * (cells_of g + (suc (parameters_of g) + (parameters_of g + g.nodes)) + parameters_of g + 8)) (sym made.routine) (omega (arith, c, l)))
 
-      begins_so : (ts' : List Value) → length ts' ≡ suc (parameters_of g) → ((j : ℕ) (v : Value) → slice_get vs j ≡ Some v → slice_get ts' j ≡ Some v) → (hs : List Passed) → clight.arguments 0 (parameters_of g) vs ≡ Some hs → BeginIf (R setting ts ss) (held ss) act (begun csharp_parts (made_routine g) serial (Some ts')) m (clight.begun g serial (Some hs)) m
+      begins_so : (ts' : List Value) → length ts' ≡ suc (parameters_of g) → ((j : ℕ) (v : Value) → slice_get vs j ≡ Some v → slice_get ts' j ≡ Some v) → (hs : List Passed) → clight.arguments 0 (parameters_of g) vs ≡ Some hs → BeginIf (R setting ts ss made_so) (held setting ts ss) act (begun csharp_parts (made_routine g) serial (Some ts')) m (clight.begun g serial (Some hs)) m
       begins_so ts' size each hs e =
           let room : HasResult g ts' = subst (λ v. parameters_of g < v) (sym size) (omega arith) in
           let cont = items.begin_all g.body [] in
           let rest = begin_all (made_stmts g.decls (parameters_of g) g.body (closing (result_of g))) [] in
           let h = at_rest (all_begin N g g.body (all_more g.nodes N few g.decls g.body made.small) [] (closing (result_of g)) [] at_end) in
-          let there = cont_paid setting ts ss act g serial ts' room cont rest h in
+          let there = cont_paid setting ts ss made_so act g serial ts' room cont rest h in
           let pays = there.pays in
           let few_parameters = made.parameters in
-          begins_at_once (parameters_of g * 32 + (40 + 130 * N)) (omega (arith, first, few_parameters, cells))
+          begins_at_once (parameters_of g * 32 + (40 + 130 * N)) (omega (arith, first, few_parameters, few, cells))
           (stores_all g serial ts' room (parameters_of g) 0 vs hs e (λ j v i. subst (λ x. slice_get ts' x ≡ Some v) (let same : j ≡ 0 + j = omega arith in same) (each j v i)) (made_stmts g.decls (parameters_of g) g.body (closing (result_of g))) _ (parameters_of g * 32 + (40 + 130 * N)) (40 + 130 * N) (omega arith)
-          (λ m' c le. one_on setting ts ss act g serial ts' room rest there.credit c (omega (arith, le, pays)) (there.steps m')) m)
+          (λ m' c le. one_on setting ts ss made_so act g serial ts' room rest there.credit c (omega (arith, le, pays)) (there.steps m')) m)
 
-      by : {o : Option (List Value)} {o' : Option (List Passed)} → clight.arguments 0 (parameters_of g) vs ≡ o' → Fills (parameters_of g) vs o o' → BeginIf (R setting ts ss) (held ss) act (begun csharp_parts (made_routine g) serial o) m (clight.begun g serial o') m
+      by : {o : Option (List Value)} {o' : Option (List Passed)} → clight.arguments 0 (parameters_of g) vs ≡ o' → Fills (parameters_of g) vs o o' → BeginIf (R setting ts ss made_so) (held setting ts ss) act (begun csharp_parts (made_routine g) serial o) m (clight.begun g serial o') m
       by i fills_none = tt
       by i (fills ts' hs size each) = begins_so ts' size each hs i
+
+-- a function that is found counts no more than the most
+pub most_found : (count : ClightFun → ℕ) (ss : List ClightFun) (name : NameBytes) (g : ClightFun) → found (λ (f : ClightFun). f.decl.name) ss name ≡ Some g → count g ≤ most_of count ss
+most_found count [] name g e = absurd (cc e)
+most_found count (x ∷ ss) name g e = by (same_name x.decl.name name) e (most_found count ss name g)
+  where
+    least : (a b : ℕ) → a ≤ greater a b
+    least a b = grind (arith, nat_tests)
+
+    most : (a b : ℕ) → b ≤ greater a b
+    most a b = grind (arith, nat_tests)
+
+    by : (b : Bool) → (if b then Some x else found (λ (f : ClightFun). f.decl.name) ss name) ≡ Some g → (found (λ (f : ClightFun). f.decl.name) ss name ≡ Some g → count g ≤ most_of count ss) → count g ≤ greater (count x) (most_of count ss)
+    by true i rest = let same : x ≡ g = cc i in subst (λ v. count v ≤ greater (count x) (most_of count ss)) same (least (count x) (most_of count ss))
+    by false i rest = let le = rest i in let more = most (count x) (most_of count ss) in omega (arith, le, more)

@@ -1,5 +1,5 @@
 -- Functions by their parts.
-use Rattle.std.proofs.Common.{◌≡◌, ℕ, zero, suc, ◌+◌, List, [], ◌∷◌, ◌++◌, refl, ap, sym, ◌∙◌, subst, arith}
+use Rattle.std.proofs.Common.{◌≡◌, ℕ, zero, suc, ◌+◌, List, [], ◌∷◌, ◌++◌, refl, ap, sym, ◌∙◌, arith}
 use Rattle.cas_mid.specs.declared.tree.AddressOf.{AddressOf}
 use Rattle.cas_mid.specs.declared.tree.Address.{Address}
 use Rattle.cas_mid.specs.declared.tree.Expr.{Expr}

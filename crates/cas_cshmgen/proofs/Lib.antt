@@ -8,3 +8,5 @@ pub mod Rows
 pub mod Sizes
 pub mod Weights
 pub mod Functions
+pub mod Pass
+pub mod Typed

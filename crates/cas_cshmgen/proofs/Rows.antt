@@ -1,5 +1,5 @@
 -- The row with a number.
-use Rattle.std.proofs.Common.{◌≡◌, ◌<◌, ℕ, List, Some, length, get_or, sym, subst}
+use Rattle.std.proofs.Common.{◌≡◌, ◌<◌, ℕ, List, length, get_or, subst}
 use Rattle.std.proofs.lemmas.Option.{slice_get-get_or}
 use Rattle.cas_check.specs.View.{IsTable, PartsAreWithin}
 use Rattle.cas_check.proofs.Parts_within.{row_within}

@@ -26,6 +26,7 @@ use Rattle.cas_runs.specs.Access.{Accesses, Writes, Stores, Then, with_value, le
 use Rattle.cas_runs.specs.Calls.{Last, Takes, Gives, Puts, Calls}
 use Rattle.cas_runs.specs.Unit.{Setting}
 use Rattle.cas_runs.specs.Passing.{Relation, AllMatch}
+use Rattle.cas_runs.specs.Unmoved.{Unmoved, bare, places}
 use Rattle.cas_runs.proofs.Cells.{set_same, set_length}
 use Rattle.cas_mid.specs.declared.tree.CsharpFun.{CsharpFun}
 use Rattle.cas_mid.specs.Trees as st
@@ -41,25 +42,6 @@ use Rattle.cas_cshmgen.specs.Match.{Rest, IsCheap, IsSmall, AreSmall, IsPartSmal
 use Rattle.cas_cshmgen.proofs.Asked.{asked_then, then_then}
 use Rattle.cas_cshmgen.proofs.Values.{cell_of, word_amounts, element_amounts, value_amounts, tested}
 
--- the relation, as far as steps know it
-abbrev pub R : Setting → List CsharpFun → List ClightFun → Relation CsharpFun CsharpState ClightFun ClightState
-R setting ts ss = record {
-  target = csharpminor;
-  source = clight.clight;
-  setting = setting;
-  placed = setting.layout;
-  targets = ts;
-  sources = ss;
-  by = record {
-    made = λ f g. IsMade [] f g;
-    match_values = λ v w. v ≡ w;
-    match_memory = λ p h q k. Unit {0};
-    settled = λ p h q k. Unit {0};
-    frame = λ n h k u v. Unit {0};
-    match_states = λ f g n x y. Unit {0};
-  };
-}
-
 -- the most nodes, and the most cells
 abbrev pub nodes_in : List ClightFun → ℕ
 nodes_in ss = most_of (λ f. f.nodes) ss
@@ -67,8 +49,16 @@ nodes_in ss = most_of (λ f. f.nodes) ss
 abbrev pub cells_in : List ClightFun → ℕ
 cells_in ss = most_of cells_of ss
 
-abbrev pub held : List ClightFun → Held CsharpFun CsharpState ClightFun ClightState
-held ss = record { match_states = λ act x t y s. MatchStates (nodes_in ss) act x t y s; match_memory = λ t s. t ≡ s; target_frame = λ n t s. Unit {0}; source_frame = λ n t s. Unit {0} }
+-- the pass, by what it makes and where both begin a step
+abbrev pub cshmgen : Unmoved CsharpFun CsharpState ClightFun ClightState
+cshmgen = record { target = csharpminor; source = clight.clight; made = IsMade; match_states = λ setting ts ss act x t y s. MatchStates (nodes_in ss) act x t y s }
+
+-- the relation over which steps are shown
+abbrev pub R : Setting → List CsharpFun → List ClightFun → (CsharpFun → ClightFun → Type 0) → Relation CsharpFun CsharpState ClightFun ClightState
+R setting ts ss made = bare cshmgen setting ts ss made
+
+abbrev pub held : Setting → List CsharpFun → List ClightFun → Held CsharpFun CsharpState ClightFun ClightState
+held setting ts ss = places cshmgen setting ts ss
 
 -- what the next step costs
 abbrev pub price_at : Rest → ℕ
@@ -102,12 +92,12 @@ pub all_begin : (n : ℕ) (fn : ClightFun) (bs : TypedStmtList) → AreSmall n f
 all_begin n fn t.no_more small cont after rest b = b
 all_begin n fn (t.one_more a bs) small cont after rest b = begins small.0 (all_begin n fn bs small.1 cont after rest b)
 
-module _ (setting : Setting) (ts : List CsharpFun) (ss : List ClightFun) (act : Activation CsharpFun ClightFun) where
+module _ (setting : Setting) (ts : List CsharpFun) (ss : List ClightFun) (made : CsharpFun → ClightFun → Type 0) (act : Activation CsharpFun ClightFun) where
   abbrev N : ℕ
   N = nodes_in ss
 
   abbrev pub Does : ℕ → Memory → Accesses (Last CsharpState) → Accesses (Last ClightState) → Type 0
-  Does credit m x y = Amounts (R setting ts ss) (held ss) act credit m m x y
+  Does credit m x y = Amounts (R setting ts ss made) (held setting ts ss) act credit m m x y
 
   module _ (fn : ClightFun) (serial : ℕ) (temps : List Value) (room : HasResult fn temps) where
     abbrev pub F : Frame
@@ -147,7 +137,7 @@ module _ (setting : Setting) (ts : List CsharpFun) (ss : List ClightFun) (act : 
 
     -- an expression, and what follows on its value
     valued : (a : TypedExprTree) → (credit : ℕ) (m : Memory) (k : Value → Accesses (Last CsharpState)) {A : Type 0} (next : asks.Value Object → Asks Object A) (k' : A → Accesses (Last ClightState)) → ((u : asks.Value Object) → Does credit m (k (encoded u)) (asked D (next u) k')) → Does credit m (value F (made_expr D a) k) (asked D (and_then (value_of Context a) next) k')
-    valued a credit m k next k' more = subst (λ y. Does credit m (value F (made_expr D a) k) y) (sym (asked_then D (value_of Context a) next k')) (value_amounts (R setting ts ss) (held ss) (λ i. refl) act fn serial temps a credit m k (λ u. asked D (next u) k') more)
+    valued a credit m k next k' more = subst (λ y. Does credit m (value F (made_expr D a) k) y) (sym (asked_then D (value_of Context a) next k')) (value_amounts (R setting ts ss made) (held setting ts ss) (λ i. refl) act fn serial temps a credit m k (λ u. asked D (next u) k') more)
 
     -- several, from left to right
     all_valued : (args : List TypedExprTree) → (credit : ℕ) (m : Memory) (k : List Value → Accesses (Last CsharpState)) (k' : List (asks.Value Object) → Accesses (Last ClightState)) → ((us : List (asks.Value Object)) → Does credit m (k (map encoded us)) (k' us)) → Does credit m (values csharp_parts F (made_exprs D args) k) (asked D (values_of Context args) k')
@@ -162,7 +152,7 @@ module _ (setting : Setting) (ts : List CsharpFun) (ss : List ClightFun) (act : 
     chosen c credit m k some others more =
         subst (λ y. Does credit m (value F (made_condition D c) (λ v. on_truth v k)) y)
         (ap (λ z. asked D z Effects) (sym (then_then (value_of Context c) condition (λ b. asks.gives (items.continues (ev.either some others b))))))
-        (tested (R setting ts ss) (held ss) (λ i. refl) act fn serial temps c (value_amounts (R setting ts ss) (held ss) (λ i. refl) act fn serial temps c) credit m k (λ b. asks.gives (items.continues (ev.either some others b))) Effects more)
+        (tested (R setting ts ss made) (held setting ts ss) (λ i. refl) act fn serial temps c (value_amounts (R setting ts ss made) (held setting ts ss) (λ i. refl) act fn serial temps c) credit m k (λ b. asks.gives (items.continues (ev.either some others b))) Effects more)
 
     -- where both begin a step: the target's first step and those that follow cost at most this
     pub record Paid (bound : ℕ) (cont : List ContItem) (rest : Rest) : Type 0 where
@@ -283,7 +273,7 @@ module _ (setting : Setting) (ts : List CsharpFun) (ss : List ClightFun) (act : 
         subst (λ y. Does credit m (statement csharp_parts F (M (t.assign p (to_element item at' sign i) a)) rest) y) (ap (λ x. asked D x Effects) (sym (then_then (value_of Context i) (λ v. and_then (ev.element_place Context item sign v) (λ q. asks.gives (of_global item q))) (λ c. and_then (value_of Context a) (λ v. into c v cont)))))
         (valued i credit m _ _ Effects (λ u.
         subst (λ y. Does credit m (on_word (encoded u) (λ j. with_value (place_at (number_of sign j)) (λ q. value F (made_expr D a) (λ v. on_word v (λ x. Writes (name_at D item) q x (goes csharp_parts F rest)))))) y) (ap (λ x. asked D x Effects) (sym (then_then (ev.element_place Context item sign u) (λ q. asks.gives (of_global item q)) (λ c. and_then (value_of Context a) (λ v. into c v cont)))))
-        (element_amounts (R setting ts ss) (held ss) (λ i. refl) act fn serial temps credit m item sign u (λ d q. value F (made_expr D a) (λ v. on_word v (λ x. Writes d.name q x (goes csharp_parts F rest)))) (Assigned a item cont) Effects (λ d is q. valued a credit m _ (λ v. into (of_global item q) v cont) Effects (write_at item q d is credit m cont rest h)) (slice_get D item) refl _
+        (element_amounts (R setting ts ss made) (held setting ts ss) (λ i. refl) act fn serial temps credit m item sign u (λ d q. value F (made_expr D a) (λ v. on_word v (λ x. Writes d.name q x (goes csharp_parts F rest)))) (Assigned a item cont) Effects (λ d is q. valued a credit m _ (λ v. into (of_global item q) v cont) Effects (write_at item q d is credit m cont rest h)) (slice_get D item) refl _
         (λ d is q. ap (λ (o : Option Decl). value F (made_expr D a) (λ v. on_word v (λ x. Writes (name_of o) q x (goes csharp_parts F rest)))) is))))
     assign_amounts p (to_behind k q) a cont rest h credit m =
         subst (λ y. Does credit m (statement csharp_parts F (M (t.assign p (to_behind k q) a)) rest) y) (ap (λ x. asked D x Effects) (sym (then_then (value_of Context q) (λ v. and_then (asks.pointed v) (λ b. and_then (cell_behind b) (λ c. asks.gives (of_object c.0 c.1)))) (λ c. and_then (value_of Context a) (λ v. into c v cont)))))
@@ -291,27 +281,27 @@ module _ (setting : Setting) (ts : List CsharpFun) (ss : List ClightFun) (act : 
 
     -- what comes back from a call
 
-    with_result : (d : Destination) (v : Value) (cont : List ContItem) (rest : Rest) → MatchCont N fn cont rest → (m : Memory) (o : Option Value) → clight.converted d.ty v ≡ o → MatchIf (R setting ts ss) (held ss) act (if nat_lt (parameters_of fn) (length temps) then Some (at csharp_parts (with_temporary F (parameters_of fn) v) (begin (keeps d (parameters_of fn)) ∷ rest)) else None) m (passing fn serial cont d.local o) m
+    with_result : (d : Destination) (v : Value) (cont : List ContItem) (rest : Rest) → MatchCont N fn cont rest → (m : Memory) (o : Option Value) → clight.converted d.ty v ≡ o → MatchIf (R setting ts ss made) (held setting ts ss) act (if nat_lt (parameters_of fn) (length temps) then Some (at csharp_parts (with_temporary F (parameters_of fn) v) (begin (keeps d (parameters_of fn)) ∷ rest)) else None) m (passing fn serial cont d.local o) m
     with_result d v cont rest h m None is = tt
-    with_result d v cont rest h m (Some u) is = subst (λ (b : Bool). MatchIf (R setting ts ss) (held ss) act (if b then Some (at csharp_parts (with_temporary F (parameters_of fn) v) (begin (keeps d (parameters_of fn)) ∷ rest)) else None) m (Some (clight.at fn serial (record { local = d.local; value = u } ∷ []) cont)) m) (sym (lt-ltb (parameters_of fn) (length temps) room))
+    with_result d v cont rest h m (Some u) is = subst (λ (b : Bool). MatchIf (R setting ts ss made) (held setting ts ss) act (if b then Some (at csharp_parts (with_temporary F (parameters_of fn) v) (begin (keeps d (parameters_of fn)) ∷ rest)) else None) m (Some (clight.at fn serial (record { local = d.local; value = u } ∷ []) cont)) m) (sym (lt-ltb (parameters_of fn) (length temps) room))
         (has_result d v (subst (λ k. (parameters_of fn) < k) (sym (set_length temps (parameters_of fn) v)) room) (set_same temps (parameters_of fn) v room) is h)
 
-    goes_back : (d : Destination) (cont : List ContItem) (rest : Rest) → MatchCont N fn cont rest → (m : Memory) (us : List Value) → MatchIf (R setting ts ss) (held ss) act (language.resumed csharp_parts F (Some (parameters_of fn)) (begin (keeps d (parameters_of fn)) ∷ rest) us) m (clight.resumed fn serial cont (Some d) us) m
+    goes_back : (d : Destination) (cont : List ContItem) (rest : Rest) → MatchCont N fn cont rest → (m : Memory) (us : List Value) → MatchIf (R setting ts ss made) (held setting ts ss) act (language.resumed csharp_parts F (Some (parameters_of fn)) (begin (keeps d (parameters_of fn)) ∷ rest) us) m (clight.resumed fn serial cont (Some d) us) m
     goes_back d cont rest h m [] = tt
     goes_back d cont rest h m (v ∷ us) = with_result d v cont rest h m (clight.converted d.ty v) refl
 
-    pub same_values : (us xs : List Value) → AllMatch (R setting ts ss) us xs → us ≡ xs
+    pub same_values : (us xs : List Value) → AllMatch (R setting ts ss made) us xs → us ≡ xs
     same_values [] [] h = refl
     same_values [] (x ∷ xs) h = absurd h
     same_values (u ∷ us) [] h = absurd h
     same_values (u ∷ us) (x ∷ xs) h = ap (λ v. v ∷ us) h.0 ∙ ap (λ vs. x ∷ vs) (same_values us xs h.1)
 
-    self_values : (us : List Value) → AllMatch (R setting ts ss) us us
+    self_values : (us : List Value) → AllMatch (R setting ts ss made) us us
     self_values [] = tt
     self_values (v ∷ us) = (refl, self_values us)
 
     -- both call
-    call_amounts : (item : ℕ) (args : List TypedExprTree) → (kept : Option Destination) (next : List Value → Option CsharpState) (cont : List ContItem) → ((m : Memory) (us : List Value) → MatchIf (R setting ts ss) (held ss) act (next us) m (clight.resumed fn serial cont kept us) m) → (credit : ℕ) (m : Memory) (o : Option Decl) → slice_get D item ≡ o → Does credit m (values csharp_parts F (made_exprs D args) (λ vs. Then (Calls (name_of o) vs next))) (asked D (and_then (values_of Context args) (λ vs. asks.gives (items.calls item vs kept cont))) Effects)
+    call_amounts : (item : ℕ) (args : List TypedExprTree) → (kept : Option Destination) (next : List Value → Option CsharpState) (cont : List ContItem) → ((m : Memory) (us : List Value) → MatchIf (R setting ts ss made) (held setting ts ss) act (next us) m (clight.resumed fn serial cont kept us) m) → (credit : ℕ) (m : Memory) (o : Option Decl) → slice_get D item ≡ o → Does credit m (values csharp_parts F (made_exprs D args) (λ vs. Then (Calls (name_of o) vs next))) (asked D (and_then (values_of Context args) (λ vs. asks.gives (items.calls item vs kept cont))) Effects)
     call_amounts item args kept next cont conts credit m o is =
         subst (λ y. Does credit m (values csharp_parts F (made_exprs D args) (λ vs. Then (Calls (name_of o) vs next))) y) (sym (asked_then D (values_of Context args) (λ vs. asks.gives (items.calls item vs kept cont)) Effects))
         (all_valued args credit m _ (λ vs. Effects (items.calls item vs kept cont)) (λ us. by us o is))
@@ -320,10 +310,10 @@ module _ (setting : Setting) (ts : List CsharpFun) (ss : List ClightFun) (act : 
         by us None e = subst (λ (v : Option Decl). Does credit m (Then (Calls (name_of None) (map encoded us) next)) (with_value v (λ (x : Decl). Then (Calls x.name (map encoded us) (clight.resumed fn serial cont kept))))) (sym e) fails_too
         by us (Some d) e = subst (λ (v : Option Decl). Does credit m (Then (Calls d.name (map encoded us) next)) (with_value v (λ (x : Decl). Then (Calls x.name (map encoded us) (clight.resumed fn serial cont kept))))) (sym e)
             (at_last (calls_held (self_values (map encoded us)) refl (λ vs xs same count t' s' tk sk settled.
-            subst (λ (m' : Memory). MatchIf (R setting ts ss) (held ss) act (next vs) t' (clight.resumed fn serial cont kept xs) m') settled
-            (subst (λ us'. MatchIf (R setting ts ss) (held ss) act (next vs) t' (clight.resumed fn serial cont kept us') t') (same_values vs xs same) (conts t' vs)))))
+            subst (λ (m' : Memory). MatchIf (R setting ts ss made) (held setting ts ss) act (next vs) t' (clight.resumed fn serial cont kept xs) m') settled
+            (subst (λ us'. MatchIf (R setting ts ss made) (held setting ts ss) act (next vs) t' (clight.resumed fn serial cont kept us') t') (same_values vs xs same) (conts t' vs)))))
 
-    goes_on_alone : (cont : List ContItem) (rest : Rest) → MatchCont N fn cont rest → (m : Memory) (us : List Value) → MatchIf (R setting ts ss) (held ss) act (language.resumed csharp_parts F None rest us) m (clight.resumed fn serial cont None us) m
+    goes_on_alone : (cont : List ContItem) (rest : Rest) → MatchCont N fn cont rest → (m : Memory) (us : List Value) → MatchIf (R setting ts ss made) (held setting ts ss) act (language.resumed csharp_parts F None rest us) m (clight.resumed fn serial cont None us) m
     goes_on_alone cont rest h m us = runs room h
 
     -- returns, locks and prints
@@ -341,7 +331,7 @@ module _ (setting : Setting) (ts : List CsharpFun) (ss : List ClightFun) (act : 
     unlock_amounts item cont rest h credit m (Some d) e = subst (λ (v : Option Decl). Does credit m (Then (Gives d.name (at csharp_parts F rest))) (with_value v (λ (x : Decl). Then (Gives x.name (clight.at fn serial [] cont))))) (sym e) (at_last (gives_held (runs room h)))
 
     print_amounts : (a : TypedExprTree) → (cont : List ContItem) (rest : Rest) → MatchCont N fn cont rest → (credit : ℕ) (m : Memory) → Does credit m (value F (made_expr D a) (λ v. on_word v (λ i. Then (Puts i (at csharp_parts F rest))))) (asked D (and_then (value_of Context a) (λ v. and_then (asks.word_in v) (λ i. asks.gives (items.prints i cont)))) Effects)
-    print_amounts a cont rest h credit m = valued a credit m _ (λ v. and_then (asks.word_in v) (λ i. asks.gives (items.prints i cont))) Effects (λ u. word_amounts (R setting ts ss) (held ss) (λ i. refl) act fn serial temps credit m u _ (λ i. asks.gives (items.prints i cont)) Effects (λ i. at_last (puts_held (runs room h))))
+    print_amounts a cont rest h credit m = valued a credit m _ (λ v. and_then (asks.word_in v) (λ i. asks.gives (items.prints i cont))) Effects (λ u. word_amounts (R setting ts ss made) (held setting ts ss) (λ i. refl) act fn serial temps credit m u _ (λ i. asks.gives (items.prints i cont)) Effects (λ i. at_last (puts_held (runs room h))))
 
     -- a price and a credit within what is paid
     paid : {bound : ℕ} {cont : List ContItem} {rest : Rest} (credit : ℕ) → price_at rest + credit ≤ bound → ((m : Memory) → Does credit m (continues csharp_parts F rest) (asked D (effect_of Context (result_of fn) cont) Effects)) → Paid bound cont rest

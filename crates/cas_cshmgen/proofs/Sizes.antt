@@ -1,5 +1,5 @@
 -- How much of Csharpminor is made of a text's tree: what it costs, and how many values it has.
-use Rattle.std.proofs.Common.{◌≡◌, ℕ, zero, suc, ◌+◌, ◌*◌, ◌≤◌, List, [], ◌∷◌, ◌++◌, Option, Some, None, refl, ap, sym, ◌∙◌, subst, arith, map}
+use Rattle.std.proofs.Common.{◌≡◌, ℕ, zero, ◌+◌, ◌*◌, ◌≤◌, List, [], ◌∷◌, ◌++◌, refl, arith, map}
 use Rattle.std.proofs.lemmas.List.Sums.{sum_by-cons}
 use Rattle.cas_base.specs.declared.decl.Decl.{Decl}
 use Rattle.cas_base.specs.declared.kind.Ty.{Ty}
@@ -21,7 +21,7 @@ use Rattle.cas_mid.specs.Expressions.{value_prices, word_operator_price, operato
 use Rattle.cas_mid.specs.Language.{argument_prices}
 use Rattle.cas_mid.specs.Csharpminor.{csharp_parts}
 use Rattle.cas_mid.specs.Rooms.{inner_values, unless_own, unless_temporary, values as values_of, argument_values}
-use Rattle.cas_cshmgen.specs.Makes.{made_expr, made_exprs, made_condition, condition_of, is_null}
+use Rattle.cas_cshmgen.specs.Makes.{made_expr, made_exprs, condition_of}
 
 pub total_append : (ms ns : List ℕ) → total (ms ++ ns) ≡ total ms + total ns
 total_append [] ns = omega arith

@@ -1,5 +1,5 @@
 -- What is made of a text's statements: what it weighs with its locals, how many values it has, and that its steps are paid for.
-use Rattle.std.proofs.Common.{◌≡◌, ℕ, zero, suc, ◌+◌, ◌*◌, ◌≤◌, List, [], ◌∷◌, ◌++◌, length, Option, Some, None, Bool, refl, ap, sym, ◌∙◌, subst, arith, map}
+use Rattle.std.proofs.Common.{◌≡◌, ℕ, ◌+◌, ◌*◌, ◌≤◌, List, [], ◌∷◌, ◌++◌, length, Option, Some, None, Bool, refl, arith}
 use Rattle.cas_base.specs.declared.decl.Decl.{Decl}
 use Rattle.cas_base.specs.declared.kind.Ty.{Ty}
 use Rattle.cas_base.specs.declared.kind.Ty.TheVariants.{Void, Int, Ptr, Array}
@@ -10,7 +10,6 @@ use Rattle.cas_syntax.specs.Tree as tree
 use Rattle.cas_syntax.specs.Tree.{ExprTree, TargetTree, to_name, to_index, to_deref, StmtTree, StmtOption, StmtList}
 use Rattle.cas_typed.specs.declared.tree.Destination.{Destination}
 use Rattle.cas_typed.specs.Counts.{nodes_of_expr, nodes_of_exprs, nodes_of_target, nodes_of_optional, nodes_of_stmt, nodes_of_option, nodes_of_stmts}
-use Rattle.cas_typed.specs.Resolved as t
 use Rattle.cas_typed.specs.Resolved.{TypedExprTree, TypedTargetTree, TypedStmtTree, TypedStmtOption, TypedStmtList}
 use Rattle.cas_typed.specs.Scopes.{Scope, locals_of, locals_of_option, locals_of_list}
 use Rattle.cas_typed.specs.Types.{no_value, reading}
@@ -18,16 +17,16 @@ use Rattle.cas_typed.specs.Typing as ty
 use Rattle.cas_typed.specs.Typing.{HasType, Tests, Gives, Writes, Assigns, Calls, TestsOptional, IsStmt, IsPart, AreStmts, cell_of, assigned}
 use Rattle.cas_runs.specs.Bounds.{total}
 use Rattle.cas_mid.specs.declared.tree.Binop.TheVariants.{PointerPlus}
-use Rattle.cas_mid.specs.Trees.{Expression, Target, own, binop, to_pointer, return_, block, one_more, no_more}
+use Rattle.cas_mid.specs.Trees.{Target, binop, block, one_more, no_more}
 use Rattle.cas_mid.specs.Expressions.{value_prices, target_prices}
 use Rattle.cas_mid.specs.Language.{argument_prices, operand_prices, weight_prices, all_weight_prices}
 use Rattle.cas_mid.specs.Csharpminor.{csharp_parts}
-use Rattle.cas_mid.specs.Rooms.{inner_values, unless_own, unless_temporary, values, target_values, argument_values, statement_values, all_values}
-use Rattle.cas_cshmgen.specs.Makes.{Csharp, Csharps, converted, keeps, tests, one, for_loop, made_expr, made_exprs, made_condition, condition_of, made_target, made_call, made_return, made_stmt, made_part, made_stmts}
+use Rattle.cas_mid.specs.Rooms.{inner_values, values, target_values, argument_values, statement_values, all_values}
+use Rattle.cas_cshmgen.specs.Makes.{Csharp, Csharps, keeps, tests, one, for_loop, made_expr, made_exprs, made_condition, made_target, made_call, made_return, made_stmt, made_part, made_stmts}
 use Rattle.cas_cshmgen.specs.Match.{IsSmall, AreSmall, IsTestSmall, IsPartSmall, IsStepSmall, IsSimple, IsSimpleText, IsSimplePart, ForsAreSimple, PartForsAreSimple, AllForsAreSimple}
-use Rattle.cas_cshmgen.proofs.Sizes.{total_append, price, price_is, less_temporary, less_own, IsSized, IsTestSized, IsGiven, one_operand, named, sized, tests_sized, nodes_positive, given, arguments_sized}
+use Rattle.cas_cshmgen.proofs.Sizes.{total_append, price_is, less_temporary, less_own, one_operand, named, sized, tests_sized, nodes_positive, given, arguments_sized}
 
-length_append : {A : Type 0} (xs ys : List A) → length (xs ++ ys) ≡ length xs + length ys
+pub length_append : {A : Type 0} (xs ys : List A) → length (xs ++ ys) ≡ length xs + length ys
 length_append [] ys = omega arith
 length_append (x ∷ xs) ys = let rest = length_append xs ys in omega (arith, rest)
 

@@ -7,7 +7,7 @@
 --     Clight:       y ────────── step ────────► y'      memory m
 --
 -- The continuations match statement by statement; in loops, the ends of Blocks are those of the turn and of the loop.
-use Rattle.std.specs.Prelude.{◌≡◌, ⊤, ℕ, ◌*◌, ◌<◌, ◌≤◌, List, [], ◌∷◌, length, map, Option, Some, None, slice_get}
+use Rattle.std.specs.Prelude.{◌≡◌, ⊤, ℕ, ◌+◌, ◌*◌, ◌<◌, ◌≤◌, List, [], ◌∷◌, length, map, Option, Some, None, slice_get}
 use Rattle.cas_base.specs.Ty.{words_of_ty}
 use Rattle.cas_base.specs.declared.decl.Decl.{Decl}
 use Rattle.cas_base.specs.declared.place.Place.{Place}
@@ -237,10 +237,10 @@ pub data MatchStates (n : ℕ) (act : Activation CsharpFun ClightFun) :
       → MatchStates n act (at csharp_parts (frame_of fn serial ts) (begin (keeps d (parameters_of fn)) ∷ rest)) m
       (clight.at fn serial (record { local = d.local; value = u } ∷ []) cont) m
 
--- The function is made of the other, whose counts are such that its steps can pay
+-- The function is made of the other, whose counts are such that its steps can pay: a typed function's are
 pub record IsMade (decls : List Decl) (f : CsharpFun) (g : ClightFun) : Type 0 where
   pub routine : csharp_routine f ≡ made_routine g
   pub small : AreSmall g.nodes g.decls g.body
   pub cells : total (map words_of_ty g.locals) ≤ cells_of g
-  pub locals : length (map words_of_ty g.locals) ≤ cells_of g
-  pub parameters : parameters_of g ≤ cells_of g
+  pub locals : length (map words_of_ty g.locals) ≤ parameters_of g + g.nodes
+  pub parameters : parameters_of g ≤ 16

@@ -21,6 +21,7 @@
 
 mod expr;
 mod function;
+pub mod laws;
 mod parts;
 mod stmt;
 

@@ -1,6 +1,6 @@
-use Rattle.std.proofs.Common.{◌≡◌, ap, ◌∙◌}
+use Rattle.std.proofs.Common.{ap, ◌∙◌}
 use Rattle.cas_mid.specs.Code.{csharp_list}
-use Rattle.cas_mid.specs.Trees.{seq, no_more}
+use Rattle.cas_mid.specs.Trees.{seq}
 use Rattle.cas_cshmgen.specs.Makes.{closing, stored_arguments}
 use Rattle.cas_cshmgen.proofs.Statements.{list_after}
 use Rattle.cas_cshmgen.proofs.function.make_body.Goals as goal
