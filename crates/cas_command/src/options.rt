@@ -17,7 +17,8 @@ pub(crate) fn are_of_world(options: &[Given]) -> bool
 
 // Whether each option is one of `world`.
 fn each_is_of_world(options: &[Given]) -> bool
-    ensures { result ≡ list_all (λ given. list_any (bytes_eq given.option) w.world_options) (map given_view options.now) }
+    ensures { result ≡ list_all (λ given. list_any (bytes_eq given.option) w.world_options)
+        (map given_view options.now) }
 {
     options.iter().all(|given| is_of_world(given.option))
 }

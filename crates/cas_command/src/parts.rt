@@ -64,14 +64,16 @@ impl<'a> Parts<'a> {
     }
 
     fn add_name(&mut self, name: &'a str) -> Result<(), NoMemory>
-        ensures { OnOk result (self.new ≡ record { names = self.old.names ++ name.entry.now ∷ []; options = self.old.options }) }
+        ensures { OnOk result (self.new ≡ record
+            { names = self.old.names ++ name.entry.now ∷ []; options = self.old.options }) }
     {
         self.names.push(name)?;
         Ok(())
     }
 
     fn add_names(&mut self, words: &'a [Text]) -> Result<(), NoMemory>
-        ensures { OnOk result (self.new ≡ record { names = self.old.names ++ words.entry.now; options = self.old.options }) }
+        ensures { OnOk result (self.new ≡ record
+            { names = self.old.names ++ words.entry.now; options = self.old.options }) }
     {
         for word in words {
             self.add_name(word.as_str())?;
@@ -80,7 +82,11 @@ impl<'a> Parts<'a> {
     }
 
     fn add_option(&mut self, option: &'a str, value: &'a str) -> Result<(), NoMemory>
-        ensures { OnOk result (self.new ≡ record { names = self.old.names; options = self.old.options ++ record { option = option.entry.now; value = value.entry.now } ∷ [] }) }
+        ensures { OnOk result (self.new ≡ record {
+          names = self.old.names;
+          options = self.old.options ++ record
+              { option = option.entry.now; value = value.entry.now } ∷ [];
+        }) }
     {
         self.options.push(Given { option, value })?;
         Ok(())

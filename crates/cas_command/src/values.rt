@@ -87,7 +87,8 @@ pub(crate) fn listed(alloc: Global, text: &str) -> Result<Vec<&str>, NoMemory>
 
 /// The functions of the threads: names of the source language, at most 64.
 pub(crate) fn threads_of(alloc: Global, text: &str) -> Result<Option<Vec<&str>>, NoMemory>
-    ensures names { IfOk result (λ threads. option_map (λ found. texts found.items) threads ≡ w.threads_of text.entry.now) }
+    ensures names { IfOk result (λ threads. option_map (λ found. texts found.items) threads
+        ≡ w.threads_of text.entry.now) }
     ensures few { IfOk result (λ threads. IfSome threads (λ found. vec_len found ≤ 64)) }
 {
     let names = listed(alloc, text)?;
@@ -151,7 +152,8 @@ fn counted(thread: Option<u32>, count: Option<u32>) -> Option<Item>
 
 // The items of these texts, if each has one.
 fn items_of(alloc: Global, threads: u32, parts: &[&str]) -> Result<Option<Vec<Item>>, NoMemory>
-    ensures { IfOk result (λ items. option_map (λ found. map item_view found.items) items ≡ w.items_of threads (texts parts.now)) }
+    ensures { IfOk result (λ items. option_map (λ found. map item_view found.items) items
+        ≡ w.items_of threads (texts parts.now)) }
 {
     let mut items = Vec::new(alloc);
     for text in parts {
@@ -169,7 +171,8 @@ pub(crate) fn schedule_of(
     threads: u32,
     text: &str,
 ) -> Result<Option<Vec<Item>>, NoMemory>
-    ensures { IfOk result (λ items. option_map (λ found. map item_view found.items) items ≡ w.schedule_of threads text.now) }
+    ensures { IfOk result (λ items. option_map (λ found. map item_view found.items) items
+        ≡ w.schedule_of threads text.now) }
 {
     let parts = listed(alloc, text)?;
     let Some(items) = items_of(alloc, threads, &parts)? else {
@@ -218,7 +221,8 @@ pub(crate) fn turns_of(
     plan: Option<&str>,
     count: Option<&str>,
 ) -> Result<Option<Turns>, NoMemory>
-    ensures { IfOk result (λ turns. option_map turns_view turns ≡ w.turns_of threads (text_of plan.entry) (text_of count.entry)) }
+    ensures { IfOk result (λ turns. option_map turns_view turns
+        ≡ w.turns_of threads (text_of plan.entry) (text_of count.entry)) }
 {
     match (plan, count) {
         (None, None) => Ok(Some(Turns::Rounds(DEFAULT_ROUNDS))),

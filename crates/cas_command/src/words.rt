@@ -69,7 +69,8 @@ fn is_plain_name(name: &str) -> bool
 
 // The command of the words of `check`.
 fn check_of(alloc: Global, words: &[Text]) -> Result<Option<Command<'_>>, NoMemory>
-    ensures { IfOk result (λ command. option_map command_view command ≡ option_and_then w.check_of (w.parts_of None words.entry.now)) }
+    ensures { IfOk result (λ command. option_map command_view command
+        ≡ option_and_then w.check_of (w.parts_of None words.entry.now)) }
 {
     let Some(parts) = parts_of(alloc, words)? else {
         return Ok(None);
@@ -83,7 +84,8 @@ fn check_of(alloc: Global, words: &[Text]) -> Result<Option<Command<'_>>, NoMemo
 
 // The command of the words of `world`.
 fn world_of(alloc: Global, words: &[Text]) -> Result<Option<Command<'_>>, NoMemory>
-    ensures { IfOk result (λ command. option_map command_view command ≡ option_and_then w.world_of (w.parts_of None words.entry.now)) }
+    ensures { IfOk result (λ command. option_map command_view command
+        ≡ option_and_then w.world_of (w.parts_of None words.entry.now)) }
 {
     let Some(parts) = parts_of(alloc, words)? else {
         return Ok(None);

@@ -42,7 +42,8 @@ pub fn kind(page: &mut Page, kind: Kind) -> Result<(), NoMemory>
 #[cycle(expr)]
 pub fn expr(page: &mut Page, expr: &Expr) -> Result<(), NoMemory>
     ensures { (rest : List Piece)
-        → IfOk result (λ _. followed_by page.new rest ≡ followed_by page.old (spec.printed_expr (expr_tree expr.now) rest)) }
+        → IfOk result (λ _. followed_by page.new rest
+        ≡ followed_by page.old (spec.printed_expr (expr_tree expr.now) rest)) }
 {
     match expr {
         Expr::Lit(value, kind) => page.number(*value, *kind),
@@ -150,7 +151,8 @@ fn operand(page: &mut Page, asked: u8, inner: &Expr) -> Result<(), NoMemory>
 #[cycle(expr)]
 pub fn in_brackets(page: &mut Page, index: &Expr) -> Result<(), NoMemory>
     ensures { (rest : List Piece)
-        → IfOk result (λ _. followed_by page.new rest ≡ followed_by page.old (spec.in_brackets (spec.printed_expr (expr_tree index.now)) rest)) }
+        → IfOk result (λ _. followed_by page.new rest
+        ≡ followed_by page.old (spec.in_brackets (spec.printed_expr (expr_tree index.now)) rest)) }
 {
     page.sign(Sign::OpenBracket)?;
     expr(page, index)?;

@@ -18,7 +18,8 @@ use cas_syntax::{Fun, Ident, Item};
 /// Writes items, one after another.
 pub fn items(page: &mut Page, items: &[Item]) -> Result<(), NoMemory>
     ensures { (rest : List Piece)
-        → IfOk result (λ _. followed_by page.new rest ≡ followed_by page.old (spec.printed_items (map item_tree items.now) rest)) }
+        → IfOk result (λ _. followed_by page.new rest
+        ≡ followed_by page.old (spec.printed_items (map item_tree items.now) rest)) }
 {
     let mut others = items;
     while let Some((next, behind)) = others.split_first() {
@@ -31,7 +32,8 @@ pub fn items(page: &mut Page, items: &[Item]) -> Result<(), NoMemory>
 // Writes an item.
 fn item(page: &mut Page, item: &Item) -> Result<(), NoMemory>
     ensures { (rest : List Piece)
-        → IfOk result (λ _. followed_by page.new rest ≡ followed_by page.old (spec.printed_item (item_tree item.now) rest)) }
+        → IfOk result (λ _. followed_by page.new rest
+        ≡ followed_by page.old (spec.printed_item (item_tree item.now) rest)) }
 {
     match item {
         Item::Global { decl, values, .. } => {
@@ -61,7 +63,8 @@ fn outside(page: &mut Page, defined: bool) -> Result<(), NoMemory>
 // Writes a function with its body.
 fn function(page: &mut Page, fun: &Fun) -> Result<(), NoMemory>
     ensures { (rest : List Piece)
-        → IfOk result (λ _. followed_by page.new rest ≡ followed_by page.old (spec.printed_fun (fun_tree fun.now) rest)) }
+        → IfOk result (λ _. followed_by page.new rest
+        ≡ followed_by page.old (spec.printed_fun (fun_tree fun.now) rest)) }
 {
     head(page, &fun.decl.form, &fun.decl.name, fun.params.as_slice())?;
     page.end_of_line(Sign::OpenBrace)?;
@@ -101,7 +104,8 @@ fn global(page: &mut Page, form: &Form, name: &Name, values: &[u32]) -> Result<(
 // Writes the cells of a global.
 fn cells(page: &mut Page, ty: Ty, name: &Name, values: &[u32]) -> Result<(), NoMemory>
     ensures { (rest : List Piece)
-        → IfOk result (λ _. followed_by page.new rest ≡ followed_by page.old (spec.printed_cells ty name.now values.now rest)) }
+        → IfOk result (λ _. followed_by page.new rest
+        ≡ followed_by page.old (spec.printed_cells ty name.now values.now rest)) }
 {
     before_name(page, ty)?;
     page.name(name)?;
@@ -112,7 +116,8 @@ fn cells(page: &mut Page, ty: Ty, name: &Name, values: &[u32]) -> Result<(), NoM
 // Writes initial words, if there are any.
 fn initial(page: &mut Page, ty: Ty, values: &[u32]) -> Result<(), NoMemory>
     ensures { (rest : List Piece)
-        → IfOk result (λ _. followed_by page.new rest ≡ followed_by page.old (spec.printed_initial ty values.now rest)) }
+        → IfOk result (λ _. followed_by page.new rest
+        ≡ followed_by page.old (spec.printed_initial ty values.now rest)) }
 {
     if values.is_empty() {
         return Ok(());
@@ -143,7 +148,8 @@ fn some_values(page: &mut Page, ty: Ty, words: &[u32]) -> Result<(), NoMemory>
 // Writes initial words of a kind with commas between.
 fn values(page: &mut Page, kind: Kind, values: &[u32]) -> Result<(), NoMemory>
     ensures { (rest : List Piece)
-        → IfOk result (λ _. followed_by page.new rest ≡ followed_by page.old (listed (spec.printed_value kind) values.now rest)) }
+        → IfOk result (λ _. followed_by page.new rest
+        ≡ followed_by page.old (listed (spec.printed_value kind) values.now rest)) }
 {
     let Some((first, mut others)) = values.split_first() else {
         return Ok(());
@@ -175,7 +181,8 @@ fn value(page: &mut Page, kind: Kind, word: u32) -> Result<(), NoMemory>
 // Writes the signed reading of a word.
 fn signed(page: &mut Page, word: u32) -> Result<(), NoMemory>
     ensures { (rest : List Piece)
-        → IfOk result (λ _. followed_by page.new rest ≡ followed_by page.old (spec.printed_integer (words.signed word) rest)) }
+        → IfOk result (λ _. followed_by page.new rest
+        ≡ followed_by page.old (spec.printed_integer (words.signed word) rest)) }
 {
     integer(page, word.cast_signed())
 }

@@ -16,7 +16,8 @@ use cas_syntax::{BinaryOperator, Expr, Ident, Init, LValue, Stmt, StmtForm};
 /// Writes a local, an assignment or a call without its semicolon.
 pub fn part(page: &mut Page, part: &Stmt) -> Result<(), NoMemory>
     ensures { (rest : List Piece)
-        → IfOk result (λ _. followed_by page.new rest ≡ followed_by page.old (spec.printed_part (stmt_tree part.now) rest)) }
+        → IfOk result (λ _. followed_by page.new rest
+        ≡ followed_by page.old (spec.printed_part (stmt_tree part.now) rest)) }
 {
     match &part.form {
         StmtForm::Declare(ty, x, begin) => {
@@ -72,7 +73,8 @@ pub fn behind_name(page: &mut Page, ty: Ty) -> Result<(), NoMemory>
 // Writes what a local begins with.
 fn init(page: &mut Page, init: &Init) -> Result<(), NoMemory>
     ensures { (rest : List Piece)
-        → IfOk result (λ _. followed_by page.new rest ≡ followed_by page.old (spec.printed_init (init_tree init.now) rest)) }
+        → IfOk result (λ _. followed_by page.new rest
+        ≡ followed_by page.old (spec.printed_init (init_tree init.now) rest)) }
 {
     match init {
         Init::Nothing => Ok(()),
@@ -90,7 +92,8 @@ fn init(page: &mut Page, init: &Init) -> Result<(), NoMemory>
 // Writes what an assignment writes.
 fn target(page: &mut Page, target: &LValue) -> Result<(), NoMemory>
     ensures { (rest : List Piece)
-        → IfOk result (λ _. followed_by page.new rest ≡ followed_by page.old (spec.printed_target (target_tree target.now) rest)) }
+        → IfOk result (λ _. followed_by page.new rest
+        ≡ followed_by page.old (spec.printed_target (target_tree target.now) rest)) }
 {
     match target {
         LValue::Name(x) => page.name(&x.name),
@@ -112,7 +115,8 @@ fn target(page: &mut Page, target: &LValue) -> Result<(), NoMemory>
 /// Writes an expression in parentheses.
 pub fn in_parentheses(page: &mut Page, inner: &Expr) -> Result<(), NoMemory>
     ensures { (rest : List Piece)
-        → IfOk result (λ _. followed_by page.new rest ≡ followed_by page.old (spec.in_parentheses (expr_tree inner.now) rest)) }
+        → IfOk result (λ _. followed_by page.new rest
+        ≡ followed_by page.old (spec.in_parentheses (expr_tree inner.now) rest)) }
 {
     page.sign(Sign::OpenParen)?;
     expr(page, inner)?;

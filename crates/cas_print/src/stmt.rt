@@ -20,7 +20,8 @@ use cas_syntax::{Expr, Ident, Stmt, StmtForm};
 #[cycle(stmt)]
 pub fn stmt(page: &mut Page, stmt: &Stmt) -> Result<(), NoMemory>
     ensures { (rest : List Piece)
-        → IfOk result (λ _. followed_by page.new rest ≡ followed_by page.old (spec.printed_stmt (stmt_tree stmt.now) rest)) }
+        → IfOk result (λ _. followed_by page.new rest
+        ≡ followed_by page.old (spec.printed_stmt (stmt_tree stmt.now) rest)) }
 {
     match &stmt.form {
         StmtForm::Skip => page.end_of_line(Sign::Semicolon),
@@ -55,7 +56,8 @@ pub fn stmt(page: &mut Page, stmt: &Stmt) -> Result<(), NoMemory>
 #[cycle(stmt)]
 pub fn stmts(page: &mut Page, stmts: &[Stmt]) -> Result<(), NoMemory>
     ensures { (rest : List Piece)
-        → IfOk result (λ _. followed_by page.new rest ≡ followed_by page.old (spec.printed_stmts (stmt_trees stmts.now) rest)) }
+        → IfOk result (λ _. followed_by page.new rest
+        ≡ followed_by page.old (spec.printed_stmts (stmt_trees stmts.now) rest)) }
 {
     for inner in stmts {
         stmt(page, inner)?;
@@ -67,7 +69,8 @@ pub fn stmts(page: &mut Page, stmts: &[Stmt]) -> Result<(), NoMemory>
 #[cycle(stmt)]
 fn block(page: &mut Page, inner: &[Stmt]) -> Result<(), NoMemory>
     ensures { (rest : List Piece)
-        → IfOk result (λ _. followed_by page.new rest ≡ followed_by page.old (spec.printed_stmt (tree.block nowhere (stmt_trees inner.now)) rest)) }
+        → IfOk result (λ _. followed_by page.new rest
+        ≡ followed_by page.old (spec.printed_stmt (tree.block nowhere (stmt_trees inner.now)) rest)) }
 {
     page.end_of_line(Sign::OpenBrace)?;
     stmts(page, inner)?;
@@ -169,7 +172,8 @@ fn print(page: &mut Page, value: &Expr) -> Result<(), NoMemory>
 // Writes a local, an assignment or a call.
 fn simple(page: &mut Page, simple: &Stmt) -> Result<(), NoMemory>
     ensures { (rest : List Piece)
-        → IfOk result (λ _. followed_by page.new rest ≡ followed_by page.old (spec.simple (stmt_tree simple.now) rest)) }
+        → IfOk result (λ _. followed_by page.new rest
+        ≡ followed_by page.old (spec.simple (stmt_tree simple.now) rest)) }
 {
     part(page, simple)?;
     page.end_of_line(Sign::Semicolon)
@@ -178,7 +182,8 @@ fn simple(page: &mut Page, simple: &Stmt) -> Result<(), NoMemory>
 // Writes a word, and an expression in parentheses.
 fn word_and(page: &mut Page, word: Word, inner: &Expr) -> Result<(), NoMemory>
     ensures { (rest : List Piece)
-        → IfOk result (λ _. followed_by page.new rest ≡ followed_by page.old (spec.word_and word (expr_tree inner.now) rest)) }
+        → IfOk result (λ _. followed_by page.new rest
+        ≡ followed_by page.old (spec.word_and word (expr_tree inner.now) rest)) }
 {
     page.word(word)?;
     in_parentheses(page, inner)

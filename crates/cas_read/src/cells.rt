@@ -1,12 +1,14 @@
 //! Names, types and initial values of globals.
 
-ghost use Rattle.std.specs.Prelude.{◌≡◌, ◌≢◌, ◌<◌, ◌≤◌, ◌++◌, ◌∷◌, [], ℕ, length, List, Option, IfOk, IfErr, Bool, false};
+ghost use Rattle.std.specs.Prelude.{◌≡◌, ◌≢◌, ◌<◌, ◌≤◌, ◌++◌, ◌∷◌, [], ℕ, length, List, Option, IfOk, IfErr, Bool};
+ghost use Rattle.std.specs.Prelude.{false};
 ghost use Rattle.cas_base.specs.declared.kind.Ty.{Ty};
 ghost use Rattle.cas_lex.specs.declared.token.Sign.TheVariants as sg;
 ghost use Rattle.cas_syntax.specs.declared.tree.Ident.{Ident};
 ghost use Rattle.cas_syntax.specs.Tree.{ItemTree};
 ghost use Rattle.cas_read_expr.specs.declared.stop.Stop.TheVariants.{Memory};
-ghost use Rattle.cas_parse.specs.Frames.{Data, Sort, Expect, HaveKind, CellsKind, CellName, CellLength, CellArray, CellValue, WantCells, CellsEnd, InItems};
+ghost use Rattle.cas_parse.specs.Frames.{Data, Sort, Expect, HaveKind, CellsKind, CellName, CellLength, CellArray};
+ghost use Rattle.cas_parse.specs.Frames.{CellValue, WantCells, CellsEnd, InItems};
 ghost use Rattle.cas_parse.specs.Machine as machine;
 ghost use Rattle.cas_read_expr.specs.Follow.{Follows, verdict};
 ghost use Rattle.cas_read.specs.FollowItems.{data_of};
@@ -33,7 +35,10 @@ pub fn cells(
     defined: bool,
     kind: Kind,
 ) -> Result<(Ident, Contents, &[Token]), Stop>
-    ensures follows { (b : Option ℕ) (s : Sort) (items : List ItemTree) → Follows result (verdict tokens.now (HaveKind b kind) (CellsKind s defined items ∷ [])) (λ p. verdict p.2.now (InItems (items ++ machine.cells (data_of s defined kind) p.0 p.1.ty p.1.values ∷ [])) []) }
+    ensures follows { (b : Option ℕ) (s : Sort) (items : List ItemTree)
+        → Follows result (verdict tokens.now (HaveKind b kind) (CellsKind s defined items ∷ []))
+        (λ p. verdict p.2.now (InItems (items ++ machine.cells (data_of s defined kind) p.0 p.1.ty p.1.values ∷ []))
+        []) }
     ensures shorter { IfOk result (λ p. length p.2.now < length tokens.now) }
 {
     let (token, rest) = next_token(tokens)?;
@@ -54,7 +59,10 @@ fn behind_name(
     defined: bool,
     kind: Kind,
 ) -> Result<(Contents, &[Token]), Stop>
-    ensures follows { (s : Sort) (x : Ident) (items : List ItemTree) → Follows result (verdict tokens.now (CellName (data_of s defined kind) x items) []) (λ p. verdict p.1.now (InItems (items ++ machine.cells (data_of s defined kind) x p.0.ty p.0.values ∷ [])) []) }
+    ensures follows { (s : Sort) (x : Ident) (items : List ItemTree)
+        → Follows result (verdict tokens.now (CellName (data_of s defined kind) x items) [])
+        (λ p. verdict p.1.now (InItems (items ++ machine.cells (data_of s defined kind) x p.0.ty p.0.values ∷ []))
+        []) }
     ensures shorter { IfOk result (λ p. length p.1.now < length tokens.now) }
 {
     let (token, rest) = next_token(tokens)?;
@@ -68,7 +76,9 @@ fn behind_name(
 
 // The initial value of a global of one cell, after `=`.
 fn one_cell(alloc: Global, tokens: &[Token], kind: Kind) -> Result<(Contents, &[Token]), Stop>
-    ensures follows { (s : Sort) (d : Bool) (x : Ident) (items : List ItemTree) → Follows result (verdict tokens.now (CellValue (data_of s d kind) x items) []) (λ p. verdict p.1.now (InItems (items ++ machine.cells (data_of s d kind) x p.0.ty p.0.values ∷ [])) []) }
+    ensures follows { (s : Sort) (d : Bool) (x : Ident) (items : List ItemTree)
+        → Follows result (verdict tokens.now (CellValue (data_of s d kind) x items) [])
+        (λ p. verdict p.1.now (InItems (items ++ machine.cells (data_of s d kind) x p.0.ty p.0.values ∷ [])) []) }
     ensures shorter { IfOk result (λ p. length p.1.now < length tokens.now) }
 {
     let (value, rest) = value(tokens, kind)?;
@@ -92,7 +102,10 @@ fn array(
     defined: bool,
     kind: Kind,
 ) -> Result<(Contents, &[Token]), Stop>
-    ensures follows { (s : Sort) (x : Ident) (items : List ItemTree) → Follows result (verdict tokens.now (CellLength (data_of s defined kind) x items) []) (λ p. verdict p.1.now (InItems (items ++ machine.cells (data_of s defined kind) x p.0.ty p.0.values ∷ [])) []) }
+    ensures follows { (s : Sort) (x : Ident) (items : List ItemTree)
+        → Follows result (verdict tokens.now (CellLength (data_of s defined kind) x items) [])
+        (λ p. verdict p.1.now (InItems (items ++ machine.cells (data_of s defined kind) x p.0.ty p.0.values ∷ []))
+        []) }
     ensures shorter { IfOk result (λ p. length p.1.now < length tokens.now) }
 {
     let (token, rest) = next_token(tokens)?;
@@ -113,7 +126,10 @@ fn elements(
     kind: Kind,
     len: u32,
 ) -> Result<(Contents, &[Token]), Stop>
-    ensures follows { (s : Sort) (x : Ident) (items : List ItemTree) → Follows result (verdict tokens.now (CellArray (data_of s defined kind) x len items) []) (λ p. verdict p.1.now (InItems (items ++ machine.cells (data_of s defined kind) x p.0.ty p.0.values ∷ [])) []) }
+    ensures follows { (s : Sort) (x : Ident) (items : List ItemTree)
+        → Follows result (verdict tokens.now (CellArray (data_of s defined kind) x len items) [])
+        (λ p. verdict p.1.now (InItems (items ++ machine.cells (data_of s defined kind) x p.0.ty p.0.values ∷ []))
+        []) }
     ensures shorter { IfOk result (λ p. length p.1.now < length tokens.now) }
 {
     let (token, rest) = next_token(tokens)?;
@@ -132,7 +148,10 @@ fn some_elements(
     kind: Kind,
     len: u32,
 ) -> Result<(Contents, &[Token]), Stop>
-    ensures follows { (s : Sort) (d : Bool) (x : Ident) (items : List ItemTree) → Follows result (verdict tokens.now (Expect false sg.OpenBrace (WantCells (data_of s d kind) x len [] items)) []) (λ p. verdict p.1.now (InItems (items ++ machine.cells (data_of s d kind) x p.0.ty p.0.values ∷ [])) []) }
+    ensures follows { (s : Sort) (d : Bool) (x : Ident) (items : List ItemTree)
+        → Follows result (verdict tokens.now
+        (Expect false sg.OpenBrace (WantCells (data_of s d kind) x len [] items)) [])
+        (λ p. verdict p.1.now (InItems (items ++ machine.cells (data_of s d kind) x p.0.ty p.0.values ∷ [])) []) }
     ensures shorter { IfOk result (λ p. length p.1.now < length tokens.now) }
 {
     let rest = expect_outside(tokens, Sign::OpenBrace)?;
@@ -149,7 +168,9 @@ fn some_elements(
 
 // The rest after the `;` of a global.
 fn ended(tokens: &[Token]) -> Result<&[Token], Stop>
-    ensures follows { (d : Data) (x : Ident) (t : Ty) (vs : List ℕ) (items : List ItemTree) → Follows result (verdict tokens.now (CellsEnd d x t vs items) []) (λ rest. verdict rest.now (InItems (items ++ machine.cells d x t vs ∷ [])) []) }
+    ensures follows { (d : Data) (x : Ident) (t : Ty) (vs : List ℕ) (items : List ItemTree)
+        → Follows result (verdict tokens.now (CellsEnd d x t vs items) [])
+        (λ rest. verdict rest.now (InItems (items ++ machine.cells d x t vs ∷ [])) []) }
     ensures shorter { IfOk result (λ rest. length rest.now < length tokens.now) }
     ensures faults { IfErr result (λ e. e ≢ Memory) }
 {

@@ -6,7 +6,8 @@ ghost use Rattle.cas_syntax.specs.Items.{declared};
 ghost use Rattle.cas_syntax.specs.Tree as tree;
 ghost use Rattle.cas_syntax.specs.Tree.{ItemTree, item_tree, no_more};
 ghost use Rattle.cas_read_expr.specs.declared.stop.Stop.TheVariants.{Memory};
-ghost use Rattle.cas_parse.specs.Frames.{Opening, FunctionName, WantParameters, WantFunction, AfterHead, InItems, InList, BodyOf};
+ghost use Rattle.cas_parse.specs.Frames.{Opening, FunctionName, WantParameters, WantFunction, AfterHead, InItems};
+ghost use Rattle.cas_parse.specs.Frames.{InList, BodyOf};
 ghost use Rattle.cas_parse.specs.Machine as machine;
 ghost use Rattle.cas_read_expr.specs.Follow.{Follows, verdict};
 ghost use Rattle.cas_read.specs.FollowItems.{opening};
@@ -41,7 +42,9 @@ pub fn function(
     defined: bool,
     ret: Ty,
 ) -> Result<(Item, &[Token]), Stop>
-    ensures follows { (items : List ItemTree) → Follows result (verdict tokens.now (WantFunction defined ret items) []) (λ p. verdict p.1.now (InItems (items ++ item_tree p.0 ∷ [])) []) }
+    ensures follows { (items : List ItemTree) → Follows result
+        (verdict tokens.now (WantFunction defined ret items) [])
+        (λ p. verdict p.1.now (InItems (items ++ item_tree p.0 ∷ [])) []) }
     ensures shorter { IfOk result (λ p. length p.1.now < length tokens.now) }
 {
     let (head, rest) = head_at(alloc, tokens, defined, ret)?;
@@ -55,7 +58,9 @@ fn head_at(
     defined: bool,
     ret: Ty,
 ) -> Result<(Head, &[Token]), Stop>
-    ensures follows { (items : List ItemTree) → Follows result (verdict tokens.now (WantFunction defined ret items) []) (λ p. verdict p.1.now (AfterHead p.0.name p.0.form p.0.defined p.0.params.items p.0.held items) []) }
+    ensures follows { (items : List ItemTree) → Follows result
+        (verdict tokens.now (WantFunction defined ret items) [])
+        (λ p. verdict p.1.now (AfterHead p.0.name p.0.form p.0.defined p.0.params.items p.0.held items) []) }
     ensures shorter { IfOk result (λ p. length p.1.now < length tokens.now) }
 {
     let (name, rest) = function_name(alloc, tokens)?;
@@ -79,7 +84,9 @@ fn head_at(
 
 // The name of a function.
 fn function_name(alloc: Global, tokens: &[Token]) -> Result<(Ident, &[Token]), Stop>
-    ensures follows { (d : Bool) (ret : Ty) (items : List ItemTree) → Follows result (verdict tokens.now (WantFunction d ret items) []) (λ p. verdict p.1.now (FunctionName (opening d ret p.0) items) []) }
+    ensures follows { (d : Bool) (ret : Ty) (items : List ItemTree)
+        → Follows result (verdict tokens.now (WantFunction d ret items) [])
+        (λ p. verdict p.1.now (FunctionName (opening d ret p.0) items) []) }
     ensures shorter { IfOk result (λ p. length p.1.now < length tokens.now) }
 {
     let (token, rest) = next_token(tokens)?;
@@ -91,7 +98,9 @@ fn function_name(alloc: Global, tokens: &[Token]) -> Result<(Ident, &[Token]), S
 
 // The rest after the `(` of a function. A global that is neither shared nor constant ends here.
 fn opened(tokens: &[Token]) -> Result<&[Token], Stop>
-    ensures follows { (o : Opening) (items : List ItemTree) → Follows result (verdict tokens.now (FunctionName o items) []) (λ rest. verdict rest.now (WantParameters o items) []) }
+    ensures follows { (o : Opening) (items : List ItemTree)
+        → Follows result (verdict tokens.now (FunctionName o items) [])
+        (λ rest. verdict rest.now (WantParameters o items) []) }
     ensures shorter { IfOk result (λ rest. length rest.now < length tokens.now) }
     ensures faults { IfErr result (λ e. e ≢ Memory) }
 {
@@ -105,7 +114,9 @@ fn opened(tokens: &[Token]) -> Result<&[Token], Stop>
 
 // The function with this head: without a body, or with one, and the rest.
 fn behind_head(alloc: Global, tokens: &[Token], head: Head) -> Result<(Item, &[Token]), Stop>
-    ensures follows { (items : List ItemTree) → Follows result (verdict tokens.now (AfterHead head.name head.form head.defined head.params.items head.held items) []) (λ p. verdict p.1.now (InItems (items ++ item_tree p.0 ∷ [])) []) }
+    ensures follows { (items : List ItemTree) → Follows result
+        (verdict tokens.now (AfterHead head.name head.form head.defined head.params.items head.held items) [])
+        (λ p. verdict p.1.now (InItems (items ++ item_tree p.0 ∷ [])) []) }
     ensures shorter { IfOk result (λ p. length p.1.now < length tokens.now) }
 {
     let (token, rest) = next_token(tokens)?;
@@ -145,7 +156,9 @@ fn define(
     params: Seq<Ident>,
     held: Seq<Place>,
 ) -> Result<(Item, &[Token]), Stop>
-    ensures follows { (items : List ItemTree) → Follows result (verdict tokens.now (InList 0 no_more) (BodyOf name form params held items ∷ [])) (λ p. verdict p.1.now (InItems (items ++ item_tree p.0 ∷ [])) []) }
+    ensures follows { (items : List ItemTree) → Follows result
+        (verdict tokens.now (InList 0 no_more) (BodyOf name form params held items ∷ []))
+        (λ p. verdict p.1.now (InItems (items ++ item_tree p.0 ∷ [])) []) }
     ensures shorter { IfOk result (λ p. length p.1.now < length tokens.now) }
 {
     let (body, closing, rest) = body(alloc, tokens)?;

@@ -27,7 +27,10 @@ pub struct Held {
 
 /// The locks that a function's caller holds, after the parameters, and the rest.
 pub fn held_at(alloc: Global, tokens: &[Token]) -> Result<(Held, &[Token]), Stop>
-    ensures follows { (o : Opening) (tys : List Ty) (xs : List (Option Ident)) (items : List ItemTree) → Follows result (verdict tokens.now (AfterParameters o tys xs items) []) (λ p. verdict p.1.now (AfterHead o.name (form.Function o.ret tys p.0.names) o.defined xs p.0.places items) []) }
+    ensures follows { (o : Opening) (tys : List Ty) (xs : List (Option Ident)) (items : List ItemTree)
+        → Follows result (verdict tokens.now (AfterParameters o tys xs items) [])
+        (λ p. verdict p.1.now (AfterHead o.name (form.Function o.ret tys p.0.names) o.defined xs p.0.places items)
+        []) }
     ensures no_longer { IfOk result (λ p. length p.1.now ≤ length tokens.now) }
 {
     let (token, rest) = next_token(tokens)?;
@@ -54,7 +57,11 @@ fn none_held(alloc: Global) -> Held
 
 // The names of locks, after `(`, and the rest after `)`.
 fn locks(alloc: Global, tokens: &[Token]) -> Result<(Vec<Ident>, &[Token]), Stop>
-    ensures follows { (o : Opening) (tys : List Ty) (xs : List (Option Ident)) (items : List ItemTree) → Follows result (verdict tokens.now (WantHeld o tys xs [] items) []) (λ p. verdict p.1.now (AfterHead o.name (form.Function o.ret tys (names_alone p.0.items)) o.defined xs (places_alone p.0.items) items) []) }
+    ensures follows { (o : Opening) (tys : List Ty) (xs : List (Option Ident)) (items : List ItemTree)
+        → Follows result (verdict tokens.now (WantHeld o tys xs [] items) [])
+        (λ p. verdict p.1.now
+        (AfterHead o.name (form.Function o.ret tys (names_alone p.0.items)) o.defined xs (places_alone p.0.items)
+        items) []) }
     ensures shorter { IfOk result (λ p. length p.1.now < length tokens.now) }
 {
     let mut all = Vec::new(alloc);
@@ -72,7 +79,9 @@ fn locks(alloc: Global, tokens: &[Token]) -> Result<(Vec<Ident>, &[Token]), Stop
 
 // The name of a lock.
 fn lock(alloc: Global, tokens: &[Token]) -> Result<(Ident, &[Token]), Stop>
-    ensures follows { (o : Opening) (tys : List Ty) (xs : List (Option Ident)) (held : List Ident) (items : List ItemTree) → Follows result (verdict tokens.now (WantHeld o tys xs held items) []) (λ p. verdict p.1.now (HaveHeld o tys xs (held ++ p.0 ∷ []) items) []) }
+    ensures follows { (o : Opening) (tys : List Ty) (xs : List (Option Ident)) (held : List Ident)
+        (items : List ItemTree) → Follows result (verdict tokens.now (WantHeld o tys xs held items) [])
+        (λ p. verdict p.1.now (HaveHeld o tys xs (held ++ p.0 ∷ []) items) []) }
     ensures shorter { IfOk result (λ p. length p.1.now < length tokens.now) }
 {
     let (token, rest) = next_token(tokens)?;
@@ -84,7 +93,9 @@ fn lock(alloc: Global, tokens: &[Token]) -> Result<(Ident, &[Token]), Stop>
 
 // Whether a further lock follows one, and the rest after the comma or the `)`.
 fn more_locks(tokens: &[Token]) -> Result<(bool, &[Token]), Stop>
-    ensures follows { (o : Opening) (tys : List Ty) (xs : List (Option Ident)) (held : List Ident) (items : List ItemTree) → Follows result (verdict tokens.now (HaveHeld o tys xs held items) []) (λ p. has_more_held p.0 p.1.now o tys xs held items) }
+    ensures follows { (o : Opening) (tys : List Ty) (xs : List (Option Ident)) (held : List Ident)
+        (items : List ItemTree) → Follows result (verdict tokens.now (HaveHeld o tys xs held items) [])
+        (λ p. has_more_held p.0 p.1.now o tys xs held items) }
     ensures shorter { IfOk result (λ p. length p.1.now < length tokens.now) }
     ensures faults { IfErr result (λ e. e ≢ Memory) }
 {

@@ -1,11 +1,13 @@
 //! Items of modules.
 
-ghost use Rattle.std.specs.Prelude.{◌≡◌, ◌<◌, ◌≤◌, ◌++◌, ◌∷◌, [], length, map, List, Option, None, Ok, IfOk, IfSome, IfNone, Bool, true, false};
+ghost use Rattle.std.specs.Prelude.{◌≡◌, ◌<◌, ◌≤◌, ◌++◌, ◌∷◌, [], length, map, List, Option, None, Ok, IfOk, IfSome};
+ghost use Rattle.std.specs.Prelude.{IfNone, Bool, true, false};
 ghost use Rattle.cas_lex.specs.declared.token.Sign.TheVariants as sg;
 ghost use Rattle.cas_syntax.specs.Items.{declared};
 ghost use Rattle.cas_syntax.specs.Tree as tree;
 ghost use Rattle.cas_syntax.specs.Tree.{ItemTree, item_tree};
-ghost use Rattle.cas_parse.specs.Frames.{Constant, Expect, WantKind, ReturnKind, CellsKind, GlobalLock, GlobalGuard, InItems};
+ghost use Rattle.cas_parse.specs.Frames.{Constant, Expect, WantKind, ReturnKind, CellsKind, GlobalLock, GlobalGuard};
+ghost use Rattle.cas_parse.specs.Frames.{InItems};
 ghost use Rattle.cas_parse.specs.Machine.{Verdict};
 ghost use Rattle.cas_read_expr.specs.Follow.{Follows, verdict};
 ghost use Rattle.cas_read.specs.FollowItems.{begins_item};
@@ -24,7 +26,8 @@ use std::alloc::Global;
 /// The items that these tokens spell, all of them.
 #[tactic(auto, using(crate::proofs::ItemSteps::items_push))]
 pub fn items(alloc: Global, tokens: &[Token]) -> Result<Vec<Item>, Stop>
-    ensures follows { Follows result (verdict tokens.now (InItems []) []) (λ all. let found : Verdict = Ok (map item_tree all.items) in found) }
+    ensures follows { Follows result (verdict tokens.now (InItems []) [])
+        (λ all. let found : Verdict = Ok (map item_tree all.items) in found) }
 {
     let mut all = Vec::new(alloc);
     let mut rest = tokens;
@@ -40,7 +43,8 @@ pub fn items(alloc: Global, tokens: &[Token]) -> Result<Vec<Item>, Stop>
 #[tactic(auto, using(crate::proofs::ItemSteps::behind_extern))]
 fn next_item(alloc: Global, tokens: &[Token]) -> Result<(Item, &[Token]), Stop>
     requires { 0 < length tokens.now }
-    ensures follows { (items : List ItemTree) → Follows result (verdict tokens.now (InItems items) []) (λ p. verdict p.1.now (InItems (items ++ item_tree p.0 ∷ [])) []) }
+    ensures follows { (items : List ItemTree) → Follows result (verdict tokens.now (InItems items) [])
+        (λ p. verdict p.1.now (InItems (items ++ item_tree p.0 ∷ [])) []) }
     ensures shorter { IfOk result (λ p. length p.1.now < length tokens.now) }
 {
     let Some((token, rest)) = tokens.split_first() else {
@@ -54,7 +58,8 @@ fn next_item(alloc: Global, tokens: &[Token]) -> Result<(Item, &[Token]), Stop>
 
 // An item, after `extern` if it isn't defined, and the rest.
 fn item(alloc: Global, tokens: &[Token], defined: bool) -> Result<(Item, &[Token]), Stop>
-    ensures follows { (items : List ItemTree) → Follows result (begins_item tokens.now defined items) (λ p. verdict p.1.now (InItems (items ++ item_tree p.0 ∷ [])) []) }
+    ensures follows { (items : List ItemTree) → Follows result (begins_item tokens.now defined items)
+        (λ p. verdict p.1.now (InItems (items ++ item_tree p.0 ∷ [])) []) }
     ensures shorter { IfOk result (λ p. length p.1.now < length tokens.now) }
 {
     let (token, rest) = next_token(tokens)?;
@@ -69,7 +74,9 @@ fn item(alloc: Global, tokens: &[Token], defined: bool) -> Result<(Item, &[Token
 
 // A function that returns a value.
 fn typed_function(alloc: Global, tokens: &[Token], defined: bool) -> Result<(Item, &[Token]), Stop>
-    ensures follows { (items : List ItemTree) → Follows result (verdict tokens.now (WantKind None) (ReturnKind defined items ∷ [])) (λ p. verdict p.1.now (InItems (items ++ item_tree p.0 ∷ [])) []) }
+    ensures follows { (items : List ItemTree) → Follows result
+        (verdict tokens.now (WantKind None) (ReturnKind defined items ∷ []))
+        (λ p. verdict p.1.now (InItems (items ++ item_tree p.0 ∷ [])) []) }
     ensures shorter { IfOk result (λ p. length p.1.now < length tokens.now) }
 {
     let (ty, rest) = typed(tokens)?;
@@ -78,7 +85,8 @@ fn typed_function(alloc: Global, tokens: &[Token], defined: bool) -> Result<(Ite
 
 // A lock, from its name on.
 fn lock(alloc: Global, tokens: &[Token], defined: bool) -> Result<(Item, &[Token]), Stop>
-    ensures follows { (items : List ItemTree) → Follows result (verdict tokens.now (GlobalLock defined items) []) (λ p. verdict p.1.now (InItems (items ++ item_tree p.0 ∷ [])) []) }
+    ensures follows { (items : List ItemTree) → Follows result (verdict tokens.now (GlobalLock defined items) [])
+        (λ p. verdict p.1.now (InItems (items ++ item_tree p.0 ∷ [])) []) }
     ensures shorter { IfOk result (λ p. length p.1.now < length tokens.now) }
 {
     let (token, rest) = next_token(tokens)?;
@@ -95,7 +103,9 @@ fn lock(alloc: Global, tokens: &[Token], defined: bool) -> Result<(Item, &[Token
 
 // A shared global, after `shared`.
 fn shared(alloc: Global, tokens: &[Token], defined: bool) -> Result<(Item, &[Token]), Stop>
-    ensures follows { (items : List ItemTree) → Follows result (verdict tokens.now (Expect false sg.OpenParen (GlobalGuard defined items)) []) (λ p. verdict p.1.now (InItems (items ++ item_tree p.0 ∷ [])) []) }
+    ensures follows { (items : List ItemTree) → Follows result
+        (verdict tokens.now (Expect false sg.OpenParen (GlobalGuard defined items)) [])
+        (λ p. verdict p.1.now (InItems (items ++ item_tree p.0 ∷ [])) []) }
     ensures shorter { IfOk result (λ p. length p.1.now < length tokens.now) }
 {
     let rest = expect_outside(tokens, Sign::OpenParen)?;
@@ -104,7 +114,8 @@ fn shared(alloc: Global, tokens: &[Token], defined: bool) -> Result<(Item, &[Tok
 
 // A shared global, from its guard's name on.
 fn guarded(alloc: Global, tokens: &[Token], defined: bool) -> Result<(Item, &[Token]), Stop>
-    ensures follows { (items : List ItemTree) → Follows result (verdict tokens.now (GlobalGuard defined items) []) (λ p. verdict p.1.now (InItems (items ++ item_tree p.0 ∷ [])) []) }
+    ensures follows { (items : List ItemTree) → Follows result (verdict tokens.now (GlobalGuard defined items) [])
+        (λ p. verdict p.1.now (InItems (items ++ item_tree p.0 ∷ [])) []) }
     ensures shorter { IfOk result (λ p. length p.1.now < length tokens.now) }
 {
     let (token, rest) = next_token(tokens)?;
@@ -126,7 +137,9 @@ fn guarded(alloc: Global, tokens: &[Token], defined: bool) -> Result<(Item, &[To
 
 // A table of constants, after `const`.
 fn table(alloc: Global, tokens: &[Token], defined: bool) -> Result<(Item, &[Token]), Stop>
-    ensures follows { (items : List ItemTree) → Follows result (verdict tokens.now (WantKind None) (CellsKind Constant defined items ∷ [])) (λ p. verdict p.1.now (InItems (items ++ item_tree p.0 ∷ [])) []) }
+    ensures follows { (items : List ItemTree) → Follows result
+        (verdict tokens.now (WantKind None) (CellsKind Constant defined items ∷ []))
+        (λ p. verdict p.1.now (InItems (items ++ item_tree p.0 ∷ [])) []) }
     ensures shorter { IfOk result (λ p. length p.1.now < length tokens.now) }
 {
     let (kind, _, rest) = kind(tokens, None)?;

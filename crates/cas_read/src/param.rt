@@ -1,11 +1,14 @@
 //! Types and parameters of functions.
 
-ghost use Rattle.std.specs.Prelude.{◌≡◌, ◌≢◌, ◌<◌, ◌≤◌, ◌++◌, ◌∷◌, [], ℕ, Bool, length, List, Option, None, IfOk, IfErr};
+ghost use Rattle.std.specs.Prelude.{◌≡◌, ◌≢◌, ◌<◌, ◌≤◌, ◌++◌, ◌∷◌, [], ℕ, Bool, length, List, Option, None, IfOk};
+ghost use Rattle.std.specs.Prelude.{IfErr};
 ghost use Rattle.cas_base.specs.declared.kind.Ty.{Ty};
 ghost use Rattle.cas_syntax.specs.declared.tree.Ident.{Ident};
 ghost use Rattle.cas_syntax.specs.Tree.{ItemTree};
 ghost use Rattle.cas_read_expr.specs.declared.stop.Stop.TheVariants.{Memory};
-ghost use Rattle.cas_parse.specs.Frames.{Opening, HaveKind, WantKind, ReturnKind, ParameterKind, WantFunction, ParameterType, WantParameters, WantParameter, HaveParameter, AfterParameters};
+ghost use Rattle.cas_parse.specs.Frames.{Opening, HaveKind, WantKind, ReturnKind, ParameterKind, WantFunction};
+ghost use Rattle.cas_parse.specs.Frames.{ParameterType, WantParameters, WantParameter, HaveParameter};
+ghost use Rattle.cas_parse.specs.Frames.{AfterParameters};
 ghost use Rattle.cas_read_expr.specs.Follow.{Follows, verdict};
 ghost use Rattle.cas_read.specs.FollowItems.{has_more_parameters};
 
@@ -26,8 +29,12 @@ pub struct Parameters {
 
 /// The type of a parameter, or of what a function returns, and the rest.
 pub fn typed(tokens: &[Token]) -> Result<(Ty, &[Token]), Stop>
-    ensures returned { (d : Bool) (items : List ItemTree) → Follows result (verdict tokens.now (WantKind None) (ReturnKind d items ∷ [])) (λ p. verdict p.1.now (WantFunction d p.0 items) []) }
-    ensures passed { (o : Opening) (tys : List Ty) (xs : List (Option Ident)) (items : List ItemTree) → Follows result (verdict tokens.now (WantKind None) (ParameterKind o tys xs items ∷ [])) (λ p. verdict p.1.now (ParameterType o tys xs p.0 items) []) }
+    ensures returned { (d : Bool) (items : List ItemTree)
+        → Follows result (verdict tokens.now (WantKind None) (ReturnKind d items ∷ []))
+        (λ p. verdict p.1.now (WantFunction d p.0 items) []) }
+    ensures passed { (o : Opening) (tys : List Ty) (xs : List (Option Ident)) (items : List ItemTree)
+        → Follows result (verdict tokens.now (WantKind None) (ParameterKind o tys xs items ∷ []))
+        (λ p. verdict p.1.now (ParameterType o tys xs p.0 items) []) }
     ensures shorter { IfOk result (λ p. length p.1.now < length tokens.now) }
     ensures faults { IfErr result (λ e. e ≢ Memory) }
 {
@@ -37,8 +44,12 @@ pub fn typed(tokens: &[Token]) -> Result<(Ty, &[Token]), Stop>
 
 // The type that begins with the words of a kind, after them.
 fn pointed(tokens: &[Token], kind: Kind) -> Result<(Ty, &[Token]), Stop>
-    ensures returned { (b : Option ℕ) (d : Bool) (items : List ItemTree) → Follows result (verdict tokens.now (HaveKind b kind) (ReturnKind d items ∷ [])) (λ p. verdict p.1.now (WantFunction d p.0 items) []) }
-    ensures passed { (b : Option ℕ) (o : Opening) (tys : List Ty) (xs : List (Option Ident)) (items : List ItemTree) → Follows result (verdict tokens.now (HaveKind b kind) (ParameterKind o tys xs items ∷ [])) (λ p. verdict p.1.now (ParameterType o tys xs p.0 items) []) }
+    ensures returned { (b : Option ℕ) (d : Bool) (items : List ItemTree)
+        → Follows result (verdict tokens.now (HaveKind b kind) (ReturnKind d items ∷ []))
+        (λ p. verdict p.1.now (WantFunction d p.0 items) []) }
+    ensures passed { (b : Option ℕ) (o : Opening) (tys : List Ty) (xs : List (Option Ident)) (items : List ItemTree)
+        → Follows result (verdict tokens.now (HaveKind b kind) (ParameterKind o tys xs items ∷ []))
+        (λ p. verdict p.1.now (ParameterType o tys xs p.0 items) []) }
     ensures no_longer { IfOk result (λ p. length p.1.now ≤ length tokens.now) }
     ensures faults { IfErr result (λ e. e ≢ Memory) }
 {
@@ -62,7 +73,9 @@ fn pointed(tokens: &[Token], kind: Kind) -> Result<(Ty, &[Token]), Stop>
 
 /// The parameters of a function, after `(`, and the rest after `)`.
 pub fn parameters_at(alloc: Global, tokens: &[Token]) -> Result<(Parameters, &[Token]), Stop>
-    ensures follows { (o : Opening) (items : List ItemTree) → Follows result (verdict tokens.now (WantParameters o items) []) (λ p. verdict p.1.now (AfterParameters o p.0.types.items p.0.names.items items) []) }
+    ensures follows { (o : Opening) (items : List ItemTree)
+        → Follows result (verdict tokens.now (WantParameters o items) [])
+        (λ p. verdict p.1.now (AfterParameters o p.0.types.items p.0.names.items items) []) }
     ensures shorter { IfOk result (λ p. length p.1.now < length tokens.now) }
 {
     let (token, rest) = next_token(tokens)?;
@@ -89,7 +102,9 @@ fn no_parameters(alloc: Global) -> Parameters
 
 // Parameters of a function, one or more, and the rest after `)`.
 fn some_parameters(alloc: Global, tokens: &[Token]) -> Result<(Parameters, &[Token]), Stop>
-    ensures follows { (o : Opening) (items : List ItemTree) → Follows result (verdict tokens.now (WantParameter o [] [] items) []) (λ p. verdict p.1.now (AfterParameters o p.0.types.items p.0.names.items items) []) }
+    ensures follows { (o : Opening) (items : List ItemTree)
+        → Follows result (verdict tokens.now (WantParameter o [] [] items) [])
+        (λ p. verdict p.1.now (AfterParameters o p.0.types.items p.0.names.items items) []) }
     ensures shorter { IfOk result (λ p. length p.1.now < length tokens.now) }
 {
     let mut types = Vec::new(alloc);
@@ -111,7 +126,9 @@ fn some_parameters(alloc: Global, tokens: &[Token]) -> Result<(Parameters, &[Tok
 // The type of a parameter.
 #[tactic(auto, using(crate::proofs::ItemSteps::wants_parameter))]
 fn parameter_type(tokens: &[Token]) -> Result<(Ty, &[Token]), Stop>
-    ensures follows { (o : Opening) (tys : List Ty) (xs : List (Option Ident)) (items : List ItemTree) → Follows result (verdict tokens.now (WantParameter o tys xs items) []) (λ p. verdict p.1.now (ParameterType o tys xs p.0 items) []) }
+    ensures follows { (o : Opening) (tys : List Ty) (xs : List (Option Ident)) (items : List ItemTree)
+        → Follows result (verdict tokens.now (WantParameter o tys xs items) [])
+        (λ p. verdict p.1.now (ParameterType o tys xs p.0 items) []) }
     ensures shorter { IfOk result (λ p. length p.1.now < length tokens.now) }
     ensures faults { IfErr result (λ e. e ≢ Memory) }
 {
@@ -121,7 +138,9 @@ fn parameter_type(tokens: &[Token]) -> Result<(Ty, &[Token]), Stop>
 // The name of a parameter after its type, or none.
 #[tactic(auto, using(crate::proofs::ItemSteps::named_parameter))]
 fn parameter_name(alloc: Global, tokens: &[Token]) -> Result<(Option<Ident>, &[Token]), Stop>
-    ensures follows { (o : Opening) (tys : List Ty) (xs : List (Option Ident)) (ty : Ty) (items : List ItemTree) → Follows result (verdict tokens.now (ParameterType o tys xs ty items) []) (λ p. verdict p.1.now (HaveParameter o (tys ++ ty ∷ []) (xs ++ p.0 ∷ []) items) []) }
+    ensures follows { (o : Opening) (tys : List Ty) (xs : List (Option Ident)) (ty : Ty) (items : List ItemTree)
+        → Follows result (verdict tokens.now (ParameterType o tys xs ty items) [])
+        (λ p. verdict p.1.now (HaveParameter o (tys ++ ty ∷ []) (xs ++ p.0 ∷ []) items) []) }
     ensures no_longer { IfOk result (λ p. length p.1.now ≤ length tokens.now) }
 {
     let (token, rest) = next_token(tokens)?;
@@ -133,7 +152,9 @@ fn parameter_name(alloc: Global, tokens: &[Token]) -> Result<(Option<Ident>, &[T
 
 // Whether a further parameter follows one, and the rest after the comma or the `)`.
 fn more_parameters(tokens: &[Token]) -> Result<(bool, &[Token]), Stop>
-    ensures follows { (o : Opening) (tys : List Ty) (xs : List (Option Ident)) (items : List ItemTree) → Follows result (verdict tokens.now (HaveParameter o tys xs items) []) (λ p. has_more_parameters p.0 p.1.now o tys xs items) }
+    ensures follows { (o : Opening) (tys : List Ty) (xs : List (Option Ident)) (items : List ItemTree)
+        → Follows result (verdict tokens.now (HaveParameter o tys xs items) [])
+        (λ p. has_more_parameters p.0 p.1.now o tys xs items) }
     ensures shorter { IfOk result (λ p. length p.1.now < length tokens.now) }
     ensures faults { IfErr result (λ e. e ≢ Memory) }
 {

@@ -1,11 +1,13 @@
 //! Initial values of globals.
 
-ghost use Rattle.std.specs.Prelude.{◌≡◌, ◌≢◌, ◌<◌, ◌≤◌, ◌++◌, ◌∷◌, [], ℕ, Bool, length, List, Option, Some, None, IfOk, IfErr};
+ghost use Rattle.std.specs.Prelude.{◌≡◌, ◌≢◌, ◌<◌, ◌≤◌, ◌++◌, ◌∷◌, [], ℕ, Bool, length, List, Option, Some, None};
+ghost use Rattle.std.specs.Prelude.{IfOk, IfErr};
 ghost use Rattle.cas_base.specs.declared.kind.Ty.TheVariants.{Int, Array};
 ghost use Rattle.cas_syntax.specs.declared.tree.Ident.{Ident};
 ghost use Rattle.cas_syntax.specs.Tree.{ItemTree};
 ghost use Rattle.cas_read_expr.specs.declared.stop.Stop.TheVariants.{Memory};
-ghost use Rattle.cas_parse.specs.Frames.{Sort, CellValue, CellNegative, WantCells, NegativeCells, HaveCells, MoreCells, CellsEnd};
+ghost use Rattle.cas_parse.specs.Frames.{Sort, CellValue, CellNegative, WantCells, NegativeCells, HaveCells};
+ghost use Rattle.cas_parse.specs.Frames.{MoreCells, CellsEnd};
 ghost use Rattle.cas_read_expr.specs.Follow.{Follows, verdict};
 ghost use Rattle.cas_read.specs.FollowItems.{data_of, has_value_or_end};
 
@@ -16,8 +18,12 @@ use std::alloc::Global;
 
 /// An initial value of a cell of this kind, and the rest.
 pub fn value(tokens: &[Token], kind: Kind) -> Result<(u32, &[Token]), Stop>
-    ensures single { (s : Sort) (d : Bool) (x : Ident) (items : List ItemTree) → Follows result (verdict tokens.now (CellValue (data_of s d kind) x items) []) (λ p. verdict p.1.now (CellsEnd (data_of s d kind) x (Int kind) (p.0 ∷ []) items) []) }
-    ensures listed { (s : Sort) (d : Bool) (x : Ident) (n : ℕ) (vs : List ℕ) (items : List ItemTree) → Follows result (verdict tokens.now (WantCells (data_of s d kind) x n vs items) []) (λ p. verdict p.1.now (HaveCells (data_of s d kind) x n (vs ++ p.0 ∷ []) items) []) }
+    ensures single { (s : Sort) (d : Bool) (x : Ident) (items : List ItemTree)
+        → Follows result (verdict tokens.now (CellValue (data_of s d kind) x items) [])
+        (λ p. verdict p.1.now (CellsEnd (data_of s d kind) x (Int kind) (p.0 ∷ []) items) []) }
+    ensures listed { (s : Sort) (d : Bool) (x : Ident) (n : ℕ) (vs : List ℕ) (items : List ItemTree)
+        → Follows result (verdict tokens.now (WantCells (data_of s d kind) x n vs items) [])
+        (λ p. verdict p.1.now (HaveCells (data_of s d kind) x n (vs ++ p.0 ∷ []) items) []) }
     ensures shorter { IfOk result (λ p. length p.1.now < length tokens.now) }
     ensures faults { IfErr result (λ e. e ≢ Memory) }
 {
@@ -31,8 +37,12 @@ pub fn value(tokens: &[Token], kind: Kind) -> Result<(u32, &[Token]), Stop>
 
 // A negative value of a cell of this kind, after `-`.
 fn negative(tokens: &[Token], kind: Kind) -> Result<(u32, &[Token]), Stop>
-    ensures single { (s : Sort) (d : Bool) (x : Ident) (items : List ItemTree) → Follows result (verdict tokens.now (CellNegative (data_of s d kind) x items) []) (λ p. verdict p.1.now (CellsEnd (data_of s d kind) x (Int kind) (p.0 ∷ []) items) []) }
-    ensures listed { (s : Sort) (d : Bool) (x : Ident) (n : ℕ) (vs : List ℕ) (items : List ItemTree) → Follows result (verdict tokens.now (NegativeCells (data_of s d kind) x n vs items) []) (λ p. verdict p.1.now (HaveCells (data_of s d kind) x n (vs ++ p.0 ∷ []) items) []) }
+    ensures single { (s : Sort) (d : Bool) (x : Ident) (items : List ItemTree)
+        → Follows result (verdict tokens.now (CellNegative (data_of s d kind) x items) [])
+        (λ p. verdict p.1.now (CellsEnd (data_of s d kind) x (Int kind) (p.0 ∷ []) items) []) }
+    ensures listed { (s : Sort) (d : Bool) (x : Ident) (n : ℕ) (vs : List ℕ) (items : List ItemTree)
+        → Follows result (verdict tokens.now (NegativeCells (data_of s d kind) x n vs items) [])
+        (λ p. verdict p.1.now (HaveCells (data_of s d kind) x n (vs ++ p.0 ∷ []) items) []) }
     ensures shorter { IfOk result (λ p. length p.1.now < length tokens.now) }
     ensures faults { IfErr result (λ e. e ≢ Memory) }
 {
@@ -45,7 +55,9 @@ fn negative(tokens: &[Token], kind: Kind) -> Result<(u32, &[Token]), Stop>
 
 /// The initial values of cells of this kind, after `{`, and the rest after `}`.
 pub fn values(alloc: Global, tokens: &[Token], kind: Kind) -> Result<(Seq<u32>, &[Token]), Stop>
-    ensures follows { (s : Sort) (d : Bool) (x : Ident) (n : ℕ) (items : List ItemTree) → Follows result (verdict tokens.now (WantCells (data_of s d kind) x n [] items) []) (λ p. verdict p.1.now (CellsEnd (data_of s d kind) x (Array kind n) p.0 items) []) }
+    ensures follows { (s : Sort) (d : Bool) (x : Ident) (n : ℕ) (items : List ItemTree)
+        → Follows result (verdict tokens.now (WantCells (data_of s d kind) x n [] items) [])
+        (λ p. verdict p.1.now (CellsEnd (data_of s d kind) x (Array kind n) p.0 items) []) }
     ensures shorter { IfOk result (λ p. length p.1.now < length tokens.now) }
 {
     let (first, mut rest) = value(tokens, kind)?;
@@ -63,7 +75,9 @@ pub fn values(alloc: Global, tokens: &[Token], kind: Kind) -> Result<(Seq<u32>, 
 
 // A further value after one of a list, or none if the list ends.
 fn next_value(tokens: &[Token], kind: Kind) -> Result<(Option<u32>, &[Token]), Stop>
-    ensures follows { (s : Sort) (d : Bool) (x : Ident) (n : ℕ) (vs : List ℕ) (items : List ItemTree) → Follows result (verdict tokens.now (HaveCells (data_of s d kind) x n vs items) []) (λ p. has_value_or_end p.0 p.1.now (data_of s d kind) x n vs items) }
+    ensures follows { (s : Sort) (d : Bool) (x : Ident) (n : ℕ) (vs : List ℕ) (items : List ItemTree)
+        → Follows result (verdict tokens.now (HaveCells (data_of s d kind) x n vs items) [])
+        (λ p. has_value_or_end p.0 p.1.now (data_of s d kind) x n vs items) }
     ensures shorter { IfOk result (λ p. length p.1.now < length tokens.now) }
     ensures faults { IfErr result (λ e. e ≢ Memory) }
 {
@@ -77,7 +91,9 @@ fn next_value(tokens: &[Token], kind: Kind) -> Result<(Option<u32>, &[Token]), S
 
 // A further value after a comma, or none if the list ends.
 fn value_or_end(tokens: &[Token], kind: Kind) -> Result<(Option<u32>, &[Token]), Stop>
-    ensures follows { (s : Sort) (d : Bool) (x : Ident) (n : ℕ) (vs : List ℕ) (items : List ItemTree) → Follows result (verdict tokens.now (MoreCells (data_of s d kind) x n vs items) []) (λ p. has_value_or_end p.0 p.1.now (data_of s d kind) x n vs items) }
+    ensures follows { (s : Sort) (d : Bool) (x : Ident) (n : ℕ) (vs : List ℕ) (items : List ItemTree)
+        → Follows result (verdict tokens.now (MoreCells (data_of s d kind) x n vs items) [])
+        (λ p. has_value_or_end p.0 p.1.now (data_of s d kind) x n vs items) }
     ensures shorter { IfOk result (λ p. length p.1.now < length tokens.now) }
     ensures faults { IfErr result (λ e. e ≢ Memory) }
 {
@@ -90,7 +106,9 @@ fn value_or_end(tokens: &[Token], kind: Kind) -> Result<(Option<u32>, &[Token]),
 
 // A further value of a list.
 fn further_value(tokens: &[Token], kind: Kind) -> Result<(Option<u32>, &[Token]), Stop>
-    ensures follows { (s : Sort) (d : Bool) (x : Ident) (n : ℕ) (vs : List ℕ) (items : List ItemTree) → Follows result (verdict tokens.now (WantCells (data_of s d kind) x n vs items) []) (λ p. has_value_or_end p.0 p.1.now (data_of s d kind) x n vs items) }
+    ensures follows { (s : Sort) (d : Bool) (x : Ident) (n : ℕ) (vs : List ℕ) (items : List ItemTree)
+        → Follows result (verdict tokens.now (WantCells (data_of s d kind) x n vs items) [])
+        (λ p. has_value_or_end p.0 p.1.now (data_of s d kind) x n vs items) }
     ensures shorter { IfOk result (λ p. length p.1.now < length tokens.now) }
     ensures faults { IfErr result (λ e. e ≢ Memory) }
 {

@@ -38,7 +38,8 @@ pub fn element(alloc: Global, addressed: bool, name: Ident, index: Expr) -> Resu
 
 /// An operand with what precedes it.
 pub fn prefixed(alloc: Global, prefix: Prefix, operand: Expr) -> Result<Expr, Stop>
-    ensures value { IfOk result (λ x. tree.expr_tree x ≡ machine.prefixed (prefix_shape prefix) (tree.expr_tree operand)) }
+    ensures value { IfOk result (λ x. tree.expr_tree x
+        ≡ machine.prefixed (prefix_shape prefix) (tree.expr_tree operand)) }
     ensures memory { IfErr result (λ e. e ≡ Memory) }
 {
     let operand = Box::new(alloc, operand)?;
@@ -51,7 +52,8 @@ pub fn prefixed(alloc: Global, prefix: Prefix, operand: Expr) -> Result<Expr, St
 
 /// Two operands with an operator between them.
 pub fn joined(alloc: Global, operator: Infix, left: Expr, right: Expr) -> Result<Expr, Stop>
-    ensures value { IfOk result (λ x. tree.expr_tree x ≡ operators.joined (infix_shape operator) (tree.expr_tree left) (tree.expr_tree right)) }
+    ensures value { IfOk result (λ x. tree.expr_tree x
+        ≡ operators.joined (infix_shape operator) (tree.expr_tree left) (tree.expr_tree right)) }
     ensures memory { IfErr result (λ e. e ≡ Memory) }
 {
     let left = Box::new(alloc, left)?;

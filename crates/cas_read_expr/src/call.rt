@@ -6,7 +6,8 @@ ghost use Rattle.cas_lex.specs.declared.token.Sign.TheVariants as sg;
 ghost use Rattle.cas_syntax.specs.Tokens.{begins_call, ident, sign};
 ghost use Rattle.cas_syntax.specs.Tree.{expr_tree};
 ghost use Rattle.cas_read_expr.specs.declared.stop.Stop.TheVariants.{Memory};
-ghost use Rattle.cas_parse.specs.Frames.{Frame, Caller, Keeps, Receiver, WantOutermost, WantValue, WantArguments, Argument};
+ghost use Rattle.cas_parse.specs.Frames.{Frame, Caller, Keeps, Receiver, WantOutermost, WantValue, WantArguments};
+ghost use Rattle.cas_parse.specs.Frames.{Argument};
 ghost use Rattle.cas_parse.specs.Machine.{resulted};
 ghost use Rattle.cas_read_expr.specs.Follow.{Follows, verdict, has_value};
 
@@ -29,7 +30,8 @@ pub enum Value {
 /// What a variable begins with or is given, after `=`.
 #[tactic(auto, using(crate::proofs::Steps::wants_no_call, crate::proofs::Steps::given_value))]
 pub fn value_at(alloc: Global, tokens: &[Token]) -> Result<(Value, &[Token]), Stop>
-    ensures follows { (r : Receiver) (st : List Frame) → Follows result (verdict tokens.now (WantValue r) st) (λ p. has_value p.1.now r p.0 st) }
+    ensures follows { (r : Receiver) (st : List Frame) → Follows result (verdict tokens.now (WantValue r) st)
+        (λ p. has_value p.1.now r p.0 st) }
     ensures shorter { IfOk result (λ p. length p.1.now < length tokens.now) }
 {
     match call_at(alloc, tokens)? {
@@ -46,7 +48,8 @@ pub fn value_at(alloc: Global, tokens: &[Token]) -> Result<(Value, &[Token]), St
 
 // The function's name of a call that comes next, and the rest after its `(`.
 fn call_at(alloc: Global, tokens: &[Token]) -> Result<Option<(Ident, &[Token])>, Stop>
-    ensures some { IfOk result (λ found. IfSome found (λ p. (o : Place) × (tokens.now ≡ ident p.0 ∷ sign sg.OpenParen o ∷ p.1.now))) }
+    ensures some { IfOk result (λ found. IfSome found
+        (λ p. (o : Place) × (tokens.now ≡ ident p.0 ∷ sign sg.OpenParen o ∷ p.1.now))) }
     ensures none { IfOk result (λ found. IfNone found (begins_call tokens.now ≡ false)) }
     ensures memory { IfErr result (λ e. e ≡ Memory) }
 {
@@ -66,7 +69,9 @@ fn call_at(alloc: Global, tokens: &[Token]) -> Result<Option<(Ident, &[Token])>,
 
 /// The arguments of a call, after `(`, and the rest after `)`.
 pub fn arguments(alloc: Global, tokens: &[Token]) -> Result<(Seq<Expr>, &[Token]), Stop>
-    ensures follows { (caller : Caller) (st : List Frame) → Follows result (verdict tokens.now (WantArguments caller) st) (λ p. verdict p.1.now (resulted caller (map expr_tree p.0)) st) }
+    ensures follows { (caller : Caller) (st : List Frame)
+        → Follows result (verdict tokens.now (WantArguments caller) st)
+        (λ p. verdict p.1.now (resulted caller (map expr_tree p.0)) st) }
     ensures shorter { IfOk result (λ p. length p.1.now < length tokens.now) }
 {
     match tokens.split_first() {
@@ -86,7 +91,9 @@ pub fn arguments(alloc: Global, tokens: &[Token]) -> Result<(Seq<Expr>, &[Token]
 // Arguments of a call, one or more, and the rest after `)`.
 #[tactic(auto, using(crate::proofs::Steps::given_argument, crate::proofs::Trees::exprs_push))]
 fn some_arguments(alloc: Global, tokens: &[Token]) -> Result<(Seq<Expr>, &[Token]), Stop>
-    ensures follows { (caller : Caller) (st : List Frame) → Follows result (verdict tokens.now WantOutermost (Argument caller [] ∷ st)) (λ p. verdict p.1.now (resulted caller (map expr_tree p.0)) st) }
+    ensures follows { (caller : Caller) (st : List Frame)
+        → Follows result (verdict tokens.now WantOutermost (Argument caller [] ∷ st))
+        (λ p. verdict p.1.now (resulted caller (map expr_tree p.0)) st) }
     ensures shorter { IfOk result (λ p. length p.1.now < length tokens.now) }
 {
     let mut all = Vec::new(alloc);

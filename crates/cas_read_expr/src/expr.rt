@@ -6,7 +6,8 @@ ghost use Rattle.cas_syntax.specs.Operators as operators;
 ghost use Rattle.cas_syntax.specs.Reading.{within};
 ghost use Rattle.cas_syntax.specs.Tree.{expr_tree, ExprTree, conditional};
 ghost use Rattle.cas_read_expr.specs.declared.stop.Stop.TheVariants.{Memory};
-ghost use Rattle.cas_parse.specs.Frames.{Control, Frame, WantExpr, HaveExpr, Given, WantOutermost, Named, Opened, Taking, WantKind, CastKind, InParens, InBrackets, Before, Right, Then};
+ghost use Rattle.cas_parse.specs.Frames.{Control, Frame, WantExpr, HaveExpr, Given, WantOutermost, Named, Opened};
+ghost use Rattle.cas_parse.specs.Frames.{Taking, WantKind, CastKind, InParens, InBrackets, Before, Right, Then};
 ghost use Rattle.cas_parse.specs.Machine.{counted, risen};
 ghost use Rattle.cas_read_expr.specs.Follow.{Follows, taken, verdict, closes, infix_shapes, prefix_shape};
 
@@ -24,7 +25,8 @@ use std::alloc::Global;
 /// An expression that is in no other, with its tokens and the rest.
 #[tactic(auto, using(crate::proofs::Steps::wants_outermost))]
 pub fn outermost(alloc: Global, tokens: &[Token]) -> Result<(Expr, usize, &[Token]), Stop>
-    ensures follows { (st : List Frame) → Follows result (verdict tokens.now WantOutermost st) (λ p. verdict p.2.now (Given p.1 (expr_tree p.0)) st) }
+    ensures follows { (st : List Frame) → Follows result (verdict tokens.now WantOutermost st)
+        (λ p. verdict p.2.now (Given p.1 (expr_tree p.0)) st) }
     ensures shorter { IfOk result (λ p. length p.2.now < length tokens.now) }
 {
     expr(alloc, tokens, 0, CONDITIONAL_LEVEL)
@@ -40,7 +42,8 @@ pub fn expr(
     least: u8,
 ) -> Result<(Expr, usize, &[Token]), Stop>
     requires { 0 < least }
-    ensures follows { (st : List Frame) → Follows result (verdict tokens.now (WantExpr used least) st) (λ p. verdict p.2.now (Given p.1 (expr_tree p.0)) st) }
+    ensures follows { (st : List Frame) → Follows result (verdict tokens.now (WantExpr used least) st)
+        (λ p. verdict p.2.now (Given p.1 (expr_tree p.0)) st) }
     ensures shorter { IfOk result (λ p. length p.2.now < length tokens.now) }
 {
     let (mut left, mut used, mut rest) = operand(alloc, tokens, used)?;
@@ -56,7 +59,8 @@ pub fn expr(
 // An operand, with what precedes it.
 #[cycle(expr)]
 fn operand(alloc: Global, tokens: &[Token], used: usize) -> Result<(Expr, usize, &[Token]), Stop>
-    ensures follows { (l : ℕ) (st : List Frame) → Follows result (verdict tokens.now (WantExpr used l) st) (λ p. verdict p.2.now (HaveExpr p.1 l (expr_tree p.0)) st) }
+    ensures follows { (l : ℕ) (st : List Frame) → Follows result (verdict tokens.now (WantExpr used l) st)
+        (λ p. verdict p.2.now (HaveExpr p.1 l (expr_tree p.0)) st) }
     ensures shorter { IfOk result (λ p. length p.2.now < length tokens.now) }
 {
     let (token, rest) = next_token(tokens)?;
@@ -94,7 +98,10 @@ fn prefixed(
     used: usize,
     prefix: Prefix,
 ) -> Result<(Expr, usize, &[Token]), Stop>
-    ensures follows { (l : ℕ) (st : List Frame) → Follows result (taken tokens.now (counted (within 0) false false used (Ok (WantExpr (used + 1) 12, Before l (prefix_shape prefix) ∷ st)))) (λ p. verdict p.2.now (HaveExpr p.1 l (expr_tree p.0)) st) }
+    ensures follows { (l : ℕ) (st : List Frame) → Follows result
+        (taken tokens.now (counted (within 0) false false used
+        (Ok (WantExpr (used + 1) 12, Before l (prefix_shape prefix) ∷ st))))
+        (λ p. verdict p.2.now (HaveExpr p.1 l (expr_tree p.0)) st) }
     ensures shorter { IfOk result (λ p. length p.2.now < length tokens.now) }
 {
     count(used, tokens)?;
@@ -111,7 +118,9 @@ pub fn named(
     addressed: bool,
     name: Ident,
 ) -> Result<(Expr, usize, &[Token]), Stop>
-    ensures follows { (l : ℕ) (st : List Frame) → Follows result (verdict tokens.now (Named used l addressed name) st) (λ p. verdict p.2.now (HaveExpr p.1 l (expr_tree p.0)) st) }
+    ensures follows { (l : ℕ) (st : List Frame) → Follows result
+        (verdict tokens.now (Named used l addressed name) st)
+        (λ p. verdict p.2.now (HaveExpr p.1 l (expr_tree p.0)) st) }
     ensures no_longer { IfOk result (λ p. length p.2.now ≤ length tokens.now) }
 {
     let Some((token, rest)) = tokens.split_first() else {
@@ -134,7 +143,10 @@ fn element(
     addressed: bool,
     name: Ident,
 ) -> Result<(Expr, usize, &[Token]), Stop>
-    ensures follows { (l : ℕ) (st : List Frame) → Follows result (taken tokens.now (counted (within 0) false false used (Ok (WantExpr (used + 1) 1, InBrackets l addressed name ∷ st)))) (λ p. verdict p.2.now (HaveExpr p.1 l (expr_tree p.0)) st) }
+    ensures follows { (l : ℕ) (st : List Frame) → Follows result
+        (taken tokens.now (counted (within 0) false false used
+        (Ok (WantExpr (used + 1) 1, InBrackets l addressed name ∷ st))))
+        (λ p. verdict p.2.now (HaveExpr p.1 l (expr_tree p.0)) st) }
     ensures shorter { IfOk result (λ p. length p.2.now < length tokens.now) }
 {
     count(used, tokens)?;
@@ -151,7 +163,8 @@ fn element(
 #[cycle(expr)]
 #[tactic(auto, using(crate::proofs::Steps::opens_cast, crate::proofs::Steps::opens_expr, crate::proofs::Steps::given_in_parens))]
 fn opened(alloc: Global, tokens: &[Token], used: usize) -> Result<(Expr, usize, &[Token]), Stop>
-    ensures follows { (l : ℕ) (st : List Frame) → Follows result (verdict tokens.now (Opened used l) st) (λ p. verdict p.2.now (HaveExpr p.1 l (expr_tree p.0)) st) }
+    ensures follows { (l : ℕ) (st : List Frame) → Follows result (verdict tokens.now (Opened used l) st)
+        (λ p. verdict p.2.now (HaveExpr p.1 l (expr_tree p.0)) st) }
     ensures shorter { IfOk result (λ p. length p.2.now < length tokens.now) }
 {
     if begins_kind_at(tokens) {
@@ -166,7 +179,9 @@ fn opened(alloc: Global, tokens: &[Token], used: usize) -> Result<(Expr, usize, 
 #[cycle(expr)]
 #[tactic(auto, using(crate::proofs::Steps::cast_of, crate::proofs::Steps::given_before))]
 fn cast(alloc: Global, tokens: &[Token], used: usize) -> Result<(Expr, usize, &[Token]), Stop>
-    ensures follows { (l : ℕ) (st : List Frame) → Follows result (verdict tokens.now (WantKind (Some used)) (CastKind l ∷ st)) (λ p. verdict p.2.now (HaveExpr p.1 l (expr_tree p.0)) st) }
+    ensures follows { (l : ℕ) (st : List Frame) → Follows result
+        (verdict tokens.now (WantKind (Some used)) (CastKind l ∷ st))
+        (λ p. verdict p.2.now (HaveExpr p.1 l (expr_tree p.0)) st) }
     ensures shorter { IfOk result (λ p. length p.2.now < length tokens.now) }
 {
     let (kind, used, rest) = kind(tokens, Some(used))?;
@@ -183,7 +198,8 @@ fn cast(alloc: Global, tokens: &[Token], used: usize) -> Result<(Expr, usize, &[
 // What begins with a name, after `&`.
 #[cycle(expr)]
 fn address(alloc: Global, tokens: &[Token], used: usize) -> Result<(Expr, usize, &[Token]), Stop>
-    ensures follows { (l : ℕ) (st : List Frame) → Follows result (verdict tokens.now (Taking used l) st) (λ p. verdict p.2.now (HaveExpr p.1 l (expr_tree p.0)) st) }
+    ensures follows { (l : ℕ) (st : List Frame) → Follows result (verdict tokens.now (Taking used l) st)
+        (λ p. verdict p.2.now (HaveExpr p.1 l (expr_tree p.0)) st) }
     ensures shorter { IfOk result (λ p. length p.2.now < length tokens.now) }
 {
     let (token, rest) = next_token(tokens)?;
@@ -207,7 +223,10 @@ fn combined(
     tokens: &[Token],
     used: usize,
 ) -> Result<(Expr, usize, &[Token]), Stop>
-    ensures follows { (l : ℕ) (st : List Frame) → Follows result (taken tokens.now (counted (within 0) false false used (risen (within 0) false false used l (expr_tree left) st (infix_shapes between)))) (λ p. verdict p.2.now (HaveExpr p.1 l (expr_tree p.0)) st) }
+    ensures follows { (l : ℕ) (st : List Frame) → Follows result
+        (taken tokens.now (counted (within 0) false false used
+        (risen (within 0) false false used l (expr_tree left) st (infix_shapes between))))
+        (λ p. verdict p.2.now (HaveExpr p.1 l (expr_tree p.0)) st) }
     ensures shorter { IfOk result (λ p. length p.2.now < length tokens.now) }
 {
     let Some(operator) = between else {
@@ -227,7 +246,10 @@ fn chosen(
     tokens: &[Token],
     used: usize,
 ) -> Result<(Expr, usize, &[Token]), Stop>
-    ensures follows { (l : ℕ) (st : List Frame) → Follows result (taken tokens.now (counted (within 0) false false used (Ok (WantExpr (used + 1) 1, Then l (expr_tree condition) ∷ st)))) (λ p. verdict p.2.now (HaveExpr p.1 l (expr_tree p.0)) st) }
+    ensures follows { (l : ℕ) (st : List Frame) → Follows result
+        (taken tokens.now (counted (within 0) false false used
+        (Ok (WantExpr (used + 1) 1, Then l (expr_tree condition) ∷ st))))
+        (λ p. verdict p.2.now (HaveExpr p.1 l (expr_tree p.0)) st) }
     ensures shorter { IfOk result (λ p. length p.2.now < length tokens.now) }
 {
     let (condition, (chosen, other, used, rest)) = beside(
@@ -246,7 +268,10 @@ fn branches(
     tokens: &[Token],
     used: usize,
 ) -> Result<(Box<Expr>, Box<Expr>, usize, &[Token]), Stop>
-    ensures follows { (l : ℕ) (c : ExprTree) (st : List Frame) → Follows result (taken tokens.now (counted (within 0) false false used (Ok (WantExpr (used + 1) 1, Then l c ∷ st)))) (λ p. verdict p.3.now (HaveExpr p.2 l (conditional c (expr_tree p.0.value) (expr_tree p.1.value))) st) }
+    ensures follows { (l : ℕ) (c : ExprTree) (st : List Frame)
+        → Follows result (taken tokens.now
+        (counted (within 0) false false used (Ok (WantExpr (used + 1) 1, Then l c ∷ st))))
+        (λ p. verdict p.3.now (HaveExpr p.2 l (conditional c (expr_tree p.0.value) (expr_tree p.1.value))) st) }
     ensures shorter { IfOk result (λ p. length p.3.now < length tokens.now) }
 {
     count(used, tokens)?;
@@ -260,7 +285,8 @@ fn branches(
 
 // The rest after a sign of an outermost expression that has so many tokens before it.
 fn closed(tokens: &[Token], used: usize, sign: Sign) -> Result<&[Token], Stop>
-    ensures follows { (c : Control) (st : List Frame) → Follows result (closes sign used tokens.now c st) (λ rest. verdict rest.now c st) }
+    ensures follows { (c : Control) (st : List Frame) → Follows result (closes sign used tokens.now c st)
+        (λ rest. verdict rest.now c st) }
     ensures below { IfOk result (λ rest. used < TOKEN_LIMIT) }
     ensures shorter { IfOk result (λ rest. length rest.now < length tokens.now) }
     ensures faults { IfErr result (λ e. e ≢ Memory) }

@@ -26,7 +26,8 @@ pub fn ident(alloc: Global, name: &Name, place: Place) -> Result<Ident, Stop>
 
 /// The rest after a sign, inside a function's body.
 pub fn expect(tokens: &[Token], sign: Sign) -> Result<&[Token], Stop>
-    ensures follows { (c : Control) (st : List Frame) → Follows result (verdict tokens.now (Expect true sign c) st) (λ rest. verdict rest.now c st) }
+    ensures follows { (c : Control) (st : List Frame) → Follows result (verdict tokens.now (Expect true sign c) st)
+        (λ rest. verdict rest.now c st) }
     ensures shorter { IfOk result (λ rest. length rest.now < length tokens.now) }
     ensures faults { IfErr result (λ e. e ≢ Memory) }
 {
@@ -40,7 +41,8 @@ pub fn expect(tokens: &[Token], sign: Sign) -> Result<&[Token], Stop>
 
 /// The rest after a sign, outside functions' bodies.
 pub fn expect_outside(tokens: &[Token], sign: Sign) -> Result<&[Token], Stop>
-    ensures follows { (c : Control) (st : List Frame) → Follows result (verdict tokens.now (Expect false sign c) st) (λ rest. verdict rest.now c st) }
+    ensures follows { (c : Control) (st : List Frame) → Follows result (verdict tokens.now (Expect false sign c) st)
+        (λ rest. verdict rest.now c st) }
     ensures shorter { IfOk result (λ rest. length rest.now < length tokens.now) }
     ensures faults { IfErr result (λ e. e ≢ Memory) }
 {

@@ -21,7 +21,8 @@ pub fn beside<T: Drop, U>(value: T, read: Result<U, Stop>) -> Result<(T, U), Sto
 
 /// A value after which a sign has to follow, inside a function's body, and the rest after the sign.
 pub fn followed<T: Drop>(value: T, tokens: &[Token], sign: Sign) -> Result<(T, &[Token]), Stop>
-    ensures follows { (c : Control) (st : List Frame) → Follows result (verdict tokens.now (Expect true sign c) st) (λ p. verdict p.1.now c st) }
+    ensures follows { (c : Control) (st : List Frame) → Follows result (verdict tokens.now (Expect true sign c) st)
+        (λ p. verdict p.1.now c st) }
     ensures same { IfOk result (λ p. p.0 ≡ value) }
     ensures shorter { IfOk result (λ p. length p.1.now < length tokens.now) }
     ensures faults { IfErr result (λ e. e ≢ Memory) }

@@ -34,7 +34,8 @@ pub fn begins_kind_at(tokens: &[Token]) -> bool
 
 /// The kind whose words come next, the tokens that the expression then has, and the rest after the words.
 pub fn kind(tokens: &[Token], used: Option<usize>) -> Result<(Kind, Option<usize>, &[Token]), Stop>
-    ensures follows { (st : List Frame) → Follows result (verdict tokens.now (WantKind used) st) (λ p. verdict p.2.now (HaveKind p.1 p.0) st) }
+    ensures follows { (st : List Frame) → Follows result (verdict tokens.now (WantKind used) st)
+        (λ p. verdict p.2.now (HaveKind p.1 p.0) st) }
     ensures counts { IfOk result (λ p. are_counted p.1 ≡ are_counted used) }
     ensures shorter { IfOk result (λ p. length p.2.now < length tokens.now) }
     ensures faults { IfErr result (λ e. e ≢ Memory) }
@@ -52,7 +53,8 @@ pub fn kind(tokens: &[Token], used: Option<usize>) -> Result<(Kind, Option<usize
 
 // The kind after `signed`.
 fn signed(tokens: &[Token], used: Option<usize>) -> Result<(Kind, Option<usize>, &[Token]), Stop>
-    ensures follows { (st : List Frame) → Follows result (verdict tokens.now (Signed used) st) (λ p. verdict p.2.now (HaveKind p.1 p.0) st) }
+    ensures follows { (st : List Frame) → Follows result (verdict tokens.now (Signed used) st)
+        (λ p. verdict p.2.now (HaveKind p.1 p.0) st) }
     ensures counts { IfOk result (λ p. are_counted p.1 ≡ are_counted used) }
     ensures no_longer { IfOk result (λ p. length p.2.now ≤ length tokens.now) }
     ensures faults { IfErr result (λ e. e ≢ Memory) }
@@ -70,7 +72,8 @@ fn signed(tokens: &[Token], used: Option<usize>) -> Result<(Kind, Option<usize>,
 
 // The kind after `unsigned`.
 fn unsigned(tokens: &[Token], used: Option<usize>) -> Result<(Kind, Option<usize>, &[Token]), Stop>
-    ensures follows { (st : List Frame) → Follows result (verdict tokens.now (Unsigned used) st) (λ p. verdict p.2.now (HaveKind p.1 p.0) st) }
+    ensures follows { (st : List Frame) → Follows result (verdict tokens.now (Unsigned used) st)
+        (λ p. verdict p.2.now (HaveKind p.1 p.0) st) }
     ensures counts { IfOk result (λ p. are_counted p.1 ≡ are_counted used) }
     ensures no_longer { IfOk result (λ p. length p.2.now ≤ length tokens.now) }
     ensures faults { IfErr result (λ e. e ≢ Memory) }
@@ -92,7 +95,8 @@ fn may_end_int(
     used: Option<usize>,
     kind: Kind,
 ) -> Result<(Kind, Option<usize>, &[Token]), Stop>
-    ensures follows { (st : List Frame) → Follows result (verdict tokens.now (MayEndInt used kind) st) (λ p. verdict p.2.now (HaveKind p.1 p.0) st) }
+    ensures follows { (st : List Frame) → Follows result (verdict tokens.now (MayEndInt used kind) st)
+        (λ p. verdict p.2.now (HaveKind p.1 p.0) st) }
     ensures counts { IfOk result (λ p. are_counted p.1 ≡ are_counted used) }
     ensures no_longer { IfOk result (λ p. length p.2.now ≤ length tokens.now) }
     ensures faults { IfErr result (λ e. e ≢ Memory) }
@@ -108,7 +112,8 @@ fn may_end_int(
 
 // Counts a word if words are counted; these tokens follow it.
 fn count_word(used: Option<usize>, rest: &[Token]) -> Result<Option<usize>, Stop>
-    ensures follows { (c : Control) (st : List Frame) → Follows result (taken rest.now (machine.counted_in (within 0) false false used (Ok (c, st)))) (λ _. verdict rest.now c st) }
+    ensures follows { (c : Control) (st : List Frame) → Follows result
+        (taken rest.now (machine.counted_in (within 0) false false used (Ok (c, st)))) (λ _. verdict rest.now c st) }
     ensures value { IfOk result (λ after. after ≡ machine.next used) }
     ensures faults { IfErr result (λ e. e ≢ Memory) }
 {

@@ -13,7 +13,8 @@ use cas_syntax::TOKEN_LIMIT;
 
 /// Counts a token of an outermost expression that has so many tokens before it; these tokens follow it.
 pub fn count(used: usize, rest: &[Token]) -> Result<(), Stop>
-    ensures follows { (c : Control) (st : List Frame) → Follows result (taken rest.now (counted (within 0) false false used (Ok (c, st)))) (λ _. verdict rest.now c st) }
+    ensures follows { (c : Control) (st : List Frame) → Follows result
+        (taken rest.now (counted (within 0) false false used (Ok (c, st)))) (λ _. verdict rest.now c st) }
     ensures below { IfOk result (λ _. used < TOKEN_LIMIT) }
     ensures faults { IfErr result (λ e. e ≢ Memory) }
 {

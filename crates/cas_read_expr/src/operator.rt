@@ -108,8 +108,12 @@ fn binding(between: Option<Infix>, kind: &TokenKind) -> u8
 #[tactic(auto, using(crate::proofs::Steps::takes_operator, crate::proofs::Steps::takes_no_operator))]
 pub fn operator(tokens: &[Token], least: u8) -> Option<(Option<Infix>, &[Token])>
     requires { 0 < least }
-    ensures none { (b : ℕ) (x : ExprTree) (st : List Frame) → IfNone result (verdict tokens.now (HaveExpr b least x) st ≡ verdict tokens.now (Given b x) st) }
-    ensures some { (b : ℕ) (x : ExprTree) (st : List Frame) → IfSome result (λ p. verdict tokens.now (HaveExpr b least x) st ≡ taken p.1.now (machine.counted (within 0) false false b (machine.risen (within 0) false false b least x st (infix_shapes p.0)))) }
+    ensures none { (b : ℕ) (x : ExprTree) (st : List Frame)
+        → IfNone result (verdict tokens.now (HaveExpr b least x) st ≡ verdict tokens.now (Given b x) st) }
+    ensures some { (b : ℕ) (x : ExprTree) (st : List Frame)
+        → IfSome result (λ p. verdict tokens.now (HaveExpr b least x) st
+        ≡ taken p.1.now (machine.counted (within 0) false false b
+        (machine.risen (within 0) false false b least x st (infix_shapes p.0)))) }
     ensures shorter { IfSome result (λ p. length p.1.now < length tokens.now) }
 {
     let (token, rest) = tokens.split_first()?;

@@ -12,7 +12,8 @@ use cas_read_expr::stop::unexpected_code;
 
 /// The code of a token where a statement would be inside too many others.
 pub fn too_deep(kind: &TokenKind) -> ReadCode
-    ensures { (n : ℕ) (st : List Frame) (p : Place) → machine.limited false (machine.started (within 0) false false n st p kind.now) ≡ Err result }
+    ensures { (n : ℕ) (st : List Frame) (p : Place)
+        → machine.limited false (machine.started (within 0) false false n st p kind.now) ≡ Err result }
 {
     match kind {
         TokenKind::Name(_)
@@ -37,7 +38,8 @@ pub fn too_deep(kind: &TokenKind) -> ReadCode
 
 /// The code of a token where an assignment or a call would be inside too many statements.
 pub fn too_deep_simple(kind: &TokenKind) -> ReadCode
-    ensures { (st : List Frame) (p : Place) → machine.limited false (machine.simple_started (within 0) false false st p kind.now) ≡ Err result }
+    ensures { (st : List Frame) (p : Place) → machine.limited false
+        (machine.simple_started (within 0) false false st p kind.now) ≡ Err result }
 {
     match kind {
         TokenKind::Name(_) | TokenKind::Sign(Sign::Star | Sign::PlusPlus | Sign::MinusMinus) =>

@@ -2,8 +2,10 @@
 
 ghost use Rattle.std.specs.Prelude.{◌≡◌, ◌<◌, ◌≤◌, ◌+◌, ◌∷◌, ℕ, length, List, IfOk, Option, true};
 ghost use Rattle.cas_base.specs.declared.place.Place.{Place};
-ghost use Rattle.cas_syntax.specs.Tree.{ExprTree, StmtTree, StmtOption, present, stmt_tree, expr_tree, optional_tree, do_};
-ghost use Rattle.cas_parse.specs.Frames.{Frame, DoBody, HaveStmt, WantStmt, ForFirst, ForSecond, ForThird, ForBody, FirstKind, HaveSimple};
+ghost use Rattle.cas_syntax.specs.Tree.{ExprTree, StmtTree, StmtOption, present, stmt_tree, expr_tree, optional_tree};
+ghost use Rattle.cas_syntax.specs.Tree.{do_};
+ghost use Rattle.cas_parse.specs.Frames.{Frame, DoBody, HaveStmt, WantStmt, ForFirst, ForSecond, ForThird, ForBody};
+ghost use Rattle.cas_parse.specs.Frames.{FirstKind, HaveSimple};
 ghost use Rattle.cas_read_expr.specs.Follow.{Follows, verdict, next_begins_kind};
 ghost use Rattle.cas_read_stmt.specs.FollowStmts.{boxed_tree, nests_kind, nests_simple};
 
@@ -24,7 +26,9 @@ use std::alloc::Global;
 /// The condition after the body of a `do`, with its `;`.
 #[tactic(auto, using(crate::proofs::StmtSteps::given_done))]
 pub fn do_end(alloc: Global, tokens: &[Token]) -> Result<(Expr, &[Token]), Stop>
-    ensures follows { (q : Place) (a : StmtTree) (st : List Frame) → Follows result (verdict tokens.now (HaveStmt a) (DoBody q ∷ st)) (λ p. verdict p.1.now (HaveStmt (do_ q a (expr_tree p.0))) st) }
+    ensures follows { (q : Place) (a : StmtTree) (st : List Frame)
+        → Follows result (verdict tokens.now (HaveStmt a) (DoBody q ∷ st))
+        (λ p. verdict p.1.now (HaveStmt (do_ q a (expr_tree p.0))) st) }
     ensures shorter { IfOk result (λ p. length p.1.now < length tokens.now) }
 {
     let (token, rest) = next_token(tokens)?;
@@ -44,7 +48,8 @@ pub fn first(
     around: usize,
 ) -> Result<(Option<Box<Stmt>>, &[Token]), Stop>
     requires { around < DEPTH_LIMIT }
-    ensures follows { (q : Place) (st : List Frame) → Follows result (verdict tokens.now (ForFirst around q) st) (λ p. verdict p.1.now (ForSecond around q (boxed_tree p.0)) st) }
+    ensures follows { (q : Place) (st : List Frame) → Follows result (verdict tokens.now (ForFirst around q) st)
+        (λ p. verdict p.1.now (ForSecond around q (boxed_tree p.0)) st) }
     ensures shorter { IfOk result (λ p. length p.1.now < length tokens.now) }
 {
     if let Some(rest) = behind(tokens, Sign::Semicolon) {
@@ -67,7 +72,9 @@ fn first_local(
     around: usize,
 ) -> Result<(Box<Stmt>, &[Token]), Stop>
     requires { next_begins_kind tokens.now ≡ true }
-    ensures follows { (n : ℕ) (q : Place) (st : List Frame) → Follows result (nests_kind tokens.now around (FirstKind n q ∷ st)) (λ p. verdict p.1.now (ForSecond n q (present (stmt_tree p.0.value))) st) }
+    ensures follows { (n : ℕ) (q : Place) (st : List Frame)
+        → Follows result (nests_kind tokens.now around (FirstKind n q ∷ st))
+        (λ p. verdict p.1.now (ForSecond n q (present (stmt_tree p.0.value))) st) }
     ensures shorter { IfOk result (λ p. length p.1.now < length tokens.now) }
 {
     if around >= DEPTH_LIMIT {
@@ -81,7 +88,8 @@ fn first_local(
 // An assignment or a call inside so many statements.
 #[tactic(auto, using(crate::proofs::StmtSteps::nests_simple_within))]
 fn simple_in(alloc: Global, tokens: &[Token], around: usize) -> Result<(Box<Stmt>, &[Token]), Stop>
-    ensures follows { (st : List Frame) → Follows result (nests_simple tokens.now around st) (λ p. verdict p.1.now (HaveSimple (stmt_tree p.0.value)) st) }
+    ensures follows { (st : List Frame) → Follows result (nests_simple tokens.now around st)
+        (λ p. verdict p.1.now (HaveSimple (stmt_tree p.0.value)) st) }
     ensures shorter { IfOk result (λ p. length p.1.now < length tokens.now) }
 {
     let (token, _) = next_token(tokens)?;
@@ -96,7 +104,9 @@ fn simple_in(alloc: Global, tokens: &[Token], around: usize) -> Result<(Box<Stmt
 /// The condition of a `for`, with its `;`.
 #[tactic(auto, using(crate::proofs::StmtSteps::second_value, crate::proofs::StmtSteps::given_second))]
 pub fn second(alloc: Global, tokens: &[Token]) -> Result<(Option<Expr>, &[Token]), Stop>
-    ensures follows { (n : ℕ) (q : Place) (i : StmtOption) (st : List Frame) → Follows result (verdict tokens.now (ForSecond n q i) st) (λ p. verdict p.1.now (ForThird n q i (optional_tree p.0)) st) }
+    ensures follows { (n : ℕ) (q : Place) (i : StmtOption) (st : List Frame)
+        → Follows result (verdict tokens.now (ForSecond n q i) st)
+        (λ p. verdict p.1.now (ForThird n q i (optional_tree p.0)) st) }
     ensures shorter { IfOk result (λ p. length p.1.now < length tokens.now) }
 {
     if let Some(rest) = behind(tokens, Sign::Semicolon) {
@@ -115,7 +125,9 @@ pub fn third(
     around: usize,
 ) -> Result<(Option<Box<Stmt>>, &[Token]), Stop>
     requires { around < DEPTH_LIMIT }
-    ensures follows { (q : Place) (i : StmtOption) (c : Option ExprTree) (st : List Frame) → Follows result (verdict tokens.now (ForThird around q i c) st) (λ p. verdict p.1.now (WantStmt (around + 1)) (ForBody q i c (boxed_tree p.0) ∷ st)) }
+    ensures follows { (q : Place) (i : StmtOption) (c : Option ExprTree) (st : List Frame)
+        → Follows result (verdict tokens.now (ForThird around q i c) st)
+        (λ p. verdict p.1.now (WantStmt (around + 1)) (ForBody q i c (boxed_tree p.0) ∷ st)) }
     ensures shorter { IfOk result (λ p. length p.1.now < length tokens.now) }
 {
     if let Some(rest) = behind(tokens, Sign::CloseParen) {

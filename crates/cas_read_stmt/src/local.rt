@@ -4,7 +4,8 @@ ghost use Rattle.std.specs.Prelude.{◌≡◌, ◌≢◌, ◌<◌, ◌≤◌, �
 ghost use Rattle.cas_syntax.specs.Tree.{stmt_tree, stmt_trees};
 ghost use Rattle.cas_syntax.specs.Tree as tree;
 ghost use Rattle.cas_read_expr.specs.declared.stop.Stop.TheVariants.{Memory};
-ghost use Rattle.cas_parse.specs.Frames.{Frame, Begun, WantValue, WantLocal, LocalName, LocalStar, LocalPointer, LocalLength, HaveLocal, InList, Locals};
+ghost use Rattle.cas_parse.specs.Frames.{Frame, Begun, WantValue, WantLocal, LocalName, LocalStar, LocalPointer};
+ghost use Rattle.cas_parse.specs.Frames.{LocalLength, HaveLocal, InList, Locals};
 ghost use Rattle.cas_read_expr.specs.Follow.{Follows, verdict, next_begins_kind};
 ghost use Rattle.cas_read_stmt.specs.FollowStmts.{begins_listed};
 
@@ -26,7 +27,9 @@ pub fn locals_in<'a>(
     all: &mut Vec<Stmt>,
 ) -> Result<&'a [Token], Stop>
     requires { next_begins_kind tokens.now ≡ true }
-    ensures follows { (st : List Frame) → Follows result (begins_listed tokens.now around (stmt_trees all.old.items) st) (λ rest. verdict rest.now (InList around (stmt_trees all.new.items)) st) }
+    ensures follows { (st : List Frame) → Follows result
+        (begins_listed tokens.now around (stmt_trees all.old.items) st)
+        (λ rest. verdict rest.now (InList around (stmt_trees all.new.items)) st) }
     ensures shorter { IfOk result (λ rest. length rest.now < length tokens.now) }
 {
     if around >= DEPTH_LIMIT {
@@ -44,7 +47,9 @@ pub fn locals<'a>(
     tokens: &'a [Token],
     all: &mut Vec<Stmt>,
 ) -> Result<&'a [Token], Stop>
-    ensures follows { (n : ℕ) (st : List Frame) → Follows result (verdict tokens.now (WantLocal kind) (Locals n kind (stmt_trees all.old.items) ∷ st)) (λ rest. verdict rest.now (InList n (stmt_trees all.new.items)) st) }
+    ensures follows { (n : ℕ) (st : List Frame) → Follows result
+        (verdict tokens.now (WantLocal kind) (Locals n kind (stmt_trees all.old.items) ∷ st))
+        (λ rest. verdict rest.now (InList n (stmt_trees all.new.items)) st) }
     ensures shorter { IfOk result (λ rest. length rest.now < length tokens.now) }
 {
     let mut rest = tokens;
@@ -62,7 +67,8 @@ pub fn locals<'a>(
 
 /// A local of this kind.
 pub fn local(alloc: Global, kind: Kind, tokens: &[Token]) -> Result<(Stmt, &[Token]), Stop>
-    ensures follows { (st : List Frame) → Follows result (verdict tokens.now (WantLocal kind) st) (λ p. verdict p.1.now (HaveLocal (stmt_tree p.0)) st) }
+    ensures follows { (st : List Frame) → Follows result (verdict tokens.now (WantLocal kind) st)
+        (λ p. verdict p.1.now (HaveLocal (stmt_tree p.0)) st) }
     ensures shorter { IfOk result (λ p. length p.1.now < length tokens.now) }
 {
     let (token, rest) = next_token(tokens)?;
@@ -83,7 +89,8 @@ fn variable(
     name: Ident,
     tokens: &[Token],
 ) -> Result<(Stmt, &[Token]), Stop>
-    ensures follows { (st : List Frame) → Follows result (verdict tokens.now (LocalName kind name) st) (λ p. verdict p.1.now (HaveLocal (stmt_tree p.0)) st) }
+    ensures follows { (st : List Frame) → Follows result (verdict tokens.now (LocalName kind name) st)
+        (λ p. verdict p.1.now (HaveLocal (stmt_tree p.0)) st) }
     ensures no_longer { IfOk result (λ p. length p.1.now ≤ length tokens.now) }
 {
     let (token, rest) = next_token(tokens)?;
@@ -96,7 +103,8 @@ fn variable(
 
 // A pointer, after `*`.
 fn pointer(alloc: Global, kind: Kind, tokens: &[Token]) -> Result<(Stmt, &[Token]), Stop>
-    ensures follows { (st : List Frame) → Follows result (verdict tokens.now (LocalStar kind) st) (λ p. verdict p.1.now (HaveLocal (stmt_tree p.0)) st) }
+    ensures follows { (st : List Frame) → Follows result (verdict tokens.now (LocalStar kind) st)
+        (λ p. verdict p.1.now (HaveLocal (stmt_tree p.0)) st) }
     ensures shorter { IfOk result (λ p. length p.1.now < length tokens.now) }
 {
     let (token, rest) = next_token(tokens)?;
@@ -117,7 +125,8 @@ fn named_pointer(
     name: Ident,
     tokens: &[Token],
 ) -> Result<(Stmt, &[Token]), Stop>
-    ensures follows { (st : List Frame) → Follows result (verdict tokens.now (LocalPointer kind name) st) (λ p. verdict p.1.now (HaveLocal (stmt_tree p.0)) st) }
+    ensures follows { (st : List Frame) → Follows result (verdict tokens.now (LocalPointer kind name) st)
+        (λ p. verdict p.1.now (HaveLocal (stmt_tree p.0)) st) }
     ensures no_longer { IfOk result (λ p. length p.1.now ≤ length tokens.now) }
 {
     let (token, rest) = next_token(tokens)?;
@@ -130,7 +139,8 @@ fn named_pointer(
 
 // An array, after `[`.
 fn array(kind: Kind, name: Ident, tokens: &[Token]) -> Result<(Stmt, &[Token]), Stop>
-    ensures follows { (st : List Frame) → Follows result (verdict tokens.now (LocalLength kind name) st) (λ p. verdict p.1.now (HaveLocal (stmt_tree p.0)) st) }
+    ensures follows { (st : List Frame) → Follows result (verdict tokens.now (LocalLength kind name) st)
+        (λ p. verdict p.1.now (HaveLocal (stmt_tree p.0)) st) }
     ensures shorter { IfOk result (λ p. length p.1.now < length tokens.now) }
     ensures faults { IfErr result (λ e. e ≢ Memory) }
 {
@@ -156,7 +166,8 @@ fn array(kind: Kind, name: Ident, tokens: &[Token]) -> Result<(Stmt, &[Token]), 
 // A local that begins with a value, after `=`.
 #[tactic(auto, using(crate::proofs::Steps::begun_value))]
 fn begun(alloc: Global, ty: Ty, name: Ident, tokens: &[Token]) -> Result<(Stmt, &[Token]), Stop>
-    ensures follows { (st : List Frame) → Follows result (verdict tokens.now (WantValue (Begun ty name)) st) (λ p. verdict p.1.now (HaveLocal (stmt_tree p.0)) st) }
+    ensures follows { (st : List Frame) → Follows result (verdict tokens.now (WantValue (Begun ty name)) st)
+        (λ p. verdict p.1.now (HaveLocal (stmt_tree p.0)) st) }
     ensures shorter { IfOk result (λ p. length p.1.now < length tokens.now) }
 {
     let (value, rest) = value_at(alloc, tokens)?;

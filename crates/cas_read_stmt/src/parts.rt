@@ -63,7 +63,8 @@ pub fn for_stmt(
     after: Option<Box<Stmt>>,
     body: Box<Stmt>,
 ) -> Stmt
-    ensures { stmt_tree result ≡ tree.for_ place (boxed_tree first) (optional_tree condition) (boxed_tree after) (stmt_tree body.value) }
+    ensures { stmt_tree result ≡ tree.for_ place (boxed_tree first) (optional_tree condition) (boxed_tree after)
+        (stmt_tree body.value) }
 {
     let form = StmtForm::For(first, condition, after, body);
     Stmt { place, form }

@@ -7,7 +7,8 @@ ghost use Rattle.cas_syntax.specs.Reading.{within};
 ghost use Rattle.cas_syntax.specs.Tree.{stmt_tree, expr_tree};
 ghost use Rattle.cas_syntax.specs.Tree as tree;
 ghost use Rattle.cas_read_expr.specs.declared.stop.Stop.TheVariants.{Memory};
-ghost use Rattle.cas_parse.specs.Frames.{Frame, SimpleStmt, PrintValue, Given, Expect, WantOutermost, HaveStmt, LockName, UnlockName, AfterReturn};
+ghost use Rattle.cas_parse.specs.Frames.{Frame, SimpleStmt, PrintValue, Given, Expect, WantOutermost, HaveStmt};
+ghost use Rattle.cas_parse.specs.Frames.{LockName, UnlockName, AfterReturn};
 ghost use Rattle.cas_parse.specs.Machine as machine;
 ghost use Rattle.cas_read_expr.specs.Follow.{Follows, verdict};
 ghost use Rattle.cas_read_stmt.specs.FollowStmts.{begins_simple};
@@ -25,7 +26,8 @@ use std::alloc::Global;
 /// An assignment or a call, with its `;`.
 #[tactic(auto, using(crate::proofs::StmtSteps::had_simple_stmt))]
 pub fn simple_stmt(alloc: Global, tokens: &[Token]) -> Result<(Stmt, &[Token]), Stop>
-    ensures follows { (st : List Frame) → Follows result (begins_simple tokens.now (SimpleStmt ∷ st)) (λ p. verdict p.1.now (HaveStmt (stmt_tree p.0)) st) }
+    ensures follows { (st : List Frame) → Follows result (begins_simple tokens.now (SimpleStmt ∷ st))
+        (λ p. verdict p.1.now (HaveStmt (stmt_tree p.0)) st) }
     ensures shorter { IfOk result (λ p. length p.1.now < length tokens.now) }
 {
     let (stmt, rest) = simple(alloc, tokens)?;
@@ -34,7 +36,9 @@ pub fn simple_stmt(alloc: Global, tokens: &[Token]) -> Result<(Stmt, &[Token]), 
 
 /// A `(` and an expression.
 pub fn opened(alloc: Global, tokens: &[Token]) -> Result<(Expr, usize, &[Token]), Stop>
-    ensures follows { (st : List Frame) → Follows result (verdict tokens.now (Expect true sg.OpenParen WantOutermost) st) (λ p. verdict p.2.now (Given p.1 (expr_tree p.0)) st) }
+    ensures follows { (st : List Frame) → Follows result
+        (verdict tokens.now (Expect true sg.OpenParen WantOutermost) st)
+        (λ p. verdict p.2.now (Given p.1 (expr_tree p.0)) st) }
     ensures shorter { IfOk result (λ p. length p.2.now < length tokens.now) }
 {
     let rest = expect(tokens, Sign::OpenParen)?;
@@ -44,7 +48,9 @@ pub fn opened(alloc: Global, tokens: &[Token]) -> Result<(Expr, usize, &[Token])
 /// A `print`, after its word.
 #[tactic(auto, using(crate::proofs::StmtSteps::given_printed))]
 pub fn print_stmt(alloc: Global, place: Place, tokens: &[Token]) -> Result<(Stmt, &[Token]), Stop>
-    ensures follows { (st : List Frame) → Follows result (verdict tokens.now (Expect true sg.OpenParen WantOutermost) (PrintValue place ∷ st)) (λ p. verdict p.1.now (HaveStmt (stmt_tree p.0)) st) }
+    ensures follows { (st : List Frame) → Follows result
+        (verdict tokens.now (Expect true sg.OpenParen WantOutermost) (PrintValue place ∷ st))
+        (λ p. verdict p.1.now (HaveStmt (stmt_tree p.0)) st) }
     ensures shorter { IfOk result (λ p. length p.1.now < length tokens.now) }
 {
     let (value, _, rest) = opened(alloc, tokens)?;
@@ -57,7 +63,8 @@ pub fn print_stmt(alloc: Global, place: Place, tokens: &[Token]) -> Result<(Stmt
 /// A `return`, after its word.
 #[tactic(auto, using(crate::proofs::StmtSteps::returns_value, crate::proofs::StmtSteps::given_returned))]
 pub fn return_stmt(alloc: Global, place: Place, tokens: &[Token]) -> Result<(Stmt, &[Token]), Stop>
-    ensures follows { (st : List Frame) → Follows result (verdict tokens.now (AfterReturn place) st) (λ p. verdict p.1.now (HaveStmt (stmt_tree p.0)) st) }
+    ensures follows { (st : List Frame) → Follows result (verdict tokens.now (AfterReturn place) st)
+        (λ p. verdict p.1.now (HaveStmt (stmt_tree p.0)) st) }
     ensures shorter { IfOk result (λ p. length p.1.now < length tokens.now) }
 {
     if let Some(rest) = behind(tokens, Sign::Semicolon) {
@@ -72,7 +79,9 @@ pub fn return_stmt(alloc: Global, place: Place, tokens: &[Token]) -> Result<(Stm
 
 /// A `lock`, after its word.
 pub fn lock_stmt(alloc: Global, place: Place, tokens: &[Token]) -> Result<(Stmt, &[Token]), Stop>
-    ensures follows { (st : List Frame) → Follows result (verdict tokens.now (Expect true sg.OpenParen (LockName place)) st) (λ p. verdict p.1.now (HaveStmt (stmt_tree p.0)) st) }
+    ensures follows { (st : List Frame) → Follows result
+        (verdict tokens.now (Expect true sg.OpenParen (LockName place)) st)
+        (λ p. verdict p.1.now (HaveStmt (stmt_tree p.0)) st) }
     ensures shorter { IfOk result (λ p. length p.1.now < length tokens.now) }
 {
     let rest = expect(tokens, Sign::OpenParen)?;
@@ -83,7 +92,9 @@ pub fn lock_stmt(alloc: Global, place: Place, tokens: &[Token]) -> Result<(Stmt,
 
 /// An `unlock`, after its word.
 pub fn unlock_stmt(alloc: Global, place: Place, tokens: &[Token]) -> Result<(Stmt, &[Token]), Stop>
-    ensures follows { (st : List Frame) → Follows result (verdict tokens.now (Expect true sg.OpenParen (UnlockName place)) st) (λ p. verdict p.1.now (HaveStmt (stmt_tree p.0)) st) }
+    ensures follows { (st : List Frame) → Follows result
+        (verdict tokens.now (Expect true sg.OpenParen (UnlockName place)) st)
+        (λ p. verdict p.1.now (HaveStmt (stmt_tree p.0)) st) }
     ensures shorter { IfOk result (λ p. length p.1.now < length tokens.now) }
 {
     let rest = expect(tokens, Sign::OpenParen)?;
@@ -94,8 +105,10 @@ pub fn unlock_stmt(alloc: Global, place: Place, tokens: &[Token]) -> Result<(Stm
 
 // A lock's name, with its `)` and `;`.
 fn lock_name(alloc: Global, tokens: &[Token]) -> Result<(Ident, &[Token]), Stop>
-    ensures lock { (q : Place) (st : List Frame) → Follows result (verdict tokens.now (LockName q) st) (λ p. verdict p.1.now (HaveStmt (tree.lock q p.0)) st) }
-    ensures unlock { (q : Place) (st : List Frame) → Follows result (verdict tokens.now (UnlockName q) st) (λ p. verdict p.1.now (HaveStmt (tree.unlock q p.0)) st) }
+    ensures lock { (q : Place) (st : List Frame) → Follows result (verdict tokens.now (LockName q) st)
+        (λ p. verdict p.1.now (HaveStmt (tree.lock q p.0)) st) }
+    ensures unlock { (q : Place) (st : List Frame) → Follows result (verdict tokens.now (UnlockName q) st)
+        (λ p. verdict p.1.now (HaveStmt (tree.unlock q p.0)) st) }
     ensures shorter { IfOk result (λ p. length p.1.now < length tokens.now) }
 {
     let (token, rest) = next_token(tokens)?;
@@ -110,7 +123,9 @@ fn lock_name(alloc: Global, tokens: &[Token]) -> Result<(Ident, &[Token]), Stop>
 
 /// A `break`, after its word.
 pub fn break_stmt(place: Place, tokens: &[Token]) -> Result<(Stmt, &[Token]), Stop>
-    ensures follows { (st : List Frame) → Follows result (verdict tokens.now (Expect true sg.Semicolon (HaveStmt (tree.break_ place))) st) (λ p. verdict p.1.now (HaveStmt (stmt_tree p.0)) st) }
+    ensures follows { (st : List Frame) → Follows result
+        (verdict tokens.now (Expect true sg.Semicolon (HaveStmt (tree.break_ place))) st)
+        (λ p. verdict p.1.now (HaveStmt (stmt_tree p.0)) st) }
     ensures shorter { IfOk result (λ p. length p.1.now < length tokens.now) }
     ensures faults { IfErr result (λ e. e ≢ Memory) }
 {
@@ -121,7 +136,9 @@ pub fn break_stmt(place: Place, tokens: &[Token]) -> Result<(Stmt, &[Token]), St
 
 /// A `continue`, after its word.
 pub fn continue_stmt(place: Place, tokens: &[Token]) -> Result<(Stmt, &[Token]), Stop>
-    ensures follows { (st : List Frame) → Follows result (verdict tokens.now (Expect true sg.Semicolon (HaveStmt (tree.continue_ place))) st) (λ p. verdict p.1.now (HaveStmt (stmt_tree p.0)) st) }
+    ensures follows { (st : List Frame) → Follows result
+        (verdict tokens.now (Expect true sg.Semicolon (HaveStmt (tree.continue_ place))) st)
+        (λ p. verdict p.1.now (HaveStmt (stmt_tree p.0)) st) }
     ensures shorter { IfOk result (λ p. length p.1.now < length tokens.now) }
     ensures faults { IfErr result (λ e. e ≢ Memory) }
 {

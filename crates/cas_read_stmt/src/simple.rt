@@ -4,7 +4,8 @@ ghost use Rattle.std.specs.Prelude.{◌≡◌, ◌≢◌, ◌<◌, ◌≤◌, �
 ghost use Rattle.cas_base.specs.declared.place.Place.{Place};
 ghost use Rattle.cas_syntax.specs.Tree.{stmt_tree, target_tree, TargetTree};
 ghost use Rattle.cas_read_expr.specs.declared.stop.Stop.TheVariants.{Memory};
-ghost use Rattle.cas_parse.specs.Frames.{Frame, Assigned, WantOutermost, WantValue, AssignedTo, HaveSimple, AfterName, AfterTarget, WantTarget, SteppedName};
+ghost use Rattle.cas_parse.specs.Frames.{Frame, Assigned, WantOutermost, WantValue, AssignedTo, HaveSimple};
+ghost use Rattle.cas_parse.specs.Frames.{AfterName, AfterTarget, WantTarget, SteppedName};
 ghost use Rattle.cas_parse.specs.Machine as machine;
 ghost use Rattle.cas_read_expr.specs.Follow.{Follows, verdict};
 ghost use Rattle.cas_read_stmt.specs.FollowStmts.{begins_simple, changes};
@@ -31,7 +32,8 @@ pub enum Change {
 
 /// An assignment or a call.
 pub fn simple(alloc: Global, tokens: &[Token]) -> Result<(Stmt, &[Token]), Stop>
-    ensures follows { (st : List Frame) → Follows result (begins_simple tokens.now st) (λ p. verdict p.1.now (HaveSimple (stmt_tree p.0)) st) }
+    ensures follows { (st : List Frame) → Follows result (begins_simple tokens.now st)
+        (λ p. verdict p.1.now (HaveSimple (stmt_tree p.0)) st) }
     ensures shorter { IfOk result (λ p. length p.1.now < length tokens.now) }
 {
     let (token, rest) = next_token(tokens)?;
@@ -52,7 +54,8 @@ pub fn simple(alloc: Global, tokens: &[Token]) -> Result<(Stmt, &[Token]), Stop>
 
 // What begins with a name.
 fn named(alloc: Global, name: Ident, tokens: &[Token]) -> Result<(Stmt, &[Token]), Stop>
-    ensures follows { (st : List Frame) → Follows result (verdict tokens.now (AfterName name) st) (λ p. verdict p.1.now (HaveSimple (stmt_tree p.0)) st) }
+    ensures follows { (st : List Frame) → Follows result (verdict tokens.now (AfterName name) st)
+        (λ p. verdict p.1.now (HaveSimple (stmt_tree p.0)) st) }
     ensures shorter { IfOk result (λ p. length p.1.now < length tokens.now) }
 {
     let place = name.place;
@@ -75,7 +78,8 @@ fn named(alloc: Global, name: Ident, tokens: &[Token]) -> Result<(Stmt, &[Token]
 // A variable that is given a value, after `=`.
 #[tactic(auto, using(crate::proofs::Steps::assigned_value))]
 fn given(alloc: Global, name: Ident, tokens: &[Token]) -> Result<(Stmt, &[Token]), Stop>
-    ensures follows { (st : List Frame) → Follows result (verdict tokens.now (WantValue (Assigned name)) st) (λ p. verdict p.1.now (HaveSimple (stmt_tree p.0)) st) }
+    ensures follows { (st : List Frame) → Follows result (verdict tokens.now (WantValue (Assigned name)) st)
+        (λ p. verdict p.1.now (HaveSimple (stmt_tree p.0)) st) }
     ensures shorter { IfOk result (λ p. length p.1.now < length tokens.now) }
 {
     let place = name.place;
@@ -95,7 +99,9 @@ fn changed(
     target: LValue,
     tokens: &[Token],
 ) -> Result<(Stmt, &[Token]), Stop>
-    ensures follows { (st : List Frame) → Follows result (verdict tokens.now (AfterTarget place (target_tree target)) st) (λ p. verdict p.1.now (HaveSimple (stmt_tree p.0)) st) }
+    ensures follows { (st : List Frame) → Follows result
+        (verdict tokens.now (AfterTarget place (target_tree target)) st)
+        (λ p. verdict p.1.now (HaveSimple (stmt_tree p.0)) st) }
     ensures shorter { IfOk result (λ p. length p.1.now < length tokens.now) }
 {
     let (target, (change, rest)) = beside(target, change_at(tokens))?;
@@ -107,7 +113,8 @@ fn changed(
 
 // How the next sign changes what precedes it.
 fn change_at(tokens: &[Token]) -> Result<(Change, &[Token]), Stop>
-    ensures follows { (q : Place) (target : TargetTree) (st : List Frame) → Follows result (verdict tokens.now (AfterTarget q target) st) (λ p. changes p.0 p.1.now q target st) }
+    ensures follows { (q : Place) (target : TargetTree) (st : List Frame)
+        → Follows result (verdict tokens.now (AfterTarget q target) st) (λ p. changes p.0 p.1.now q target st) }
     ensures shorter { IfOk result (λ p. length p.1.now < length tokens.now) }
     ensures faults { IfErr result (λ e. e ≢ Memory) }
 {
@@ -132,7 +139,9 @@ fn assigned(
     operator: Option<BinaryOperator>,
     tokens: &[Token],
 ) -> Result<(Stmt, &[Token]), Stop>
-    ensures follows { (st : List Frame) → Follows result (verdict tokens.now WantOutermost (AssignedTo place (target_tree target) operator ∷ st)) (λ p. verdict p.1.now (HaveSimple (stmt_tree p.0)) st) }
+    ensures follows { (st : List Frame) → Follows result
+        (verdict tokens.now WantOutermost (AssignedTo place (target_tree target) operator ∷ st))
+        (λ p. verdict p.1.now (HaveSimple (stmt_tree p.0)) st) }
     ensures shorter { IfOk result (λ p. length p.1.now < length tokens.now) }
 {
     let (target, (value, _, rest)) = beside(target, outermost(alloc, tokens))?;
@@ -147,7 +156,8 @@ fn stepped(
     operator: BinaryOperator,
     tokens: &[Token],
 ) -> Result<(Stmt, &[Token]), Stop>
-    ensures follows { (st : List Frame) → Follows result (verdict tokens.now (WantTarget place operator) st) (λ p. verdict p.1.now (HaveSimple (stmt_tree p.0)) st) }
+    ensures follows { (st : List Frame) → Follows result (verdict tokens.now (WantTarget place operator) st)
+        (λ p. verdict p.1.now (HaveSimple (stmt_tree p.0)) st) }
     ensures shorter { IfOk result (λ p. length p.1.now < length tokens.now) }
 {
     let (token, rest) = next_token(tokens)?;
@@ -167,7 +177,9 @@ fn stepped(
 
 // A variable or an element that `++` or `--` steps.
 fn stepped_name(alloc: Global, name: Ident, tokens: &[Token]) -> Result<(LValue, &[Token]), Stop>
-    ensures follows { (q : Place) (op : BinaryOperator) (st : List Frame) → Follows result (verdict tokens.now (SteppedName q op name) st) (λ p. verdict p.1.now (HaveSimple (machine.stepped q (target_tree p.0) op)) st) }
+    ensures follows { (q : Place) (op : BinaryOperator) (st : List Frame)
+        → Follows result (verdict tokens.now (SteppedName q op name) st)
+        (λ p. verdict p.1.now (HaveSimple (machine.stepped q (target_tree p.0) op)) st) }
     ensures no_longer { IfOk result (λ p. length p.1.now ≤ length tokens.now) }
 {
     match tokens.split_first() {

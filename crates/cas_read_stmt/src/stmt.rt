@@ -7,7 +7,8 @@ ghost use Rattle.cas_base.specs.declared.place.Place.{Place};
 ghost use Rattle.cas_lex.specs.declared.token.Sign.TheVariants as sg;
 ghost use Rattle.cas_syntax.specs.Reading.{within};
 ghost use Rattle.cas_syntax.specs.Tree.{stmt_tree, stmt_trees, no_more, ItemTree, ExprTree, StmtTree, if_};
-ghost use Rattle.cas_parse.specs.Frames.{Frame, BodyOf, InItems, IfCondition, IfThen, WhileCondition, DoBody, ForFirst, BlockOf, Expect, WantOutermost, WantStmt, HaveStmt, InList};
+ghost use Rattle.cas_parse.specs.Frames.{Frame, BodyOf, InItems, IfCondition, IfThen, WhileCondition, DoBody};
+ghost use Rattle.cas_parse.specs.Frames.{ForFirst, BlockOf, Expect, WantOutermost, WantStmt, HaveStmt, InList};
 ghost use Rattle.cas_parse.specs.Machine as machine;
 ghost use Rattle.cas_read_expr.specs.Follow.{Follows, taken, verdict};
 ghost use Rattle.cas_read_stmt.specs.FollowStmts.{begins_stmt, begins_listed, boxed_tree};
@@ -33,7 +34,8 @@ use std::alloc::Global;
 #[tactic(auto, using(crate::proofs::StmtSteps::wants_stmt_within))]
 fn stmt(alloc: Global, tokens: &[Token], around: usize) -> Result<(Stmt, &[Token]), Stop>
     requires { around ≤ DEPTH_LIMIT }
-    ensures follows { (st : List Frame) → Follows result (verdict tokens.now (WantStmt around) st) (λ p. verdict p.1.now (HaveStmt (stmt_tree p.0)) st) }
+    ensures follows { (st : List Frame) → Follows result (verdict tokens.now (WantStmt around) st)
+        (λ p. verdict p.1.now (HaveStmt (stmt_tree p.0)) st) }
     ensures shorter { IfOk result (λ p. length p.1.now < length tokens.now) }
 {
     let (token, _) = next_token(tokens)?;
@@ -48,7 +50,8 @@ fn stmt(alloc: Global, tokens: &[Token], around: usize) -> Result<(Stmt, &[Token
 #[cycle(stmt)]
 fn inner(alloc: Global, tokens: &[Token], around: usize) -> Result<(Box<Stmt>, &[Token]), Stop>
     requires { around ≤ DEPTH_LIMIT }
-    ensures follows { (st : List Frame) → Follows result (verdict tokens.now (WantStmt around) st) (λ p. verdict p.1.now (HaveStmt (stmt_tree p.0.value)) st) }
+    ensures follows { (st : List Frame) → Follows result (verdict tokens.now (WantStmt around) st)
+        (λ p. verdict p.1.now (HaveStmt (stmt_tree p.0.value)) st) }
     ensures shorter { IfOk result (λ p. length p.1.now < length tokens.now) }
 {
     let (stmt, rest) = stmt(alloc, tokens, around)?;
@@ -60,7 +63,8 @@ fn inner(alloc: Global, tokens: &[Token], around: usize) -> Result<(Box<Stmt>, &
 #[tactic(auto, using(crate::proofs::StmtSteps::starts_as_simple))]
 fn started(alloc: Global, tokens: &[Token], around: usize) -> Result<(Stmt, &[Token]), Stop>
     requires { around < DEPTH_LIMIT }
-    ensures follows { (st : List Frame) → Follows result (begins_stmt tokens.now around st) (λ p. verdict p.1.now (HaveStmt (stmt_tree p.0)) st) }
+    ensures follows { (st : List Frame) → Follows result (begins_stmt tokens.now around st)
+        (λ p. verdict p.1.now (HaveStmt (stmt_tree p.0)) st) }
     ensures shorter { IfOk result (λ p. length p.1.now < length tokens.now) }
 {
     let (token, rest) = next_token(tokens)?;
@@ -103,7 +107,8 @@ fn list(
     around: usize,
 ) -> Result<(Vec<Stmt>, Place, &[Token]), Stop>
     requires { around ≤ DEPTH_LIMIT }
-    ensures follows { (st : List Frame) → Follows result (verdict tokens.now (InList around no_more) st) (λ p. taken p.2.now (machine.list_closed (within 0) false false (stmt_trees p.0.items) st p.1)) }
+    ensures follows { (st : List Frame) → Follows result (verdict tokens.now (InList around no_more) st)
+        (λ p. taken p.2.now (machine.list_closed (within 0) false false (stmt_trees p.0.items) st p.1)) }
     ensures shorter { IfOk result (λ p. length p.2.now < length tokens.now) }
 {
     let mut all = Vec::new(alloc);
@@ -132,7 +137,9 @@ fn listed<'a>(
     all: &mut Vec<Stmt>,
 ) -> Result<&'a [Token], Stop>
     requires { around ≤ DEPTH_LIMIT }
-    ensures follows { (st : List Frame) → Follows result (begins_listed tokens.now around (stmt_trees all.old.items) st) (λ rest. verdict rest.now (InList around (stmt_trees all.new.items)) st) }
+    ensures follows { (st : List Frame) → Follows result
+        (begins_listed tokens.now around (stmt_trees all.old.items) st)
+        (λ rest. verdict rest.now (InList around (stmt_trees all.new.items)) st) }
     ensures shorter { IfOk result (λ rest. length rest.now < length tokens.now) }
 {
     if begins_kind_at(tokens) {
@@ -153,7 +160,9 @@ fn conditional(
     around: usize,
 ) -> Result<(Stmt, &[Token]), Stop>
     requires { around < DEPTH_LIMIT }
-    ensures follows { (st : List Frame) → Follows result (verdict tokens.now (Expect true sg.OpenParen WantOutermost) (IfCondition around place ∷ st)) (λ p. verdict p.1.now (HaveStmt (stmt_tree p.0)) st) }
+    ensures follows { (st : List Frame) → Follows result
+        (verdict tokens.now (Expect true sg.OpenParen WantOutermost) (IfCondition around place ∷ st))
+        (λ p. verdict p.1.now (HaveStmt (stmt_tree p.0)) st) }
     ensures shorter { IfOk result (λ p. length p.1.now < length tokens.now) }
 {
     let (condition, _, rest) = opened(alloc, tokens)?;
@@ -172,7 +181,9 @@ fn otherwise(
     around: usize,
 ) -> Result<(Option<Box<Stmt>>, &[Token]), Stop>
     requires { around < DEPTH_LIMIT }
-    ensures follows { (q : Place) (c : ExprTree) (a : StmtTree) (st : List Frame) → Follows result (verdict tokens.now (HaveStmt a) (IfThen around q c ∷ st)) (λ p. verdict p.1.now (HaveStmt (if_ q c a (boxed_tree p.0))) st) }
+    ensures follows { (q : Place) (c : ExprTree) (a : StmtTree) (st : List Frame)
+        → Follows result (verdict tokens.now (HaveStmt a) (IfThen around q c ∷ st))
+        (λ p. verdict p.1.now (HaveStmt (if_ q c a (boxed_tree p.0))) st) }
     ensures no_longer { IfOk result (λ p. length p.1.now ≤ length tokens.now) }
 {
     let Some(rest) = behind_else(tokens) else {
@@ -192,7 +203,9 @@ fn while_loop(
     around: usize,
 ) -> Result<(Stmt, &[Token]), Stop>
     requires { around < DEPTH_LIMIT }
-    ensures follows { (st : List Frame) → Follows result (verdict tokens.now (Expect true sg.OpenParen WantOutermost) (WhileCondition around place ∷ st)) (λ p. verdict p.1.now (HaveStmt (stmt_tree p.0)) st) }
+    ensures follows { (st : List Frame) → Follows result
+        (verdict tokens.now (Expect true sg.OpenParen WantOutermost) (WhileCondition around place ∷ st))
+        (λ p. verdict p.1.now (HaveStmt (stmt_tree p.0)) st) }
     ensures shorter { IfOk result (λ p. length p.1.now < length tokens.now) }
 {
     let (condition, _, rest) = opened(alloc, tokens)?;
@@ -210,7 +223,9 @@ fn do_loop(
     around: usize,
 ) -> Result<(Stmt, &[Token]), Stop>
     requires { around < DEPTH_LIMIT }
-    ensures follows { (st : List Frame) → Follows result (verdict tokens.now (WantStmt (around + 1)) (DoBody place ∷ st)) (λ p. verdict p.1.now (HaveStmt (stmt_tree p.0)) st) }
+    ensures follows { (st : List Frame) → Follows result
+        (verdict tokens.now (WantStmt (around + 1)) (DoBody place ∷ st))
+        (λ p. verdict p.1.now (HaveStmt (stmt_tree p.0)) st) }
     ensures shorter { IfOk result (λ p. length p.1.now < length tokens.now) }
 {
     let (body, rest) = inner(alloc, tokens, around + 1)?;
@@ -228,7 +243,9 @@ fn for_loop(
     around: usize,
 ) -> Result<(Stmt, &[Token]), Stop>
     requires { around < DEPTH_LIMIT }
-    ensures follows { (st : List Frame) → Follows result (verdict tokens.now (Expect true sg.OpenParen (ForFirst around place)) st) (λ p. verdict p.1.now (HaveStmt (stmt_tree p.0)) st) }
+    ensures follows { (st : List Frame) → Follows result
+        (verdict tokens.now (Expect true sg.OpenParen (ForFirst around place)) st)
+        (λ p. verdict p.1.now (HaveStmt (stmt_tree p.0)) st) }
     ensures shorter { IfOk result (λ p. length p.1.now < length tokens.now) }
 {
     let rest = expect(tokens, Sign::OpenParen)?;
@@ -241,7 +258,10 @@ fn for_loop(
 
 /// The body of a function, after `{`: its statements, the place of its `}`, and the rest.
 pub fn body(alloc: Global, tokens: &[Token]) -> Result<(Vec<Stmt>, Place, &[Token]), Stop>
-    ensures follows { (x : Ident) (f : Form) (xs : List Ident) (held : List Place) (items : List ItemTree) (st : List Frame) → Follows result (verdict tokens.now (InList 0 no_more) (BodyOf x f xs held items ∷ st)) (λ r. verdict r.2.now (InItems (items ++ machine.closing_of_function x f xs held (stmt_trees r.0.items) r.1 ∷ [])) st) }
+    ensures follows { (x : Ident) (f : Form) (xs : List Ident) (held : List Place) (items : List ItemTree)
+        (st : List Frame) → Follows result (verdict tokens.now (InList 0 no_more) (BodyOf x f xs held items ∷ st))
+        (λ r. verdict r.2.now
+        (InItems (items ++ machine.closing_of_function x f xs held (stmt_trees r.0.items) r.1 ∷ [])) st) }
     ensures shorter { IfOk result (λ r. length r.2.now < length tokens.now) }
 {
     list(alloc, tokens, 0)

@@ -17,7 +17,8 @@ use std::alloc::Global;
 /// What is pointed to, after `*`.
 #[tactic(auto, using(crate::proofs::Steps::given_target_behind))]
 pub fn pointed_to(alloc: Global, tokens: &[Token]) -> Result<(LValue, &[Token]), Stop>
-    ensures follows { (usage : Use) (st : List Frame) → Follows result (verdict tokens.now (AfterStar usage) st) (λ p. reaches p.1.now usage (target_tree p.0) st) }
+    ensures follows { (usage : Use) (st : List Frame) → Follows result (verdict tokens.now (AfterStar usage) st)
+        (λ p. reaches p.1.now usage (target_tree p.0) st) }
     ensures shorter { IfOk result (λ p. length p.1.now < length tokens.now) }
 {
     let (token, rest) = next_token(tokens)?;
@@ -38,7 +39,9 @@ pub fn pointed_to(alloc: Global, tokens: &[Token]) -> Result<(LValue, &[Token]),
 /// An element, after `[`.
 #[tactic(auto, using(crate::proofs::Steps::given_target_index))]
 pub fn element(alloc: Global, name: Ident, tokens: &[Token]) -> Result<(LValue, &[Token]), Stop>
-    ensures follows { (usage : Use) (st : List Frame) → Follows result (verdict tokens.now WantOutermost (TargetIndex usage name ∷ st)) (λ p. reaches p.1.now usage (target_tree p.0) st) }
+    ensures follows { (usage : Use) (st : List Frame) → Follows result
+        (verdict tokens.now WantOutermost (TargetIndex usage name ∷ st))
+        (λ p. reaches p.1.now usage (target_tree p.0) st) }
     ensures shorter { IfOk result (λ p. length p.1.now < length tokens.now) }
 {
     let (index, _, rest) = outermost(alloc, tokens)?;
