@@ -23,6 +23,10 @@ const SELF_LOCKED: &str =
 const BAD_HOLDER: &str =
     "lock L; shared(L) int g; void w(int me) { lock(L); g = 1 / me; unlock(L); }";
 
+// A function that calls itself until its argument is 0, and returns how often it did.
+const DEEP: &str =
+    "int down(int n) { int m; if (n == 0) return 0; m = down(n - 1); return m + 1; } void w(int me) { int depth; depth = down(100000); print(depth); }";
+
 // Modules with the functions of their threads, the option of turns, and what is printed.
 const TURNS: &[(&str, &str, &[&str], &str)] = &[
     (
@@ -394,6 +398,20 @@ fn many_threads_take_turns(rt: HostRuntime) -> Result<(), Fail> {
     ];
     let texts = [("m.c", "void w(int me) { print(me); }")];
     assert_words(&rt, alloc, &words, &texts, wanted(0, lines.as_str(), ""))?;
+    Ok(())
+}
+
+#[test]
+fn threads_call_deep(rt: HostRuntime) -> Result<(), Fail> {
+    let words = ["world", "m.c", "--threads", "w", "--rounds", "1000000"];
+    let lines = "0 100000\nthread 0 ended\n";
+    assert_words(
+        &rt,
+        rt.alloc(),
+        &words,
+        &[("m.c", DEEP)],
+        wanted(0, lines, ""),
+    )?;
     Ok(())
 }
 
