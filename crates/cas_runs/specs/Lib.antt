@@ -6,10 +6,12 @@ pub mod Determined
 pub mod Edge
 pub mod Forms
 pub mod Held
+pub mod Known
 pub mod Label
 pub mod Legal
 pub mod Machine
 pub mod Naming
+pub mod Natural
 pub mod Outside
 pub mod Passing
 pub mod Placing

@@ -232,7 +232,8 @@ pub record KeepsRules {S : Type 0} (edge : Edge) (m : Machine S) : Type 0 where
 -- what calls over the edge is no function inside. So it is of a unit; a function alone calls itself over its edge
 abbrev pub CallsOut : {S : Type 0} → Edge → Machine S → Type 0
 CallsOut {S = S} edge m = Always edge m (λ ls x. (function : NameBytes) (share : Share) (next : Names → Option S) →
-    m.act x ≡ Crosses (Some function) share next → (f : Signature) → signature_of edge.functions function ≡ Some f → f.inside ≡ false)
+    m.act x ≡ Crosses (Some function) share next → (f : Signature) → signature_of edge.functions function ≡ Some f →
+    f.inside ≡ false)
 
 -- What the source keeps besides.
 

@@ -23,9 +23,10 @@ pub use refused::{
     wrong_place_refused,
 };
 pub use rules::{
-    crossings_are_received, functions_keep_rules, never_full, programs_know_results,
-    sections_keep_kinds, sections_keep_locks, sections_keep_rules, threads_keep_rules,
-    threads_never_cross, units_call_out, units_in_order_are_defined, units_keep_rules,
+    crossings_are_received, functions_keep_rules, natural_layouts_fit, never_full,
+    programs_know_results, received_labels_exist, sections_keep_kinds, sections_keep_locks,
+    sections_keep_rules, threads_keep_rules, threads_never_cross, units_call_out,
+    units_in_order_are_defined, units_keep_rules,
 };
 pub use walking::{
     bad_now, beginnings_are_one, equal_machines_refine, equal_machines_run, longest_run,

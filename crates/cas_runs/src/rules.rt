@@ -4,12 +4,16 @@ ghost use Rattle.std.specs.Prelude.{◌≡◌, ℕ, ◌≤◌, List, [], ◌∷�
 ghost use Rattle.std.specs.List.{AllByRecursion};
 ghost use Rattle.cas_base.specs.declared.decl.Decl.{Decl};
 ghost use Rattle.cas_base.specs.declared.decl.Unit.{Unit as UnitOf};
+ghost use Rattle.cas_base.specs.declared.kind.Kind.{Kind};
 ghost use Rattle.cas_base.specs.Unit.{IsInOrder};
 ghost use Rattle.cas_runs.specs.Bounds.{IsTariff};
 ghost use Rattle.cas_runs.specs.Calls.{Activations, Scene, Thread, language, machine};
 ghost use Rattle.cas_runs.specs.Edge.{Edge, results_of};
 ghost use Rattle.cas_runs.specs.Label.{ArePlain, NameBytes, RunLabel};
 ghost use Rattle.cas_runs.specs.Machine.{Block, Full, Run, Stops};
+ghost use Rattle.cas_runs.specs.Known.{ExchangedIsReceived, KnownStays, NumberedOnce, ReceivedExists};
+ghost use Rattle.cas_runs.specs.Naming.{Layout};
+ghost use Rattle.cas_runs.specs.Natural.{IsNatural};
 ghost use Rattle.cas_runs.specs.Receiving.{CallsAreReceived, ReturnsAreReceived};
 ghost use Rattle.cas_runs.specs.Rules.{CallsOut, KeepsKinds, KeepsLocks, KeepsRules};
 ghost use Rattle.cas_runs.specs.Sections.{Instruction, StoresWords, one_lock, sections};
@@ -86,4 +90,19 @@ pub fn programs_know_results<F, S>()
 pub fn crossings_are_received()
     ensures calls { CallsAreReceived }
     ensures returns { ReturnsAreReceived }
+{}
+
+/// Whatever a unit emits within the rules, each other unit may receive, however many units there are: there is a
+/// crossing for it, it is received as it was emitted, what units know of objects stays right with it, and no two
+/// objects get one number.
+pub fn received_labels_exist()
+    ensures exists { ReceivedExists }
+    ensures received { ExchangedIsReceived }
+    ensures stays { KnownStays }
+    ensures once { NumberedOnce }
+{}
+
+/// The layout of a source's variables, where each block is one object, is a layout.
+pub fn natural_layouts_fit<F, S>()
+    ensures { (l : Language F S) (kinds : F → List Kind) (fs : List F) (layout : Layout) → IsNatural l kinds fs layout → IsLayout l fs layout }
 {}
