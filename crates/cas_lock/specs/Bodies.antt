@@ -38,7 +38,8 @@ agree false found = not found
 
 -- `lock` is at the first instruction and `unlock` at the seventh, and at no other
 abbrev pub fits_labels : List Label → ℕ → Bool
-fits_labels labels k = agree (k == 0) (is_label labels (codes "lock") k) && agree (k == 6) (is_label labels (codes "unlock") k)
+fits_labels labels k = agree (k == 0) (is_label labels (codes "lock") k) && agree (k == 6)
+    (is_label labels (codes "unlock") k)
 
 -- there is an instruction at this place, and it and its labels are the accepted ones
 abbrev pub fits_at : List Label → ℕ → Option Step → Bool

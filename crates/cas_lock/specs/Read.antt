@@ -18,9 +18,11 @@ entry_at line = entry_of (without_blanks (pieces line))
 
 -- the first fault of the lines from one with this number on, by what that line is, after these labels and instructions;
 -- `next` is that of the lines after it
-abbrev pub fault_after : (next : List Label → List Step → ℕ → Option LockFault) → List Label → List Step → ℕ → Entry → Option LockFault
+abbrev pub fault_after : (next : List Label → List Step → ℕ → Option LockFault) → List Label → List Step → ℕ → Entry →
+    Option LockFault
 fault_after next labels steps n entry.Blank = next labels steps (n + 1)
-fault_after next labels steps n (entry.Label x) = next (labels ++ record { name = x; place = length steps } ∷ []) steps (n + 1)
+fault_after next labels steps n (entry.Label x) = next (labels ++ record { name = x; place = length steps } ∷ []) steps
+    (n + 1)
 fault_after next labels steps n (entry.Step step) = next labels (steps ++ step ∷ []) (n + 1)
 fault_after next labels steps n entry.Fault = Some (Text n)
 

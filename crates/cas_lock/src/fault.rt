@@ -13,8 +13,8 @@ pub enum LockFault {
         /// The line.
         line: u32,
     },
-    /// K2: the body isn't the accepted one. The number, from 1, of the first instruction that differs in its words, operands
-    /// or target, or that lacks or moves a label `lock` or `unlock`; 9 where a further instruction follows.
+    /// K2: the body isn't the accepted one. The number, from 1, of the first instruction that differs in its words,
+    /// operands or target, or that lacks or moves a label `lock` or `unlock`; 9 where a further instruction follows.
     Body {
         /// The instruction.
         instruction: u32,

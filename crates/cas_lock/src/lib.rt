@@ -1,5 +1,5 @@
-//! The lock object: the one body of `lock` and `unlock` that is accepted, and the reader of its text. The word of a lock is 1
-//! when it is free, and 0 or negative when it is taken. It stands on `cas_base`, `cas_asm` and `cas_pieces`.
+//! The lock object: the one body of `lock` and `unlock` that is accepted, and the reader of its text. The word of a
+//! lock is 1 when it is free, and 0 or negative when it is taken. It stands on `cas_base`, `cas_asm` and `cas_pieces`.
 #![tactic(auto)]
 
 mod body;

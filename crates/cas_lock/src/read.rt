@@ -13,8 +13,8 @@ use cas_base::NoMemory;
 use cas_pieces::{Piece, cut_line};
 use std::alloc::Global;
 
-// What is read of a lock text so far: its labels and instructions, the number of the next line, and room for the pieces of a
-// line.
+// What is read of a lock text so far: its labels and instructions, the number of the next line, and room for the pieces
+// of a line.
 #[derive(Drop)]
 struct Reading<'a> {
     labels: Vec<Label<'a>>,
@@ -27,11 +27,12 @@ struct Reading<'a> {
 ///
 /// # Errors
 ///
-/// `Text` and `Body` exactly as the text's first fault is: the first line that is none of a lock text, or else the first
-/// instruction that differs from the accepted body. `Memory` for want of memory.
+/// `Text` and `Body` exactly as the text's first fault is: the first line that is none of a lock text, or else the
+/// first instruction that differs from the accepted body. `Memory` for want of memory.
 pub fn read_lock(alloc: Global, bytes: &[u8]) -> Result<LockObject, LockFault>
     requires { length bytes.now ≤ 1048576 }
-    ensures { MatchResult result (λ _. lock_fault bytes.now ≡ None) (λ fault. (fault ≡ Memory) ⊎ (lock_fault bytes.now ≡ Some fault)) }
+    ensures { MatchResult result (λ _. lock_fault bytes.now ≡ None) (λ fault. (fault ≡ Memory) ⊎ (lock_fault bytes.now
+        ≡ Some fault)) }
 {
     let mut reading = Reading {
         labels: Vec::new(alloc),
@@ -63,7 +64,8 @@ impl<'a> Reading<'a> {
         ensures read { (rest : List (List ℕ)) → MatchResult result
             (λ _. fault_from (line.now ∷ rest) self.old.labels.items self.old.steps.items self.old.line
             ≡ fault_from rest self.new.labels.items self.new.steps.items self.new.line)
-            (λ fault. (fault ≡ Memory) ⊎ (fault_from (line.now ∷ rest) self.old.labels.items self.old.steps.items self.old.line ≡ Some fault)) }
+            (λ fault. (fault ≡ Memory)
+            ⊎ (fault_from (line.now ∷ rest) self.old.labels.items self.old.steps.items self.old.line ≡ Some fault)) }
     {
         let entry = self.entry(line)?;
         match entry {

@@ -26,7 +26,9 @@ digits_are_name_bytes : (ds : List ℕ) → list_all is_ascii_digit ds ≡ true 
 digits_are_name_bytes [] h = refl
 digits_are_name_bytes (d ∷ ds) h = both (is_ascii_digit d) refl h (digits_are_name_bytes ds)
   where
-    both : (t : Bool) → is_ascii_digit d ≡ t → (t && list_all is_ascii_digit ds) ≡ true → (list_all is_ascii_digit ds ≡ true → list_all is_name_byte ds ≡ true) → (is_name_byte d && list_all is_name_byte ds) ≡ true
+    both : (t : Bool) → is_ascii_digit d ≡ t → (t && list_all is_ascii_digit ds) ≡ true →
+        (list_all is_ascii_digit ds ≡ true → list_all is_name_byte ds ≡ true) →
+        (is_name_byte d && list_all is_name_byte ds) ≡ true
     both true e rest all = rw (digit_is_name_byte d e, all rest) refl
     both false e rest all = absurd cc
 
@@ -35,7 +37,8 @@ word_from [] some all = absurd (omega arith)
 word_from (b ∷ bs) some all = all
 
 pub is_word-decimal : (n : ℕ) → n < 2 ^ 64 → is_word (decimal n) ≡ true
-is_word-decimal n small = word_from (decimal n) (decimal_nonempty n small) (digits_are_name_bytes (decimal n) (digits_decimal own n small))
+is_word-decimal n small = word_from (decimal n) (decimal_nonempty n small)
+    (digits_are_name_bytes (decimal n) (digits_decimal own n small))
 
 pub is_word-name : (x : List ℕ) → is_name x ≡ true → is_word x ≡ true
 is_word-name [] h = absurd cc

@@ -42,7 +42,8 @@ nothing : (a : Address) → ◌≡◌ {A = Option Address} None (Some a) → ⊥
 nothing a e = cc
 
 -- an address has at least two pieces
-memory_of : (ps : List Piece) (a : Address) → address_of ps ≡ Some a → operand_of (Mark Open ∷ ps) ≡ Some (operand.Memory a)
+memory_of : (ps : List Piece) (a : Address) → address_of ps ≡ Some a →
+    operand_of (Mark Open ∷ ps) ≡ Some (operand.Memory a)
 memory_of [] a h = absurd cc
 memory_of (p ∷ []) a h = absurd (alone (register_piece p) refl)
   where
@@ -56,10 +57,15 @@ address_in m = address m.sym m.base m.index ((is_there m.sym || is_there m.base)
 
 pub read_mem : (m : Mem (List ℕ)) → IsFormedMem m → operand_of (mem_pieces m []) ≡ Some (operand.Memory (address_in m))
 read_mem m formed =
-    memory_of (symbol_pieces m.sym (base_pieces (is_there m.sym) m.base (index_pieces (is_there m.sym || is_there m.base) m.index (number_pieces ((is_there m.sym || is_there m.base) || is_there m.index) m.disp (Mark Close ∷ []))))) _ (read_address m.sym m.base m.index m.disp formed.0 formed.1 formed.2)
+    memory_of
+    (symbol_pieces m.sym (base_pieces (is_there m.sym) m.base
+    (index_pieces (is_there m.sym || is_there m.base) m.index
+    (number_pieces ((is_there m.sym || is_there m.base) || is_there m.index) m.disp (Mark Close ∷ []))))) _
+    (read_address m.sym m.base m.index m.disp formed.0 formed.1 formed.2)
 
 -- and it is that place in memory
-written_read : (s : Option (List ℕ)) (b : Option Reg) (i : Option (Reg × Bool)) (after : Bool) (z : ℤ) → IsFormedSymbol s → IsFormedInteger z →
+written_read : (s : Option (List ℕ)) (b : Option Reg) (i : Option (Reg × Bool)) (after : Bool) (z : ℤ) →
+    IsFormedSymbol s → IsFormedInteger z →
     mem_of (address s b i after z) ≡ Ok (record { sym = s; base = b; index = i; disp = z })
 written_read None b i true (pos zero) named small = refl
 written_read (Some x) b i true (pos zero) named small = rw named refl
@@ -71,7 +77,8 @@ written_read None b i after (negsuc n) named small = rw (displacement_of-integer
 written_read (Some x) b i after (negsuc n) named small = rw (displacement_of-integer (negsuc n) small, named) refl
 
 pub mem_read : (m : Mem (List ℕ)) → IsFormedMem m → mem_of (address_in m) ≡ Ok m
-mem_read m formed = written_read m.sym m.base m.index ((is_there m.sym || is_there m.base) || is_there m.index) m.disp formed.0 formed.2
+mem_read m formed = written_read m.sym m.base m.index ((is_there m.sym || is_there m.base) || is_there m.index)
+    m.disp formed.0 formed.2
 
 -- no comma
 free_symbol : (s : Option (List ℕ)) (ps : List Piece) → no_comma (symbol_pieces s ps) ≡ no_comma ps
@@ -90,7 +97,8 @@ free_scale : (f : Bool) (ps : List Piece) → no_comma (scale_pieces f ps) ≡ n
 free_scale true ps = refl
 free_scale false ps = refl
 
-free_index : (after : Bool) (i : Option (Reg × Bool)) (ps : List Piece) → no_comma (index_pieces after i ps) ≡ no_comma ps
+free_index : (after : Bool) (i : Option (Reg × Bool)) (ps : List Piece) →
+    no_comma (index_pieces after i ps) ≡ no_comma ps
 free_index after None ps = refl
 free_index after (Some i) ps = free_joint after _ ∙ free_scale i.1 ps
 
@@ -106,5 +114,6 @@ free_number true (pos (suc n)) ps = refl
 
 pub free_mem : (m : Mem (List ℕ)) → no_comma (mem_pieces m []) ≡ true
 free_mem m =
-    free_symbol m.sym _ ∙ (free_base (is_there m.sym) m.base _ ∙ (free_index (is_there m.sym || is_there m.base) m.index _
+    free_symbol m.sym _ ∙ (free_base (is_there m.sym) m.base _
+    ∙ (free_index (is_there m.sym || is_there m.base) m.index _
     ∙ free_number ((is_there m.sym || is_there m.base) || is_there m.index) m.disp (Mark Close ∷ [])))

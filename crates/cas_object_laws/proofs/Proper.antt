@@ -29,12 +29,29 @@ worded x ps w f = (w, f.apart, f.proper)
 
 pub proper-integer : (z : ℤ) (ps : List Piece) → IsFormedInteger z → Follows ps → AreProper (integer_pieces z ps)
 proper-integer (pos n) ps small f = worded (decimal n) ps (is_word-decimal n (omega arith)) f
-proper-integer (negsuc n) ps small f = ((refl, refl), worded (decimal (suc n)) ps (is_word-decimal (suc n) (omega arith)) f)
+proper-integer (negsuc n) ps small f =
+    ((refl, refl), worded (decimal (suc n)) ps (is_word-decimal (suc n) (omega arith)) f)
 
 follows-number : (z : ℤ) (ps : List Piece) → IsFormedInteger z → Follows ps → Follows (number_pieces true z ps)
-follows-number (negsuc n) ps small f = record { apart = refl; proper = ((refl, refl), worded (decimal (suc n)) ps (is_word-decimal (suc n) (omega arith)) f) }
+follows-number (negsuc n) ps small f =
+    record {
+      apart = refl;
+      proper = (
+        (refl, refl),
+        worded (decimal (suc n)) ps (is_word-decimal (suc n) (omega arith))
+            f,
+      );
+    }
 follows-number (pos zero) ps small f = f
-follows-number (pos (suc n)) ps small f = record { apart = refl; proper = ((refl, refl), worded (decimal (suc n)) ps (is_word-decimal (suc n) (omega arith)) f) }
+follows-number (pos (suc n)) ps small f =
+    record {
+      apart = refl;
+      proper = (
+        (refl, refl),
+        worded (decimal (suc n)) ps (is_word-decimal (suc n) (omega arith))
+            f,
+      );
+    }
 
 proper-scale : (by_four : Bool) (ps : List Piece) → Follows ps → Follows (scale_pieces by_four ps)
 proper-scale true ps f = record { apart = refl; proper = ((refl, refl), (refl, f.apart, f.proper)) }
@@ -49,17 +66,27 @@ follows-index (Some i) ps f = record { apart = refl; proper = ((refl, refl), sca
 
 follows-base : (b : Option Reg) (ps : List Piece) → Follows ps → Follows (base_pieces true b ps)
 follows-base None ps f = f
-follows-base (Some r) ps f = record { apart = refl; proper = ((refl, refl), worded (register r) ps (is_word-register r) f) }
+follows-base (Some r) ps f =
+    record { apart = refl; proper = ((refl, refl), worded (register r) ps (is_word-register r) f) }
 
 -- what comes after the parts' first
-pub proper-parts : (s : Option (List ℕ)) (b : Option Reg) (i : Option (Reg × Bool)) (z : ℤ) (ps : List Piece) → IsFormedSymbol s → IsFormedInteger z → Follows ps →
-    AreProper (symbol_pieces s (base_pieces (is_there s) b (index_pieces (is_there s || is_there b) i (number_pieces ((is_there s || is_there b) || is_there i) z ps))))
+pub proper-parts : (s : Option (List ℕ)) (b : Option Reg) (i : Option (Reg × Bool)) (z : ℤ) (ps : List Piece) →
+    IsFormedSymbol s → IsFormedInteger z → Follows ps →
+    AreProper
+    (symbol_pieces s
+    (base_pieces (is_there s) b (index_pieces (is_there s || is_there b) i
+    (number_pieces ((is_there s || is_there b) || is_there i) z ps))))
 proper-parts None None None z ps named small f = proper-integer z ps small f
 proper-parts None None (Some i) z ps named small f = scaled i _ (follows-number z ps small f)
 proper-parts None (Some r) i z ps named small f =
     worded (register r) _ (is_word-register r) (follows-index i _ (follows-number z ps small f))
-proper-parts (Some x) b i z ps named small f =
-    ((refl, refl), worded x _ (is_word-name x named) (follows-base b _ (follows-index i _ (follows-number z ps small f))))
+proper-parts (Some x) b i z ps named small f = (
+  (refl, refl),
+  worded x _ (is_word-name x named)
+      (follows-base b _ (follows-index i _ (follows-number z ps small f))),
+)
 
-pub proper-mem : (m : Mem (List ℕ)) (ps : List Piece) → IsFormedMem m → Follows (Mark Close ∷ ps) → AreProper (mem_pieces m ps)
-proper-mem m ps formed f = ((refl, refl), proper-parts m.sym m.base m.index m.disp (Mark Close ∷ ps) formed.0 formed.2 f)
+pub proper-mem : (m : Mem (List ℕ)) (ps : List Piece) → IsFormedMem m → Follows (Mark Close ∷ ps) →
+    AreProper (mem_pieces m ps)
+proper-mem m ps formed f =
+    ((refl, refl), proper-parts m.sym m.base m.index m.disp (Mark Close ∷ ps) formed.0 formed.2 f)

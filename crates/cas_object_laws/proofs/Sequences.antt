@@ -80,30 +80,44 @@ abbrev pub two_pieces : List ℕ → List Piece → List Piece → List Piece
 two_pieces w xs ys = Word w ∷ Mark Space ∷ (xs ++ Mark Comma ∷ Mark Space ∷ ys)
 
 -- one operand is read
-pub read_one : (m : Mnemonic) (w : List ℕ) (xs : List Piece) (a : Operand) → mnemonic_of w ≡ Some m → no_comma xs ≡ true → operand_of xs ≡ Some a → instruction (one_pieces w xs) ≡ unary m a
+pub read_one : (m : Mnemonic) (w : List ℕ) (xs : List Piece) (a : Operand) → mnemonic_of w ≡ Some m →
+    no_comma xs ≡ true → operand_of xs ≡ Some a → instruction (one_pieces w xs) ≡ unary m a
 read_one m w xs a named free is = rw (named, comma_nowhere xs free, is) refl
 
 -- two operands are read
-pub read_two : (m : Mnemonic) (w : List ℕ) (xs ys : List Piece) (a b : Operand) → mnemonic_of w ≡ Some m → no_comma xs ≡ true → operand_of xs ≡ Some a → operand_of ys ≡ Some b → instruction (two_pieces w xs ys) ≡ binary m a b
+pub read_two : (m : Mnemonic) (w : List ℕ) (xs ys : List Piece) (a b : Operand) → mnemonic_of w ≡ Some m →
+    no_comma xs ≡ true → operand_of xs ≡ Some a → operand_of ys ≡ Some b →
+    instruction (two_pieces w xs ys) ≡ binary m a b
 read_two m w xs ys a b named free first second =
-    rw (named, comma_at xs (Mark Space ∷ ys) free, take-front xs (Mark Comma ∷ Mark Space ∷ ys), drop-front xs (Mark Comma ∷ Mark Space ∷ ys), first, second) refl
+    rw (
+      named,
+      comma_at xs (Mark Space ∷ ys) free,
+      take-front xs (Mark Comma ∷ Mark Space ∷ ys),
+      drop-front xs
+          (Mark Comma ∷ Mark Space ∷ ys),
+      first,
+      second,
+    ) refl
 
 -- such lines are no labels and no `end`
 pub line_one : (w : List ℕ) (xs : List Piece) → code_line (one_pieces w xs) ≡ instruction_line (one_pieces w xs)
 line_one w [] = refl
 line_one w (x ∷ xs) = refl
 
-pub line_two : (w : List ℕ) (xs ys : List Piece) → code_line (two_pieces w xs ys) ≡ instruction_line (two_pieces w xs ys)
+pub line_two : (w : List ℕ) (xs ys : List Piece) → code_line (two_pieces w xs ys) ≡ instruction_line
+    (two_pieces w xs ys)
 line_two w [] ys = refl
 line_two w (x ∷ xs) ys = refl
 
 -- their text
 text-append : (xs ys : List Piece) → text (xs ++ ys) ≡ text xs ++ text ys
 text-append [] ys = refl
-text-append (Word x ∷ xs) ys = ap (λ (r : List ℕ). x ++ r) (text-append xs ys) ∙ sym (append_assoc x (text xs) (text ys))
+text-append (Word x ∷ xs) ys = ap (λ (r : List ℕ). x ++ r) (text-append xs ys)
+    ∙ sym (append_assoc x (text xs) (text ys))
 text-append (Mark m ∷ xs) ys = ap (λ (r : List ℕ). mark_byte m ∷ r) (text-append xs ys)
 
-pub text-two : (w : List ℕ) (xs ys : List Piece) → text (two_pieces w xs ys) ≡ w ++ (codes " " ++ (text xs ++ (codes ", " ++ text ys)))
+pub text-two : (w : List ℕ) (xs ys : List Piece) → text (two_pieces w xs ys) ≡ w ++
+    (codes " " ++ (text xs ++ (codes ", " ++ text ys)))
 text-two w xs ys = ap (λ (r : List ℕ). w ++ (32 ∷ r)) (text-append xs (Mark Comma ∷ Mark Space ∷ ys))
 
 -- and that they are proper
@@ -117,6 +131,14 @@ proper-append (Mark m ∷ xs) ys h f = (h.0, proper-append xs ys h.1 f)
 pub proper-one : (w : List ℕ) (xs : List Piece) → is_word w ≡ true → AreProper xs → AreProper (one_pieces w xs)
 proper-one w xs h p = (h, refl, ((refl, refl), p))
 
-pub proper-two : (w : List ℕ) (xs ys : List Piece) → is_word w ≡ true → AreProper xs → AreProper ys → AreProper (two_pieces w xs ys)
-proper-two w xs ys h p q =
-    (h, refl, ((refl, refl), proper-append xs (Mark Comma ∷ Mark Space ∷ ys) p record { apart = refl; proper = ((refl, refl), ((refl, refl), q)) }))
+pub proper-two : (w : List ℕ) (xs ys : List Piece) → is_word w ≡ true → AreProper xs → AreProper ys →
+    AreProper (two_pieces w xs ys)
+proper-two w xs ys h p q = (
+  h,
+  refl,
+  (
+    (refl, refl),
+    proper-append xs (Mark Comma ∷ Mark Space ∷ ys)
+        p record { apart = refl; proper = ((refl, refl), ((refl, refl), q)) },
+  ),
+)

@@ -60,7 +60,8 @@ text-joint : (after : Bool) (ps : List Piece) → text (joint_pieces after ps) �
 text-joint true ps = refl
 text-joint false ps = refl
 
-text-base : (after : Bool) (b : Option Reg) (ps : List Piece) → text (base_pieces after b ps) ≡ base_part after b (text ps)
+text-base : (after : Bool) (b : Option Reg) (ps : List Piece) →
+    text (base_pieces after b ps) ≡ base_part after b (text ps)
 text-base after None ps = refl
 text-base after (Some r) ps = text-joint after _
 
@@ -68,9 +69,11 @@ text-scale : (by_four : Bool) (ps : List Piece) → text (scale_pieces by_four p
 text-scale true ps = refl
 text-scale false ps = refl
 
-text-index : (after : Bool) (i : Option (Reg × Bool)) (ps : List Piece) → text (index_pieces after i ps) ≡ index_part after i (text ps)
+text-index : (after : Bool) (i : Option (Reg × Bool)) (ps : List Piece) →
+    text (index_pieces after i ps) ≡ index_part after i (text ps)
 text-index after None ps = refl
-text-index after (Some i) ps = text-joint after _ ∙ ap (λ (r : List ℕ). joint after (register i.0 ++ r)) (text-scale i.1 ps)
+text-index after (Some i) ps = text-joint after _ ∙ ap (λ (r : List ℕ). joint after (register i.0 ++ r))
+    (text-scale i.1 ps)
 
 pub text-integer : (z : ℤ) (ps : List Piece) → text (integer_pieces z ps) ≡ integer z (text ps)
 unfolding integer
@@ -96,10 +99,12 @@ text-number : (after : Bool) (z : ℤ) (ps : List Piece) → text (number_pieces
 unfolding integer
 text-number false z ps = text-integer z ps
 text-number true (negsuc n) ps =
-    sym (by_test (is_joined true (negsuc n)) (integer (negsuc n) (text ps)) (cond (int_eq (negsuc n) (pos 0)) (text ps) (codes "+" ++ integer (negsuc n) (text ps))) (negative n))
+    sym (by_test (is_joined true (negsuc n)) (integer (negsuc n) (text ps))
+    (cond (int_eq (negsuc n) (pos 0)) (text ps) (codes "+" ++ integer (negsuc n) (text ps))) (negative n))
 text-number true (pos zero) ps = refl
 text-number true (pos (suc n)) ps =
-    sym (by_tests (is_joined true (pos (suc n))) (int_eq (pos (suc n)) (pos 0)) (integer (pos (suc n)) (text ps)) (text ps) (codes "+" ++ integer (pos (suc n)) (text ps)) (not_negative (suc n)) (not_zero n))
+    sym (by_tests (is_joined true (pos (suc n))) (int_eq (pos (suc n)) (pos 0)) (integer (pos (suc n)) (text ps))
+    (text ps) (codes "+" ++ integer (pos (suc n)) (text ps)) (not_negative (suc n)) (not_zero n))
 
 -- a memory operand's pieces spell it
 pub text-mem : (m : Mem (List ℕ)) (ps : List Piece) → text (mem_pieces m ps) ≡ mem m (text ps)
@@ -107,5 +112,6 @@ text-mem m ps =
     ap (λ (r : List ℕ). codes "[" ++ r) (
     text-symbol m.sym _ ∙ ap (symbol_part m.sym) (
     text-base (is_there m.sym) m.base _ ∙ ap (base_part (is_there m.sym) m.base) (
-    text-index (is_there m.sym || is_there m.base) m.index _ ∙ ap (index_part (is_there m.sym || is_there m.base) m.index) (
+    text-index (is_there m.sym || is_there m.base) m.index _
+    ∙ ap (index_part (is_there m.sym || is_there m.base) m.index) (
     text-number ((is_there m.sym || is_there m.base) || is_there m.index) m.disp _))))

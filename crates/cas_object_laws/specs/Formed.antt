@@ -1,4 +1,5 @@
--- Which lines of functions an objects text can hold: their numbers are in their ranges, and their memory operands have one
+-- Which lines of functions an objects text can hold: their numbers are in their ranges, and their memory operands have
+-- one
 -- spelling.
 use Rattle.std.specs.Prelude.{ℕ, ◌≡◌, ◌<◌, ◌^◌, ℤ, pos, negsuc, Bool, true, false, List, [], Option, Some, None}
 use Rattle.cas_base.specs.Name.{is_name}

@@ -6,7 +6,8 @@ use Rattle.cas_pieces.specs.Numbers.{capped}
 use Rattle.cas_object_line.specs.declared.fault.LineFault.TheVariants.{Range}
 use Rattle.cas_object_line.specs.Numbers.{signed_word, word_from, small_label, label_from, small_count, count_from}
 
-out_of_range : (negative : Bool) (n : ℕ) → nat_le n 2147483648 ≡ false → nat_lt n 2147483648 ≡ false → signed_word negative n ≡ Err Range
+out_of_range : (negative : Bool) (n : ℕ) → nat_le n 2147483648 ≡ false → nat_lt n 2147483648 ≡ false →
+    signed_word negative n ≡ Err Range
 out_of_range true n above at = rw above refl
 out_of_range false n above at = rw at refl
 
@@ -29,7 +30,8 @@ signed_word_capped negative n = by_size (nat_lt n (2 ^ 64)) refl
     by_size true e = ap (signed_word negative) (small e)
     by_size false e =
         ap (signed_word negative) (large e)
-        ∙ (out_of_range negative 18446744073709551615 refl refl ∙ sym (out_of_range negative n (large_above n e) (large_at n e)))
+        ∙ (out_of_range negative 18446744073709551615 refl refl
+        ∙ sym (out_of_range negative n (large_above n e) (large_at n e)))
 
 pub small_label_capped : (n : ℕ) → small_label (capped n) ≡ small_label n
 small_label_capped n = grind (arith, nat_tests)

@@ -36,10 +36,17 @@ is_absent None = true
 is_absent (Some a) = false
 
 -- an address that ends in this number
-abbrev pub ended_by : Option (List ℕ) → Option Reg → Option (Reg × Bool) → (negative : Bool) → Option (List ℕ) → Option Address
+abbrev pub ended_by : Option (List ℕ) → Option Reg → Option (Reg × Bool) → (negative : Bool) → Option (List ℕ) →
+    Option Address
 ended_by symbol base index negative None = None
 ended_by symbol base index negative (Some digits) =
-    Some (record { symbol = symbol; base = base; index = index; number = Some (record { negative = negative; digits = digits }) })
+    Some (record {
+      symbol = symbol;
+      base = base;
+      index = index;
+      number = Some
+          (record { negative = negative; digits = digits });
+    })
 
 -- a number without a sign, at the end; a 0 is alone
 abbrev pub number_part : Option (List ℕ) → Option Reg → Option (Reg × Bool) → List Piece → Option Address
@@ -153,7 +160,8 @@ register_or_word (Some reg) x = operand.Reg reg
 
 abbrev pub plain_word : List ℕ → Operand
 plain_word x =
-    if is_numeral x then operand.Number (record { negative = false; digits = x }) else register_or_word (register_of x) x
+    if is_numeral x then operand.Number (record { negative = false; digits = x }) else register_or_word (register_of x)
+    x
 
 -- an operand of one word
 abbrev pub plain : Piece → Option Operand

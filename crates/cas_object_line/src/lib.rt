@@ -1,5 +1,5 @@
-//! The lines of an objects text: instructions, declarations with their data, and what begins and ends objects and functions.
-//! It stands on `cas_base`, `cas_asm` and `cas_pieces`.
+//! The lines of an objects text: instructions, declarations with their data, and what begins and ends objects and
+//! functions. It stands on `cas_base`, `cas_asm` and `cas_pieces`.
 #![tactic(auto)]
 
 mod code;

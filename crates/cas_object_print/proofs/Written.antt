@@ -8,5 +8,6 @@ IfOk-map (Ok x) P Q f h = f x h
 IfOk-map (Err e) P Q f h = tt
 
 -- an integer that is written is any that it equals
-pub same_integer : (new old rest : List ℕ) (z y : ℤ) → z ≡ y → followed_by new rest ≡ followed_by old (integer z rest) → followed_by new rest ≡ followed_by old (integer y rest)
+pub same_integer : (new old rest : List ℕ) (z y : ℤ) → z ≡ y → followed_by new rest ≡ followed_by old (integer z rest) →
+    followed_by new rest ≡ followed_by old (integer y rest)
 same_integer new old rest z y e h = h ∙ ap (λ (x : ℤ). followed_by old (integer x rest)) e

@@ -12,7 +12,8 @@ use cas_base::{NoMemory, Reg};
 
 /// Writes a line of a function.
 pub fn line(page: &mut Page, line: &Line) -> Result<(), NoMemory>
-    ensures { (rest : List ℕ) → IfOk result (λ _. followed_by page.new rest ≡ followed_by page.old (spec.line line.now rest)) }
+    ensures { (rest : List ℕ)
+        → IfOk result (λ _. followed_by page.new rest ≡ followed_by page.old (spec.line line.now rest)) }
 {
     match line {
         Line::Label(number) => label(page, *number)?,
@@ -23,7 +24,8 @@ pub fn line(page: &mut Page, line: &Line) -> Result<(), NoMemory>
 
 /// Writes an instruction.
 pub fn instr(page: &mut Page, instr: &Instr) -> Result<(), NoMemory>
-    ensures { (rest : List ℕ) → IfOk result (λ _. followed_by page.new rest ≡ followed_by page.old (spec.instr instr.now rest)) }
+    ensures { (rest : List ℕ)
+        → IfOk result (λ _. followed_by page.new rest ≡ followed_by page.old (spec.instr instr.now rest)) }
 {
     match instr {
         Instr::Mov(reg, from) => {
@@ -97,7 +99,8 @@ pub fn instr(page: &mut Page, instr: &Instr) -> Result<(), NoMemory>
 
 // Writes a mnemonic and a register.
 fn of_register(page: &mut Page, mnemonic: &str, reg: Reg) -> Result<(), NoMemory>
-    ensures { (rest : List ℕ) → IfOk result (λ _. followed_by page.new rest ≡ followed_by page.old (spec.of_register mnemonic.now reg rest)) }
+    ensures { (rest : List ℕ)
+        → IfOk result (λ _. followed_by page.new rest ≡ followed_by page.old (spec.of_register mnemonic.now reg rest)) }
 {
     page.text(mnemonic)?;
     page.text(" ")?;
@@ -106,7 +109,9 @@ fn of_register(page: &mut Page, mnemonic: &str, reg: Reg) -> Result<(), NoMemory
 
 // Writes a mnemonic, a register and what is before a second operand.
 fn into_register(page: &mut Page, mnemonic: &str, reg: Reg) -> Result<(), NoMemory>
-    ensures { (rest : List ℕ) → IfOk result (λ _. followed_by page.new rest ≡ followed_by page.old (spec.into_register mnemonic.now reg rest)) }
+    ensures { (rest : List ℕ)
+        → IfOk result (λ _. followed_by page.new rest
+        ≡ followed_by page.old (spec.into_register mnemonic.now reg rest)) }
 {
     of_register(page, mnemonic, reg)?;
     page.text(", ")
@@ -114,7 +119,9 @@ fn into_register(page: &mut Page, mnemonic: &str, reg: Reg) -> Result<(), NoMemo
 
 // Writes a mnemonic and two registers.
 fn two_registers(page: &mut Page, mnemonic: &str, reg: Reg, from: Reg) -> Result<(), NoMemory>
-    ensures { (rest : List ℕ) → IfOk result (λ _. followed_by page.new rest ≡ followed_by page.old (spec.two_registers mnemonic.now reg from rest)) }
+    ensures { (rest : List ℕ)
+        → IfOk result (λ _. followed_by page.new rest
+        ≡ followed_by page.old (spec.two_registers mnemonic.now reg from rest)) }
 {
     into_register(page, mnemonic, reg)?;
     page.text(register(from))
@@ -122,7 +129,9 @@ fn two_registers(page: &mut Page, mnemonic: &str, reg: Reg, from: Reg) -> Result
 
 // Writes a mnemonic, a place in memory and what is before a second operand.
 fn into_memory(page: &mut Page, mnemonic: &str, place: &Mem) -> Result<(), NoMemory>
-    ensures { (rest : List ℕ) → IfOk result (λ _. followed_by page.new rest ≡ followed_by page.old (spec.into_memory mnemonic.now place.now rest)) }
+    ensures { (rest : List ℕ)
+        → IfOk result (λ _. followed_by page.new rest
+        ≡ followed_by page.old (spec.into_memory mnemonic.now place.now rest)) }
 {
     page.text(mnemonic)?;
     page.text(" ")?;
@@ -131,7 +140,8 @@ fn into_memory(page: &mut Page, mnemonic: &str, place: &Mem) -> Result<(), NoMem
 }
 
 fn target(page: &mut Page, target: &Target) -> Result<(), NoMemory>
-    ensures { (rest : List ℕ) → IfOk result (λ _. followed_by page.new rest ≡ followed_by page.old (spec.target target.now rest)) }
+    ensures { (rest : List ℕ)
+        → IfOk result (λ _. followed_by page.new rest ≡ followed_by page.old (spec.target target.now rest)) }
 {
     match target {
         Target::Label(number) => label(page, *number),
@@ -140,7 +150,8 @@ fn target(page: &mut Page, target: &Target) -> Result<(), NoMemory>
 }
 
 fn callee(page: &mut Page, callee: &Callee) -> Result<(), NoMemory>
-    ensures { (rest : List ℕ) → IfOk result (λ _. followed_by page.new rest ≡ followed_by page.old (spec.callee callee.now rest)) }
+    ensures { (rest : List ℕ)
+        → IfOk result (λ _. followed_by page.new rest ≡ followed_by page.old (spec.callee callee.now rest)) }
 {
     match callee {
         Callee::Lock => page.text("lock"),

@@ -1,4 +1,5 @@
-//! The canonical text of objects: one spelling for each object. It stands on `cas_base`, `cas_asm` and `cas_object_text`.
+//! The canonical text of objects: one spelling for each object. It stands on `cas_base`, `cas_asm` and
+//! `cas_object_text`.
 #![tactic(auto)]
 
 mod instr;

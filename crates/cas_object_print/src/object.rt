@@ -12,8 +12,8 @@ use cas_base::{Decl, Global, NoMemory};
 use cas_object_text::Object;
 use std::alloc::Global as Allocator;
 
-/// The canonical text of an object. Its lines are in the order of the module's declarations; a definition takes the values or
-/// the instructions of the next global or function.
+/// The canonical text of an object. Its lines are in the order of the module's declarations; a definition takes the
+/// values or the instructions of the next global or function.
 ///
 /// # Errors
 ///
@@ -28,7 +28,8 @@ pub fn print_object(alloc: Allocator, object: &Object) -> Result<String, NoMemor
 }
 
 fn whole(alloc: Allocator, page: &mut Page, object: &Object) -> Result<(), NoMemory>
-    ensures { (rest : List ℕ) → IfOk result (λ _. followed_by page.new rest ≡ followed_by page.old (spec.object object.now.unit rest)) }
+    ensures { (rest : List ℕ)
+        → IfOk result (λ _. followed_by page.new rest ≡ followed_by page.old (spec.object object.now.unit rest)) }
 {
     let unit = &object.unit;
     page.text("object 1\n")?;
@@ -50,7 +51,9 @@ fn items(
     globals: &[Global],
     funs: &[AsmFun],
 ) -> Result<(), NoMemory>
-    ensures { (rest : List ℕ) → IfOk result (λ _. followed_by page.new rest ≡ followed_by page.old (spec.items decls.now globals.now funs.now rest)) }
+    ensures { (rest : List ℕ)
+        → IfOk result (λ _. followed_by page.new rest
+        ≡ followed_by page.old (spec.items decls.now globals.now funs.now rest)) }
 {
     let mut decls = decls;
     let mut globals = globals;
@@ -116,7 +119,9 @@ fn item(
     globals: &[Global],
     funs: &[AsmFun],
 ) -> Result<(), NoMemory>
-    ensures { (rest : List ℕ) → IfOk result (λ _. followed_by page.new rest ≡ followed_by page.old (spec.item decl.now globals.now funs.now rest)) }
+    ensures { (rest : List ℕ)
+        → IfOk result (λ _. followed_by page.new rest
+        ≡ followed_by page.old (spec.item decl.now globals.now funs.now rest)) }
 {
     if !decl.defined {
         page.text("extern ")?;
@@ -135,7 +140,8 @@ fn item(
 }
 
 fn declared(alloc: Allocator, page: &mut Page, decl: &Decl) -> Result<(), NoMemory>
-    ensures { (rest : List ℕ) → IfOk result (λ _. followed_by page.new rest ≡ followed_by page.old (spec.declared decl.now rest)) }
+    ensures { (rest : List ℕ)
+        → IfOk result (λ _. followed_by page.new rest ≡ followed_by page.old (spec.declared decl.now rest)) }
 {
     let text = decl.print(alloc)?;
     page.text(text.as_str())
@@ -143,7 +149,9 @@ fn declared(alloc: Allocator, page: &mut Page, decl: &Decl) -> Result<(), NoMemo
 
 // Writes the values of a global, each after a space; a lock has none.
 fn values_of(page: &mut Page, decl: &Decl, globals: &[Global]) -> Result<(), NoMemory>
-    ensures { (rest : List ℕ) → IfOk result (λ _. followed_by page.new rest ≡ followed_by page.old (spec.values_of decl.now globals.now rest)) }
+    ensures { (rest : List ℕ)
+        → IfOk result (λ _. followed_by page.new rest
+        ≡ followed_by page.old (spec.values_of decl.now globals.now rest)) }
 {
     match globals.split_first() {
         Some((global, _)) if !decl.form.is_lock() => values(page, global.values.as_slice()),
@@ -152,7 +160,8 @@ fn values_of(page: &mut Page, decl: &Decl, globals: &[Global]) -> Result<(), NoM
 }
 
 fn values(page: &mut Page, values: &[u32]) -> Result<(), NoMemory>
-    ensures { (rest : List ℕ) → IfOk result (λ _. followed_by page.new rest ≡ followed_by page.old (spec.values values.now rest)) }
+    ensures { (rest : List ℕ)
+        → IfOk result (λ _. followed_by page.new rest ≡ followed_by page.old (spec.values values.now rest)) }
 {
     let mut others = values;
     while let Some((next, after)) = others.split_first() {
@@ -165,7 +174,8 @@ fn values(page: &mut Page, values: &[u32]) -> Result<(), NoMemory>
 
 // Writes the lines of a function.
 fn body(page: &mut Page, funs: &[AsmFun]) -> Result<(), NoMemory>
-    ensures { (rest : List ℕ) → IfOk result (λ _. followed_by page.new rest ≡ followed_by page.old (spec.body funs.now rest)) }
+    ensures { (rest : List ℕ)
+        → IfOk result (λ _. followed_by page.new rest ≡ followed_by page.old (spec.body funs.now rest)) }
 {
     match funs.split_first() {
         Some((fun, _)) => lines(page, fun.lines.as_slice()),
@@ -174,7 +184,8 @@ fn body(page: &mut Page, funs: &[AsmFun]) -> Result<(), NoMemory>
 }
 
 fn lines(page: &mut Page, lines: &[Line]) -> Result<(), NoMemory>
-    ensures { (rest : List ℕ) → IfOk result (λ _. followed_by page.new rest ≡ followed_by page.old (spec.lines lines.now rest)) }
+    ensures { (rest : List ℕ)
+        → IfOk result (λ _. followed_by page.new rest ≡ followed_by page.old (spec.lines lines.now rest)) }
 {
     let mut others = lines;
     while let Some((next, after)) = others.split_first() {

@@ -12,7 +12,8 @@ use cas_base::{Name, NoMemory, Reg};
 
 /// Writes a memory operand.
 pub fn mem(page: &mut Page, mem: &Mem) -> Result<(), NoMemory>
-    ensures { (rest : List ℕ) → IfOk result (λ _. followed_by page.new rest ≡ followed_by page.old (spec.mem mem.now rest)) }
+    ensures { (rest : List ℕ)
+        → IfOk result (λ _. followed_by page.new rest ≡ followed_by page.old (spec.mem mem.now rest)) }
 {
     page.text("[")?;
     symbol(page, &mem.sym)?;
@@ -22,7 +23,8 @@ pub fn mem(page: &mut Page, mem: &Mem) -> Result<(), NoMemory>
 
 // Writes the base, the index and the displacement.
 fn base_onwards(page: &mut Page, mem: &Mem) -> Result<(), NoMemory>
-    ensures { (rest : List ℕ) → IfOk result (λ _. followed_by page.new rest ≡ followed_by page.old (spec.base_onwards mem.now rest)) }
+    ensures { (rest : List ℕ)
+        → IfOk result (λ _. followed_by page.new rest ≡ followed_by page.old (spec.base_onwards mem.now rest)) }
 {
     base(page, is_there(&mem.sym), mem.base)?;
     index_onwards(page, mem)
@@ -30,7 +32,8 @@ fn base_onwards(page: &mut Page, mem: &Mem) -> Result<(), NoMemory>
 
 // Writes the index and the displacement.
 fn index_onwards(page: &mut Page, mem: &Mem) -> Result<(), NoMemory>
-    ensures { (rest : List ℕ) → IfOk result (λ _. followed_by page.new rest ≡ followed_by page.old (spec.index_onwards mem.now rest)) }
+    ensures { (rest : List ℕ)
+        → IfOk result (λ _. followed_by page.new rest ≡ followed_by page.old (spec.index_onwards mem.now rest)) }
 {
     index(page, has_base(mem), mem.index)?;
     number(page, has_index(mem), &mem.disp)
@@ -61,7 +64,8 @@ fn is_there<T>(part: &Option<T>) -> bool
 }
 
 fn symbol(page: &mut Page, symbol: &Option<Name>) -> Result<(), NoMemory>
-    ensures { (rest : List ℕ) → IfOk result (λ _. followed_by page.new rest ≡ followed_by page.old (spec.symbol_part symbol.now rest)) }
+    ensures { (rest : List ℕ)
+        → IfOk result (λ _. followed_by page.new rest ≡ followed_by page.old (spec.symbol_part symbol.now rest)) }
 {
     match symbol {
         None => Ok(()),
@@ -71,7 +75,8 @@ fn symbol(page: &mut Page, symbol: &Option<Name>) -> Result<(), NoMemory>
 
 /// Writes a symbol.
 pub fn named(page: &mut Page, name: &Name) -> Result<(), NoMemory>
-    ensures { (rest : List ℕ) → IfOk result (λ _. followed_by page.new rest ≡ followed_by page.old (spec.named name.now rest)) }
+    ensures { (rest : List ℕ)
+        → IfOk result (λ _. followed_by page.new rest ≡ followed_by page.old (spec.named name.now rest)) }
 {
     page.text("@")?;
     page.text(name.as_str())
@@ -79,13 +84,15 @@ pub fn named(page: &mut Page, name: &Name) -> Result<(), NoMemory>
 
 // Writes what is between two parts.
 fn joint(page: &mut Page, after_part: bool) -> Result<(), NoMemory>
-    ensures { (rest : List ℕ) → IfOk result (λ _. followed_by page.new rest ≡ followed_by page.old (spec.joint after_part rest)) }
+    ensures { (rest : List ℕ)
+        → IfOk result (λ _. followed_by page.new rest ≡ followed_by page.old (spec.joint after_part rest)) }
 {
     if after_part { page.text("+") } else { Ok(()) }
 }
 
 fn base(page: &mut Page, after_part: bool, base: Option<Reg>) -> Result<(), NoMemory>
-    ensures { (rest : List ℕ) → IfOk result (λ _. followed_by page.new rest ≡ followed_by page.old (spec.base_part after_part base rest)) }
+    ensures { (rest : List ℕ)
+        → IfOk result (λ _. followed_by page.new rest ≡ followed_by page.old (spec.base_part after_part base rest)) }
 {
     match base {
         None => Ok(()),
@@ -97,7 +104,8 @@ fn base(page: &mut Page, after_part: bool, base: Option<Reg>) -> Result<(), NoMe
 }
 
 fn index(page: &mut Page, after_part: bool, index: Option<(Reg, bool)>) -> Result<(), NoMemory>
-    ensures { (rest : List ℕ) → IfOk result (λ _. followed_by page.new rest ≡ followed_by page.old (spec.index_part after_part index rest)) }
+    ensures { (rest : List ℕ)
+        → IfOk result (λ _. followed_by page.new rest ≡ followed_by page.old (spec.index_part after_part index rest)) }
 {
     match index {
         None => Ok(()),
@@ -116,7 +124,9 @@ fn scale(by_four: bool) -> &'static str
 }
 
 fn number(page: &mut Page, after_part: bool, disp: &i32) -> Result<(), NoMemory>
-    ensures { (rest : List ℕ) → IfOk result (λ _. followed_by page.new rest ≡ followed_by page.old (spec.number_part after_part disp.now rest)) }
+    ensures { (rest : List ℕ)
+        → IfOk result (λ _. followed_by page.new rest
+        ≡ followed_by page.old (spec.number_part after_part disp.now rest)) }
 {
     if is_joined(after_part, disp) {
         page.integer(disp)
@@ -137,7 +147,8 @@ fn is_joined(after_part: bool, disp: &i32) -> bool
 
 /// Writes a word by its signed reading.
 pub fn word(page: &mut Page, word: u32) -> Result<(), NoMemory>
-    ensures { (rest : List ℕ) → IfOk result (λ _. followed_by page.new rest ≡ followed_by page.old (spec.word word rest)) }
+    ensures { (rest : List ℕ)
+        → IfOk result (λ _. followed_by page.new rest ≡ followed_by page.old (spec.word word rest)) }
 {
     let value = signed(word);
     page.integer(&value)
@@ -151,7 +162,8 @@ fn signed(word: u32) -> i32
 
 /// Writes a register or a number.
 pub fn value(page: &mut Page, value: Value) -> Result<(), NoMemory>
-    ensures { (rest : List ℕ) → IfOk result (λ _. followed_by page.new rest ≡ followed_by page.old (spec.value value rest)) }
+    ensures { (rest : List ℕ)
+        → IfOk result (λ _. followed_by page.new rest ≡ followed_by page.old (spec.value value rest)) }
 {
     match value {
         Value::Reg(reg) => page.text(register(reg)),
@@ -161,7 +173,8 @@ pub fn value(page: &mut Page, value: Value) -> Result<(), NoMemory>
 
 /// Writes a register, a number or a memory operand.
 pub fn source(page: &mut Page, source: &Source) -> Result<(), NoMemory>
-    ensures { (rest : List ℕ) → IfOk result (λ _. followed_by page.new rest ≡ followed_by page.old (spec.source source.now rest)) }
+    ensures { (rest : List ℕ)
+        → IfOk result (λ _. followed_by page.new rest ≡ followed_by page.old (spec.source source.now rest)) }
 {
     match source {
         Source::Reg(reg) => page.text(register(*reg)),
@@ -172,7 +185,8 @@ pub fn source(page: &mut Page, source: &Source) -> Result<(), NoMemory>
 
 /// Writes by how much a shift shifts.
 pub fn count(page: &mut Page, count: Count) -> Result<(), NoMemory>
-    ensures { (rest : List ℕ) → IfOk result (λ _. followed_by page.new rest ≡ followed_by page.old (spec.count count rest)) }
+    ensures { (rest : List ℕ)
+        → IfOk result (λ _. followed_by page.new rest ≡ followed_by page.old (spec.count count rest)) }
 {
     match count {
         Count::Fixed(number) => page.number(number),
@@ -182,7 +196,8 @@ pub fn count(page: &mut Page, count: Count) -> Result<(), NoMemory>
 
 /// Writes a label.
 pub fn label(page: &mut Page, label: u32) -> Result<(), NoMemory>
-    ensures { (rest : List ℕ) → IfOk result (λ _. followed_by page.new rest ≡ followed_by page.old (spec.label label rest)) }
+    ensures { (rest : List ℕ)
+        → IfOk result (λ _. followed_by page.new rest ≡ followed_by page.old (spec.label label rest)) }
 {
     page.text(".")?;
     page.number(label)

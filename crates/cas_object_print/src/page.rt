@@ -44,7 +44,8 @@ impl Page {
     /// Writes a text.
     #[tactic(auto, using(crate::proofs::Pages::text_written))]
     pub fn text(&mut self, text: &str) -> Result<(), NoMemory>
-        ensures { (rest : List ℕ) → IfOk result (λ _. followed_by self.new rest ≡ followed_by self.old (text.now ++ rest)) }
+        ensures { (rest : List ℕ)
+            → IfOk result (λ _. followed_by self.new rest ≡ followed_by self.old (text.now ++ rest)) }
     {
         self.put(text)
     }
@@ -52,7 +53,8 @@ impl Page {
     /// Writes a number in decimal.
     #[tactic(auto, using(crate::proofs::Pages::text_written))]
     pub fn number(&mut self, value: u32) -> Result<(), NoMemory>
-        ensures { (rest : List ℕ) → IfOk result (λ _. followed_by self.new rest ≡ followed_by self.old (decimal value ++ rest)) }
+        ensures { (rest : List ℕ)
+            → IfOk result (λ _. followed_by self.new rest ≡ followed_by self.old (decimal value ++ rest)) }
     {
         self.put_number(value)
     }
@@ -60,7 +62,8 @@ impl Page {
     /// Writes an integer in decimal.
     #[tactic(auto, using(crate::proofs::Pages::integer_written))]
     pub fn integer(&mut self, value: &i32) -> Result<(), NoMemory>
-        ensures { (rest : List ℕ) → IfOk result (λ _. followed_by self.new rest ≡ followed_by self.old (integer value.now rest)) }
+        ensures { (rest : List ℕ)
+            → IfOk result (λ _. followed_by self.new rest ≡ followed_by self.old (integer value.now rest)) }
     {
         self.put_integer(value)
     }

@@ -1,5 +1,5 @@
-//! Tests of the lines of objects and of lock texts. They stand in a library of their own, so that no part is proved once more
-//! for them.
+//! Tests of the lines of objects and of lock texts. They stand in a library of their own, so that no part is proved
+//! once more for them.
 #![tactic(auto)]
 
 #[cfg(test)]

@@ -50,8 +50,17 @@ pub lines-cut : (text : List ℕ) → lines text ≡ front text ∷ later (rest 
 lines-cut [] = lines-nil
 lines-cut (b ∷ bs) = by_first (is_inner b) refl (lines-cut bs)
   where
-    by_first : (t : Bool) → is_inner b ≡ t → lines bs ≡ front bs ∷ later (rest bs) → lines (b ∷ bs) ≡ front (b ∷ bs) ∷ later (rest (b ∷ bs))
-    by_first true e more = rw (lines-inner b bs e, more, into_line-line b (front bs) (later (rest bs)), front-inner b bs e, rest-inner b bs e) refl
+    by_first : (t : Bool) → is_inner b ≡ t → lines bs ≡ front bs ∷ later (rest bs) →
+        lines (b ∷ bs) ≡ front (b ∷ bs) ∷ later (rest (b ∷ bs))
+    by_first true e more =
+        rw (
+          lines-inner b bs e,
+          more,
+          into_line-line b (front bs) (later (rest bs)),
+          front-inner b bs e,
+          rest-inner b bs
+              e,
+        ) refl
     by_first false e more = rw (lines-feed b bs e, front-feed b bs e, rest-feed b bs e) refl
 
 first_same : (b c : ℕ) (bs cs : List ℕ) → ◌≡◌ {A = List ℕ} (b ∷ bs) (c ∷ cs) → b ≡ c
@@ -72,13 +81,16 @@ rest-feeds (b ∷ bs) c cs is = by_first (is_inner b) refl (rest-feeds bs c cs)
         let same : b ≡ c = first_same b c bs cs (sym (rest-feed b bs e) ∙ is) in
         sym same ∙ feed_at b (eqb b 10) refl e
 
-pub lines-more : (text line after : List ℕ) (c : ℕ) (cs : List ℕ) → line ≡ front text → after ≡ rest text → after ≡ c ∷ cs → lines text ≡ line ∷ lines cs
-lines-more text line after c cs is rests some = rw is (lines-cut text ∙ ap (λ (r : List ℕ). front text ∷ later r) (sym rests ∙ some))
+pub lines-more : (text line after : List ℕ) (c : ℕ) (cs : List ℕ) → line ≡ front text → after ≡ rest text →
+    after ≡ c ∷ cs → lines text ≡ line ∷ lines cs
+lines-more text line after c cs is rests some =
+    rw is (lines-cut text ∙ ap (λ (r : List ℕ). front text ∷ later r) (sym rests ∙ some))
 
 joined : (text line after : List ℕ) → line ≡ front text → after ≡ rest text → text ≡ line ++ after
 joined text line after is rests = rw (is, rests) (sym (take-append-drop (prefix_len is_inner text) text))
 
-pub joined-more : (text line after : List ℕ) (c : ℕ) (cs : List ℕ) → line ≡ front text → after ≡ rest text → after ≡ c ∷ cs → text ≡ line ++ 10 ∷ cs
+pub joined-more : (text line after : List ℕ) (c : ℕ) (cs : List ℕ) → line ≡ front text → after ≡ rest text →
+    after ≡ c ∷ cs → text ≡ line ++ 10 ∷ cs
 joined-more text line after c cs is rests some =
     joined text line after is rests
     ∙ ap (λ (r : List ℕ). line ++ r) (some ∙ ap (λ (b : ℕ). b ∷ cs) (rest-feeds text c cs (sym rests ∙ some)))
@@ -87,8 +99,11 @@ is_nil : (xs : List ℕ) → length xs ≡ 0 → xs ≡ []
 is_nil [] h = refl
 is_nil (x ∷ xs) h = absurd (omega arith)
 
-pub lines-last : (text line after : List ℕ) → line ≡ front text → after ≡ rest text → length after ≡ 0 → lines text ≡ text ∷ []
+pub lines-last : (text line after : List ℕ) → line ≡ front text → after ≡ rest text → length after ≡ 0 →
+    lines text ≡ text ∷ []
 lines-last text line after is rests none =
     let empty : after ≡ [] = is_nil after none in
-    let whole : text ≡ line = joined text line after is rests ∙ (ap (λ (r : List ℕ). line ++ r) empty ∙ append-nil line) in
-    lines-cut text ∙ (ap (λ (r : List ℕ). front text ∷ later r) (sym rests ∙ empty) ∙ ap (λ (l : List ℕ). l ∷ []) (sym is ∙ sym whole))
+    let whole : text ≡ line = joined text line after is rests
+    ∙ (ap (λ (r : List ℕ). line ++ r) empty ∙ append-nil line) in
+    lines-cut text ∙ (ap (λ (r : List ℕ). front text ∷ later r) (sym rests ∙ empty)
+    ∙ ap (λ (l : List ℕ). l ∷ []) (sym is ∙ sym whole))

@@ -18,15 +18,23 @@ alone_zero c [] z n = rw z refl
 alone_zero c (k ∷ cs) z n = absurd (omega arith)
 
 -- the digits of a numeral
-digits_of_numeral : (ds : List ℕ) → is_numeral ds ≡ true → (list_all is_ascii_digit ds ≡ true) × (0 < length ds) × (get_or ds 0 0 ≡ 48 → length ds ≡ 1)
+digits_of_numeral : (ds : List ℕ) → is_numeral ds ≡ true → (list_all is_ascii_digit ds ≡ true) × (0 < length ds)
+    × (get_or ds 0 0 ≡ 48 → length ds ≡ 1)
 digits_of_numeral [] e = absurd cc
 digits_of_numeral (d ∷ ds) e = by_zero (eqb d 48) refl e
   where
-    by_zero : (t : Bool) → eqb d 48 ≡ t → cond t (eqb (length ds) 0) (list_all is_ascii_digit (d ∷ ds)) ≡ true → (list_all is_ascii_digit (d ∷ ds) ≡ true) × (0 < length (d ∷ ds)) × (d ≡ 48 → length (d ∷ ds) ≡ 1)
-    by_zero true leading alone = (alone_zero d ds (eqb-true d 48 leading) (eqb-true _ _ alone), omega arith, λ _. omega (arith, eqb-true _ _ alone))
+    by_zero : (t : Bool) → eqb d 48 ≡ t → cond t (eqb (length ds) 0) (list_all is_ascii_digit (d ∷ ds)) ≡ true →
+        (list_all is_ascii_digit (d ∷ ds) ≡ true) × (0 < length (d ∷ ds)) × (d ≡ 48 → length (d ∷ ds) ≡ 1)
+    by_zero true leading alone = (
+      alone_zero d ds (eqb-true d 48 leading) (eqb-true _ _ alone),
+      omega arith,
+      λ _. omega
+          (arith, eqb-true _ _ alone),
+    )
     by_zero false other all = (all, omega arith, λ z. absurd (eqb-false d 48 other z))
 
-numeral_of_digits : (ds : List ℕ) → list_all is_ascii_digit ds ≡ true → 0 < length ds → (get_or ds 0 0 ≡ 48 → length ds ≡ 1) → is_numeral ds ≡ true
+numeral_of_digits : (ds : List ℕ) → list_all is_ascii_digit ds ≡ true → 0 < length ds →
+    (get_or ds 0 0 ≡ 48 → length ds ≡ 1) → is_numeral ds ≡ true
 numeral_of_digits [] all some leading = absurd (omega arith)
 numeral_of_digits (d ∷ ds) all some leading = by_zero (eqb d 48) refl
   where
@@ -40,7 +48,8 @@ number-numeral ds e = rw e refl
 -- a decimal number is a numeral of its value
 pub number-decimal : (n : ℕ) → n < 2 ^ 64 → number (decimal n) ≡ Some n
 number-decimal n small =
-    number-numeral (decimal n) (numeral_of_digits (decimal n) (digits_decimal own n small) (decimal_nonempty n small) (leading n small (compare_zero n)))
+    number-numeral (decimal n) (numeral_of_digits (decimal n) (digits_decimal own n small) (decimal_nonempty n small)
+    (leading n small (compare_zero n)))
     ∙ ap Some (digits_value-decimal own n small)
   where
     compare_zero : (m : ℕ) → (m ≡ 0) ⊎ (0 < m)
@@ -58,7 +67,8 @@ some-injective m n e = cc
 pub decimal-number : (n : ℕ) (digits : List ℕ) → n < 2 ^ 64 → number digits ≡ Some n → digits ≡ decimal n
 decimal-number n digits small e = by_shape (is_numeral digits) refl e
   where
-    by_shape : (t : Bool) → is_numeral digits ≡ t → cond t (Some (digits_value 10 digits)) None ≡ Some n → digits ≡ decimal n
+    by_shape : (t : Bool) → is_numeral digits ≡ t → cond t (Some (digits_value 10 digits)) None ≡ Some n →
+        digits ≡ decimal n
     by_shape true shaped is =
         let value : digits_value 10 digits ≡ n = some-injective _ _ is in
         let parts = digits_of_numeral digits shaped in
@@ -66,10 +76,13 @@ decimal-number n digits small e = by_shape (is_numeral digits) refl e
     by_shape false shaped is = absurd cc
 
 -- where a numeral isn't read as 64 bits, it is above them
-pub capped-overflow : {E : Type 0} (ds : List ℕ) (r : Result ℕ E) (fault : E) → ParsesUnsigned 64 10 ds r → r ≡ Err fault → is_numeral ds ≡ true → option_map capped (number ds) ≡ Some 18446744073709551615
-capped-overflow ds r fault parses failed shaped = rw (number-numeral ds shaped) (by_size (nat_lt (digits_value 10 ds) (2 ^ 64)) refl)
+pub capped-overflow : {E : Type 0} (ds : List ℕ) (r : Result ℕ E) (fault : E) → ParsesUnsigned 64 10 ds r →
+    r ≡ Err fault → is_numeral ds ≡ true → option_map capped (number ds) ≡ Some 18446744073709551615
+capped-overflow ds r fault parses failed shaped = rw (number-numeral ds shaped)
+    (by_size (nat_lt (digits_value 10 ds) (2 ^ 64)) refl)
   where
-    by_size : (t : Bool) → nat_lt (digits_value 10 ds) (2 ^ 64) ≡ t → Some (cond t (digits_value 10 ds) 18446744073709551615) ≡ Some 18446744073709551615
+    by_size : (t : Bool) → nat_lt (digits_value 10 ds) (2 ^ 64) ≡ t →
+        Some (cond t (digits_value 10 ds) 18446744073709551615) ≡ Some 18446744073709551615
     by_size true small =
         let parts = digits_of_numeral ds shaped in
         let given : r ≡ Ok (digits_value 10 ds) = parse_gives own 64 ds r parses parts.0 parts.1 (ltb-true _ _ small) in
@@ -77,7 +90,8 @@ capped-overflow ds r fault parses failed shaped = rw (number-numeral ds shaped) 
     by_size false large = refl
 
 -- digits that aren't read as 64 bits have another value than any number of them
-pub digits-overflow : {E : Type 0} (ds : List ℕ) (r : Result ℕ E) (fault : E) (n : ℕ) → ParsesUnsigned 64 10 ds r → r ≡ Err fault → list_all is_ascii_digit ds ≡ true → 0 < length ds → n < 2 ^ 64 → eqb (digits_value 10 ds) n ≡ false
+pub digits-overflow : {E : Type 0} (ds : List ℕ) (r : Result ℕ E) (fault : E) (n : ℕ) → ParsesUnsigned 64 10 ds r →
+    r ≡ Err fault → list_all is_ascii_digit ds ≡ true → 0 < length ds → n < 2 ^ 64 → eqb (digits_value 10 ds) n ≡ false
 digits-overflow ds r fault n parses failed all some small = by_value (eqb (digits_value 10 ds) n) refl
   where
     by_value : (t : Bool) → eqb (digits_value 10 ds) n ≡ t → t ≡ false

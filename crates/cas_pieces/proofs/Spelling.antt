@@ -29,7 +29,8 @@ unfolding pieces
 text-pieces [] = refl
 text-pieces (b ∷ bs) = step (is_name_byte b) (text-pieces bs)
   where
-    step : (t : Bool) → text (pieces bs) ≡ bs → text (cond t (into_word b (pieces bs)) (Single (mark_of b) ∷ pieces bs)) ≡ b ∷ bs
+    step : (t : Bool) → text (pieces bs) ≡ bs → text (cond t (into_word b (pieces bs)) (Single (mark_of b) ∷ pieces bs))
+        ≡ b ∷ bs
     step true e = text-into_word b (pieces bs) ∙ ap (λ (x : List ℕ). b ∷ x) e
     step false e = ap (λ (x : List ℕ). mark_byte (mark_of b) ∷ x) e ∙ ap (λ (x : ℕ). x ∷ bs) (mark_byte-mark_of b)
 
@@ -46,7 +47,8 @@ unfolding pieces
 AreProper-pieces [] = tt
 AreProper-pieces (b ∷ bs) = step (is_name_byte b) refl (AreProper-pieces bs)
   where
-    step : (t : Bool) → is_name_byte b ≡ t → AreProper (pieces bs) → AreProper (cond t (into_word b (pieces bs)) (Single (mark_of b) ∷ pieces bs))
+    step : (t : Bool) → is_name_byte b ≡ t → AreProper (pieces bs) →
+        AreProper (cond t (into_word b (pieces bs)) (Single (mark_of b) ∷ pieces bs))
     step true e h = AreProper-into_word b (pieces bs) e h
     step false e h = ((mark_of-again b, ap is_name_byte (mark_byte-mark_of b) ∙ e), h)
 
@@ -78,7 +80,8 @@ unfolding into_word
 into_word-word b x ps = refl
 
 -- a word before what no word begins
-pieces-word : (b : ℕ) (x rest : List ℕ) → list_all is_name_byte (b ∷ x) ≡ true → begins_with_word (pieces rest) ≡ false → pieces ((b ∷ x) ++ rest) ≡ Word (b ∷ x) ∷ pieces rest
+pieces-word : (b : ℕ) (x rest : List ℕ) → list_all is_name_byte (b ∷ x) ≡ true →
+    begins_with_word (pieces rest) ≡ false → pieces ((b ∷ x) ++ rest) ≡ Word (b ∷ x) ∷ pieces rest
 pieces-word b [] rest all e = pieces-word_byte b rest (and-first _ _ all) ∙ into_word-alone b (pieces rest) e
 pieces-word b (c ∷ cs) rest all e =
     pieces-word_byte b ((c ∷ cs) ++ rest) (and-first _ _ all)
@@ -96,48 +99,64 @@ pieces-text (Word (b ∷ x) ∷ ps) h =
     pieces-word b x (text ps) h.0 (ap begins_with_word e ∙ h.1) ∙ ap (λ (r : List Piece). Word (b ∷ x) ∷ r) e
 pieces-text (Single m ∷ ps) h =
     pieces-mark (mark_byte m) (text ps) h.0.1
-    ∙ (ap (λ (n : Mark). Single n ∷ pieces (text ps)) h.0.0 ∙ ap (λ (r : List Piece). Single m ∷ r) (pieces-text ps h.1))
+    ∙ (ap (λ (n : Mark). Single n ∷ pieces (text ps)) h.0.0
+    ∙ ap (λ (r : List Piece). Single m ∷ r) (pieces-text ps h.1))
 
 -- what follows the longest word, from its second byte on
-drop-longest : (b : ℕ) (bs : List ℕ) → is_name_byte b ≡ true → drop (prefix_len is_name_byte (b ∷ bs)) (b ∷ bs) ≡ drop (prefix_len is_name_byte bs) bs
+drop-longest : (b : ℕ) (bs : List ℕ) → is_name_byte b ≡ true →
+    drop (prefix_len is_name_byte (b ∷ bs)) (b ∷ bs) ≡ drop (prefix_len is_name_byte bs) bs
 drop-longest b bs e = rw e (ap (λ (k : ℕ). drop k (b ∷ bs)) one_more)
   where
     one_more : 1 + prefix_len is_name_byte bs ≡ suc (prefix_len is_name_byte bs)
     one_more = omega arith
 
-take_while-longest : (b : ℕ) (bs : List ℕ) → is_name_byte b ≡ true → take_while is_name_byte (b ∷ bs) ≡ b ∷ take_while is_name_byte bs
-take_while-longest b bs e = take_while-cons is_name_byte b bs ∙ ap (λ (t : Bool). cond t (b ∷ take_while is_name_byte bs) []) e
+take_while-longest : (b : ℕ) (bs : List ℕ) → is_name_byte b ≡ true →
+    take_while is_name_byte (b ∷ bs) ≡ b ∷ take_while is_name_byte bs
+take_while-longest b bs e = take_while-cons is_name_byte b bs
+    ∙ ap (λ (t : Bool). cond t (b ∷ take_while is_name_byte bs) []) e
 
 take_while-none : (b : ℕ) (bs : List ℕ) → is_name_byte b ≡ false → take_while is_name_byte (b ∷ bs) ≡ []
-take_while-none b bs e = take_while-cons is_name_byte b bs ∙ ap (λ (t : Bool). cond t (b ∷ take_while is_name_byte bs) []) e
+take_while-none b bs e = take_while-cons is_name_byte b bs
+    ∙ ap (λ (t : Bool). cond t (b ∷ take_while is_name_byte bs) []) e
 
 drop-none : (b : ℕ) (bs : List ℕ) → is_name_byte b ≡ false → drop (prefix_len is_name_byte (b ∷ bs)) (b ∷ bs) ≡ b ∷ bs
 drop-none b bs e = rw e refl
 
 -- a text that begins with a byte of a word begins with the longest word
-word_and_rest : {x y : List ℕ} {rest others : List ℕ} → x ≡ y → rest ≡ others → ◌≡◌ {A = List Piece} (Word x ∷ pieces rest) (Word y ∷ pieces others)
+word_and_rest : {x y : List ℕ} {rest others : List ℕ} → x ≡ y → rest ≡ others →
+    ◌≡◌ {A = List Piece} (Word x ∷ pieces rest) (Word y ∷ pieces others)
 word_and_rest e f = cc
 
-pub pieces-longest : (b : ℕ) (bs : List ℕ) → is_name_byte b ≡ true → pieces (b ∷ bs) ≡ Word (take_while is_name_byte (b ∷ bs)) ∷ pieces (drop (prefix_len is_name_byte (b ∷ bs)) (b ∷ bs))
+pub pieces-longest : (b : ℕ) (bs : List ℕ) → is_name_byte b ≡ true →
+    pieces (b ∷ bs) ≡ Word (take_while is_name_byte (b ∷ bs)) ∷ pieces
+    (drop (prefix_len is_name_byte (b ∷ bs)) (b ∷ bs))
 pieces-longest b [] e =
-    pieces-word_byte b [] e ∙ (ap (into_word b) pieces-nil ∙ (into_word-alone b [] refl ∙ (ap (λ (r : List Piece). Word (b ∷ []) ∷ r) (sym pieces-nil)
+    pieces-word_byte b [] e
+    ∙ (ap (into_word b) pieces-nil
+    ∙ (into_word-alone b [] refl ∙ (ap (λ (r : List Piece). Word (b ∷ []) ∷ r) (sym pieces-nil)
     ∙ word_and_rest (sym (take_while-longest b [] e)) (sym (drop-longest b [] e)))))
 pieces-longest b (c ∷ cs) e =
     pieces-word_byte b (c ∷ cs) e ∙ (by_first (is_name_byte c) refl (pieces-longest c cs)
     ∙ word_and_rest (sym (take_while-longest b (c ∷ cs) e)) (sym (drop-longest b (c ∷ cs) e)))
   where
-    by_first : (t : Bool) → is_name_byte c ≡ t → (is_name_byte c ≡ true → pieces (c ∷ cs) ≡ Word (take_while is_name_byte (c ∷ cs)) ∷ pieces (drop (prefix_len is_name_byte (c ∷ cs)) (c ∷ cs))) → into_word b (pieces (c ∷ cs)) ≡ Word (b ∷ take_while is_name_byte (c ∷ cs)) ∷ pieces (drop (prefix_len is_name_byte (c ∷ cs)) (c ∷ cs))
+    by_first : (t : Bool) → is_name_byte c ≡ t →
+        (is_name_byte c ≡ true → pieces (c ∷ cs) ≡ Word (take_while is_name_byte (c ∷ cs)) ∷ pieces
+        (drop (prefix_len is_name_byte (c ∷ cs)) (c ∷ cs))) →
+        into_word b (pieces (c ∷ cs)) ≡ Word (b ∷ take_while is_name_byte (c ∷ cs)) ∷ pieces
+        (drop (prefix_len is_name_byte (c ∷ cs)) (c ∷ cs))
     by_first true ec longest = ap (into_word b) (longest ec) ∙ into_word-word b _ _
     by_first false ec longest =
         into_word-alone b (pieces (c ∷ cs)) (ap begins_with_word (pieces-mark c cs ec))
         ∙ word_and_rest (ap (λ (x : List ℕ). b ∷ x) (sym (take_while-none c cs ec))) (sym (drop-none c cs ec))
 
 -- the same, of a text that is known to begin with it
-pub pieces-word_front : (text : List ℕ) (b : ℕ) (bs : List ℕ) → text ≡ b ∷ bs → is_name_byte b ≡ true → pieces text ≡ Word (take_while is_name_byte text) ∷ pieces (drop (prefix_len is_name_byte text) text)
+pub pieces-word_front : (text : List ℕ) (b : ℕ) (bs : List ℕ) → text ≡ b ∷ bs → is_name_byte b ≡ true →
+    pieces text ≡ Word (take_while is_name_byte text) ∷ pieces (drop (prefix_len is_name_byte text) text)
 pieces-word_front text b bs is e = rw is (pieces-longest b bs e)
 
 -- a mark
-pub pieces-mark_front : (text : List ℕ) (b : ℕ) (bs : List ℕ) → text ≡ b ∷ bs → is_name_byte b ≡ false → pieces text ≡ Single (mark_of b) ∷ pieces bs
+pub pieces-mark_front : (text : List ℕ) (b : ℕ) (bs : List ℕ) → text ≡ b ∷ bs → is_name_byte b ≡ false →
+    pieces text ≡ Single (mark_of b) ∷ pieces bs
 pieces-mark_front text b bs is e = rw is (pieces-mark b bs e)
 
 -- the empty text

@@ -18,7 +18,8 @@ pub bytes_eq-same : (a b : List ℕ) → bytes_eq a b ≡ true → b ≡ a
 bytes_eq-same a b h = sym ((bytes_eq-Decides a b).0 h)
 
 -- a text that is no row is found nowhere
-pub find-no_row : {A : Type 0} (spelling : A → List ℕ) (cs : List A) (x : List ℕ) → ((k : ℕ) → IsRow (map spelling cs) k x → ⊥) → find (λ c. bytes_eq (spelling c) x) cs ≡ None
+pub find-no_row : {A : Type 0} (spelling : A → List ℕ) (cs : List A) (x : List ℕ) →
+    ((k : ℕ) → IsRow (map spelling cs) k x → ⊥) → find (λ c. bytes_eq (spelling c) x) cs ≡ None
 find-no_row s [] x none = refl
 find-no_row s (c ∷ cs) x none =
     rw (bytes_eq-false (s c) x (λ same. none 0 (ap Some (sym same)))) (find-no_row s cs x (λ k is. none (suc k) is))
@@ -30,7 +31,9 @@ distinct-tail row rows distinct i j text at_i at_j = suc-same i j (distinct (suc
     suc-same m n e = omega arith
 
 -- a row is found as what stands beside it
-pub find-row : {A : Type 0} (spelling : A → List ℕ) (cs : List A) (k : ℕ) (c : A) (x : List ℕ) → IsDistinct (map spelling cs) → slice_get cs k ≡ Some c → IsRow (map spelling cs) k x → find (λ c. bytes_eq (spelling c) x) cs ≡ Some c
+pub find-row : {A : Type 0} (spelling : A → List ℕ) (cs : List A) (k : ℕ) (c : A) (x : List ℕ) →
+    IsDistinct (map spelling cs) → slice_get cs k ≡ Some c → IsRow (map spelling cs) k x →
+    find (λ c. bytes_eq (spelling c) x) cs ≡ Some c
 find-row s [] k c x distinct at row = absurd cc
 find-row s (d ∷ ds) zero c x distinct at row =
     let same : d ≡ c = cc in
@@ -47,16 +50,19 @@ some-same : {A : Type 0} (a b : A) → Some a ≡ Some b → a ≡ b
 some-same a b e = cc
 
 -- what is found has the text as its name
-pub find-spelt : {A : Type 0} (spelling : A → List ℕ) (cs : List A) (x : List ℕ) (c : A) → find (λ c. bytes_eq (spelling c) x) cs ≡ Some c → x ≡ spelling c
+pub find-spelt : {A : Type 0} (spelling : A → List ℕ) (cs : List A) (x : List ℕ) (c : A) →
+    find (λ c. bytes_eq (spelling c) x) cs ≡ Some c → x ≡ spelling c
 find-spelt s [] x c h = absurd cc
 find-spelt s (d ∷ ds) x c h = step (bytes_eq (s d) x) refl h (find-spelt s ds x c)
   where
-    step : (t : Bool) → bytes_eq (s d) x ≡ t → cond t (Some d) (find (λ c. bytes_eq (s c) x) ds) ≡ Some c → (find (λ c. bytes_eq (s c) x) ds ≡ Some c → x ≡ s c) → x ≡ s c
+    step : (t : Bool) → bytes_eq (s d) x ≡ t → cond t (Some d) (find (λ c. bytes_eq (s c) x) ds) ≡ Some c →
+        (find (λ c. bytes_eq (s c) x) ds ≡ Some c → x ≡ s c) → x ≡ s c
     step true e is rest = bytes_eq-same (s d) x e ∙ ap s (some-same d c is)
     step false e is rest = rest is
 
 -- the row of what stands at it
-pub row_of-case : {A : Type 0} (spelling : A → List ℕ) (cs : List A) (k : ℕ) (c : A) (x : List ℕ) → slice_get cs k ≡ Some c → IsRow (map spelling cs) k x → x ≡ spelling c
+pub row_of-case : {A : Type 0} (spelling : A → List ℕ) (cs : List A) (k : ℕ) (c : A) (x : List ℕ) →
+    slice_get cs k ≡ Some c → IsRow (map spelling cs) k x → x ≡ spelling c
 row_of-case s [] k c x at row = absurd cc
 row_of-case s (d ∷ ds) zero c x at row =
     let same : d ≡ c = cc in

@@ -13,7 +13,8 @@ list_all-take_while : (p : ℕ → Bool) (xs : List ℕ) → list_all p (take_wh
 list_all-take_while p [] = refl
 list_all-take_while p (x ∷ xs) = rw (take_while-cons p x xs) (step (p x) refl (list_all-take_while p xs))
   where
-    step : (b : Bool) → p x ≡ b → list_all p (take_while p xs) ≡ true → list_all p (cond b (x ∷ take_while p xs) []) ≡ true
+    step : (b : Bool) → p x ≡ b → list_all p (take_while p xs) ≡ true →
+        list_all p (cond b (x ∷ take_while p xs) []) ≡ true
     step true passes rest = rw (passes, rest) refl
     step false fails rest = refl
 
@@ -24,7 +25,8 @@ word_ascii : (bs : List ℕ) → list_all is_name_byte bs ≡ true → IsAscii b
 word_ascii [] h = IsAscii-nil
 word_ascii (b ∷ bs) h = both (is_name_byte b) refl h (word_ascii bs)
   where
-    both : (t : Bool) → is_name_byte b ≡ t → (t && list_all is_name_byte bs) ≡ true → (list_all is_name_byte bs ≡ true → IsAscii bs) → IsAscii (b ∷ bs)
+    both : (t : Bool) → is_name_byte b ≡ t → (t && list_all is_name_byte bs) ≡ true →
+        (list_all is_name_byte bs ≡ true → IsAscii bs) → IsAscii (b ∷ bs)
     both true passes rest all = IsAscii-cons b bs (name_byte_ascii b passes) (all rest)
     both false fails rest all = cc
 
@@ -37,5 +39,6 @@ pub is_word-longest : (b : ℕ) (bs : List ℕ) → is_name_byte b ≡ true → 
 is_word-longest b bs e = rw (take_while-cons is_name_byte b bs, e, e) (list_all-take_while is_name_byte bs)
 
 -- the same, of a text that is known to begin with it
-pub word_front : (text : List ℕ) (b : ℕ) (bs : List ℕ) → text ≡ b ∷ bs → is_name_byte b ≡ true → is_word (take_while is_name_byte text) ≡ true
+pub word_front : (text : List ℕ) (b : ℕ) (bs : List ℕ) → text ≡ b ∷ bs → is_name_byte b ≡ true →
+    is_word (take_while is_name_byte text) ≡ true
 word_front text b bs is e = rw is (is_word-longest b bs e)

@@ -4,10 +4,11 @@ ghost use Rattle.std.specs.Prelude.{◌≡◌, ◌≤◌, ◌<◌, ◌++◌, ◌
 ghost use Rattle.std.specs.List.{prefix_len};
 ghost use Rattle.cas_pieces.specs.Lines as spec;
 
-/// The first line of a text without its line feed, and what follows that. None where the text has no line feed, and so is one
-/// line.
+/// The first line of a text without its line feed, and what follows that. None where the text has no line feed, and so
+/// is one line.
 pub fn cut_line(text: &[u8]) -> Option<(&[u8], &[u8])>
-    ensures lines { MatchOption result (spec.lines text.now ≡ text.now ∷ []) (λ p. spec.lines text.now ≡ p.0.now ∷ spec.lines p.1.now) }
+    ensures lines { MatchOption result (spec.lines text.now ≡ text.now ∷ []) (λ p. spec.lines text.now
+        ≡ p.0.now ∷ spec.lines p.1.now) }
     ensures joined { IfSome result (λ p. text.now ≡ p.0.now ++ 10 ∷ p.1.now) }
     ensures shorter { IfSome result (λ p. length p.1.now < length text.now) }
 {

@@ -1,5 +1,6 @@
-//! The pieces of a line of an objects text or of a lock text: words of letters, digits and `_`, and each other byte as a mark.
-//! A text is what its pieces spell, so that what reads a line and what prints it speak of the same pieces. It stands on
+//! The pieces of a line of an objects text or of a lock text: words of letters, digits and `_`, and each other byte as
+//! a mark. A text is what its pieces spell, so that what reads a line and what prints it speak of the same pieces. It
+//! stands on
 //! `cas_base`.
 #![tactic(auto)]
 

@@ -9,17 +9,21 @@ use Rattle.cas_lock.specs.Read.{fault_from, body_fault, lock_fault}
 use Rattle.cas_lock.proofs.read.read_lock.Goals as goal
 
 -- the fault of a text is that of its last line, after what is read before it
-at_last : (bytes text : List ℕ) (labels : List Label) (steps : List Step) (n : ℕ) → lines text ≡ text ∷ [] → fault_from (lines text) labels steps n ≡ fault_from (lines bytes) [] [] 1 → lock_fault bytes ≡ fault_from (text ∷ []) labels steps n
+at_last : (bytes text : List ℕ) (labels : List Label) (steps : List Step) (n : ℕ) → lines text ≡ text ∷ [] →
+    fault_from (lines text) labels steps n ≡ fault_from (lines bytes) [] [] 1 →
+    lock_fault bytes ≡ fault_from (text ∷ []) labels steps n
 at_last bytes text labels steps n one inv = sym inv ∙ ap (λ (ls : List (List ℕ)). fault_from ls labels steps n) one
 
-refused : (whole last : Option LockFault) (fault : LockFault) → whole ≡ last → (fault ≡ Memory) ⊎ (last ≡ Some fault) → (fault ≡ Memory) ⊎ (whole ≡ Some fault)
+refused : (whole last : Option LockFault) (fault : LockFault) → whole ≡ last → (fault ≡ Memory) ⊎ (last ≡ Some fault) →
+    (fault ≡ Memory) ⊎ (whole ≡ Some fault)
 refused whole last fault e (inl m) = inl m
 refused whole last fault e (inr f) = inr (e ∙ f)
 
 pub returns-in-Err : goal.returns-in-Err
 returns-in-Err c =
     let one : lines c.loop-front.text.now ≡ c.loop-front.text.now ∷ [] = search rules in
-    refused _ _ _ (at_last c.args.bytes.now c.loop-front.text.now _ _ _ one c.loop-front.invariant.fault) (c.in-Err.ensures.read [])
+    refused _ _ _ (at_last c.args.bytes.now c.loop-front.text.now _ _ _ one c.loop-front.invariant.fault)
+    (c.in-Err.ensures.read [])
 
 pub returns-in-None : goal.returns-in-None
 returns-in-None c =

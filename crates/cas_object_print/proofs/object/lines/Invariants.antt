@@ -5,7 +5,8 @@ use Rattle.cas_object_print.proofs.object.lines.Given as goal
 
 abbrev pub invariant-loop-next : goal.invariant-loop-next
 invariant-loop-next l =
-    (rest : List ℕ) → followed_by l.page (lines l.others rest) ≡ followed_by l.initial.page (lines l.initial.others rest)
+    (rest : List ℕ) → followed_by l.page (lines l.others rest) ≡ followed_by l.initial.page
+    (lines l.initial.others rest)
 
 abbrev pub decreases-loop-next : goal.decreases-loop-next
 decreases-loop-next l = length l.others

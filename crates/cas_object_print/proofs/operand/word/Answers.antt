@@ -11,6 +11,7 @@ use Rattle.cas_object_print.proofs.operand.word.Goals as goal
 pub returns : goal.returns
 returns c =
     let passed : to_z w32 (of_z w32 c.signed-value.result) ≡ signed c.args.word =
-    ap (λ (x : ℤ). to_z w32 (of_z w32 x)) c.signed-value.ensures ∙ to_z-of_z w32 (signed c.args.word) (signed_fits c.args.word c.ranges.word.fits)
+    ap (λ (x : ℤ). to_z w32 (of_z w32 x)) c.signed-value.ensures
+    ∙ to_z-of_z w32 (signed c.args.word) (signed_fits c.args.word c.ranges.word.fits)
     in
     λ rest. IfOk-map c.integer.result _ _ (λ _ h. same_integer _ _ rest _ _ passed h) (c.integer.ensures rest)
