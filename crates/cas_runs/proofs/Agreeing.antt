@@ -1,14 +1,14 @@
 -- Two ways to name what crosses, in the layer of calls, name the same.
-use Rattle.std.proofs.Common.{◌≡◌, ℕ, zero, suc, ◌+◌, ◌<◌, ◌≤◌, List, [], ◌∷◌, ◌++◌, length, Bool, true, false, ◌&&◌, if◌then◌else◌, nat_eq, nat_lt, nat_le, slice_get, Option, Some, None, refl, sym, ap, ◌∙◌, subst, arith, eqb-true, ltb-true, lt-ltb}
+use Rattle.std.proofs.Common.{◌≡◌, ℕ, zero, suc, ◌+◌, ◌<◌, List, [], ◌∷◌, ◌++◌, length, Bool, true, false, ◌&&◌, if◌then◌else◌, nat_eq, nat_lt, nat_le, slice_get, Option, Some, None, refl, sym, ap, ◌∙◌, subst, arith, eqb-true, lt-ltb}
 use Rattle.std.proofs.lemmas.Option.{slice_get_within}
-use Rattle.cas_runs.specs.Label.{Both, NameBytes, Shown, Word, Place, Object}
-use Rattle.cas_runs.specs.Naming.{Home, Own, Theirs, Value, Number, Pointer, Hidden, Part, Layout, parts_at, Named, Naming, Memory, same_home, is_place, part_by, again, first_time, named_by, and_then, all_named_by, object_of, objects_of}
+use Rattle.cas_runs.specs.Label.{Both, Shown, Word, Place, Object}
+use Rattle.cas_runs.specs.Naming.{Home, Own, Value, Number, Pointer, Hidden, Part, Layout, parts_at, Named, Naming, Memory, same_home, is_place, part_by, again, first_time, named_by, and_then, all_named_by, object_of, objects_of}
 use Rattle.cas_runs.specs.Machine.{Names}
 use Rattle.cas_runs.specs.Rules.{AreOneValue, AgreeAt, Agree, AgreeAlive, NameOne}
 use Rattle.cas_runs.specs.Access.{Holding}
 use Rattle.cas_runs.specs.Calls.{Past, named_as}
 use Rattle.cas_runs.proofs.Tests.{and_both}
-use Rattle.cas_runs.proofs.Showing.{Grows, same, own, grows, NamedSo, named_so}
+use Rattle.cas_runs.proofs.Showing.{Grows, same, own, grows, named_so}
 
 -- a naming that goes on has what was there
 abbrev pub GoesOn : Naming → Naming → Type 0

@@ -1,8 +1,8 @@
 -- Accesses by pointers that match, as steps of an `Amounts`: where memories match, loads, stores and looks go along. So
 -- forms that do the same amount to one another.
-use Rattle.std.proofs.Common.{◌≡◌, ℕ, ◌<◌, List, length, Option, Some, None, slice_set, arith, refl, sym, ap, ◌∙◌, subst}
-use Rattle.cas_runs.specs.Naming.{Home, Value, Number, Pointer, Memory, with_block}
-use Rattle.cas_runs.specs.Access.{Accesses, Reads, Writes, Loads, Stores, Looks, Then, Fails, value_in, length_of}
+use Rattle.std.proofs.Common.{◌≡◌, ℕ, List, Option, Some, None, slice_set, arith, refl, sym, subst}
+use Rattle.cas_runs.specs.Naming.{Home, Value, Pointer, Memory, with_block}
+use Rattle.cas_runs.specs.Access.{Accesses, Loads, Stores, Looks, value_in, length_of}
 use Rattle.cas_runs.specs.Forms.{MemoryKeeps, Stored, LengthsAlike, FormAlike, reads, writes, loads, stores, looks}
 use Rattle.cas_runs.specs.Forms.{drops_read, drops_load, drops_look, last, never}
 use Rattle.cas_runs.specs.Calls.{Last}

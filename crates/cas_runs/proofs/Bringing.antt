@@ -9,8 +9,8 @@ use Rattle.cas_runs.specs.Forms.{LengthsAlike, Stored, MemoryKeeps}
 use Rattle.cas_runs.specs.Edge.{Edge}
 use Rattle.cas_runs.specs.Unit.{Setting}
 use Rattle.cas_runs.specs.Calls.{Activations, Past, set_blocks, fresh, gone, without_own, if_shown, named_as, with_naming}
-use Rattle.cas_runs.specs.Passing.{Position, Relation, AllMatch, MatchIf, brought_in, Keeps, AllMade, MadeSo, MadeAt, Matching, MadeOf, RunTogether, IsMatching}
-use Rattle.cas_runs.specs.Held.{set_in, stored_at, Activation, Steps, Midway, HoldsBy, with_blocks_of}
+use Rattle.cas_runs.specs.Passing.{Position, Relation, AllMatch, MatchIf, brought_in, Keeps, AllMade, MadeSo, MadeAt, MadeOf, IsMatching}
+use Rattle.cas_runs.specs.Held.{set_in, stored_at, Activation, Midway, HoldsBy, with_blocks_of}
 use Rattle.cas_runs.specs.Placing.{Spot, Placing, pointer_in, SameMoved, AllMoved, CellsMoved, BlockMoved, ObjectMoved, MemoryMoved, moved_part, NamedMoved, NamingMoved, AlikeMoved, KeepsUnplaced, IsPlacing, moved_matches, moving, Moved, places, bare, moved_blocks, IsMoved}
 use Rattle.cas_runs.proofs.Words.{all_self}
 use Rattle.cas_runs.proofs.Footing.{step_least}

@@ -1,10 +1,10 @@
 -- A pass that shows chains refines.
-use Rattle.std.proofs.Common.{◌≡◌, ℕ, List, [], ◌∷◌, ◌⊎◌, Option, Some, sym, subst}
+use Rattle.std.proofs.Common.{List, [], ◌∷◌, ◌⊎◌, sym, subst}
 use Rattle.cas_runs.specs.Label.{RunLabel, Lock}
 use Rattle.cas_runs.specs.Edge.{Edge}
 use Rattle.cas_runs.specs.Machine.{Act, Quiet, Emits, Crosses, Locks, Receives, Bad, Stops, Ended, Taken, Full, Machine, label_of, crossing_by, Block, begun, onward}
 use Rattle.cas_runs.specs.Refines.{Fine, Refines}
-use Rattle.cas_runs.specs.Simulation.{here, GoesWrong, After, Meets, Answers, Simulates}
+use Rattle.cas_runs.specs.Simulation.{here, GoesWrong, After, Meets, Answers}
 use Rattle.cas_runs.specs.Chains.{Chain, last, more, IsChained}
 use Rattle.cas_runs.proofs.Refining.{quietly_also, steps_refine}
 

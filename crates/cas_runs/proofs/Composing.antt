@@ -1,11 +1,10 @@
 -- Refinements compose; a machine refines itself; and where the target names alone, each of its runs is kept, or the source is Bad before.
-use Rattle.std.proofs.Common.{◌≡◌, ℕ, List, [], ◌∷◌, ◌++◌, ◌⊎◌, Option, Some, None, inl, inr, refl, sym, ap, ◌∙◌, subst, ⊎_elim, arith, append_assoc}
-use Rattle.cas_runs.specs.Label.{NameBytes, Share, RunLabel, Lock, Unlock, Out, Done, Enter, Back, Call, Leave}
+use Rattle.std.proofs.Common.{◌≡◌, List, [], ◌∷◌, ◌++◌, ◌⊎◌, Option, Some, inl, inr, refl, sym, ap, ◌∙◌, subst, ⊎_elim, arith, append_assoc}
+use Rattle.cas_runs.specs.Label.{NameBytes, Share, RunLabel, Lock}
 use Rattle.cas_runs.specs.Edge.{Edge, AreGuarded}
-use Rattle.cas_runs.specs.Outside.{MayBring}
-use Rattle.cas_runs.specs.Machine.{Act, Quiet, Emits, Crosses, Locks, Receives, Bad, Stops, Halt, Ended, Taken, Full, Event, Unlocks, Prints, Ends, Names, Opened, Machine, open_functions, label_of, crossing_by, StepsTo, IsBad, Block, begun, Run, starts, quiet, labelled}
-use Rattle.cas_runs.specs.Refines.{Subsequence, done, keep, skip, Within, EachWithin, none, more, Reached, Reaches, Comes, HasRun, BadBefore, Fine, Kept, CrossesAs, Answered, Refines, NamesAlone, EachKept}
-use Rattle.cas_runs.proofs.Refining.{IsQuiet, leads_not_quiet, leads_there, bad_longer, bad_here, has_of, Before, before_label, has_before, has_shorter, bad_or_fine, one_names}
+use Rattle.cas_runs.specs.Machine.{Act, Quiet, Emits, Crosses, Locks, Receives, Bad, Stops, Ended, Taken, Full, Names, Opened, Machine, open_functions, label_of, crossing_by, StepsTo, IsBad, Block, Run, starts, quiet, labelled}
+use Rattle.cas_runs.specs.Refines.{Subsequence, done, keep, skip, Within, EachWithin, none, more, Reached, Reaches, Comes, HasRun, BadBefore, Kept, Answered, Refines, NamesAlone, EachKept}
+use Rattle.cas_runs.proofs.Refining.{IsQuiet, leads_there, bad_longer, bad_here, has_of, before_label, has_before, has_shorter, bad_or_fine}
 use Rattle.cas_runs.specs.Rules.{Proceeds}
 
 pub within_both : (a b c : Block) → Within a b → Within b c → Within a c

@@ -10,7 +10,7 @@ use Rattle.cas_base.specs.declared.decl.Unit.{Unit as UnitOf}
 use Rattle.cas_base.specs.Decl.{functions_of}
 use Rattle.cas_base.specs.Unit.{IsInOrder}
 use Rattle.cas_runs.specs.Label.{NameBytes, same_name}
-use Rattle.cas_runs.specs.Edge.{Edge, Signature}
+use Rattle.cas_runs.specs.Edge.{Signature}
 use Rattle.cas_runs.specs.Unit.{Setting, Language, defined_as, defines, has_function, AreDefined, OnlyInside, all_decls, all_functions, FitsUnit}
 
 -- one of the declarations has this name

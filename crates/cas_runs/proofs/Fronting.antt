@@ -1,5 +1,5 @@
 -- What one step of the target comes to, where its form amounts to what is left of the source's.
-use Rattle.std.proofs.Common.{◌≡◌, ℕ, ◌+◌, ◌<◌, ◌≤◌, List, [], ◌∷◌, ◌⊎◌, Option, Some, None, Bool, true, false, if◌then◌else◌, length, slice_get, slice_set, nat_lt, inl, inr, refl, sym, ap, ◌∙◌, subst, ⊎_elim, arith, ltb-true, lt-ltb}
+use Rattle.std.proofs.Common.{◌≡◌, ℕ, ◌+◌, ◌≤◌, List, ◌∷◌, ◌⊎◌, Option, Some, None, Bool, true, false, if◌then◌else◌, length, slice_get, slice_set, nat_lt, inl, inr, refl, sym, ap, ◌∙◌, subst, ⊎_elim, arith, ltb-true, lt-ltb}
 use Rattle.cas_runs.specs.Label.{Share}
 use Rattle.cas_runs.specs.Edge.{Edge, Cell, LockWord, SharedWord, TableWord}
 use Rattle.cas_runs.specs.Outside.{IsAmong, first, later}

@@ -1,18 +1,18 @@
 -- A pass told over memories is a pass of the layer of calls.
-use Rattle.std.proofs.Common.{◌≡◌, ℕ, ◌+◌, ◌≤◌, List, [], ◌⊎◌, Option, Some, None, slice_get, inl, inr, refl, sym, ap, ◌∙◌, subst, ⊎_elim, arith}
+use Rattle.std.proofs.Common.{◌≡◌, ℕ, ◌+◌, ◌≤◌, List, ◌⊎◌, Option, Some, None, slice_get, inl, inr, refl, sym, ap, ◌∙◌, subst, ⊎_elim, arith}
 use Rattle.cas_runs.specs.Label.{Share}
 use Rattle.cas_runs.specs.Edge.{Cell, LockWord, SharedWord, TableWord}
 use Rattle.cas_runs.specs.Naming.{Home, Value, Number, Memory}
 use Rattle.cas_runs.specs.Machine.{Footprint, Block, and_step, Quiet, IsBad}
 use Rattle.cas_runs.specs.Refines.{Within}
 use Rattle.cas_runs.specs.Bounds.{step_price, first_price}
-use Rattle.cas_runs.specs.Simulation.{Quietly, here, step, fails}
+use Rattle.cas_runs.specs.Simulation.{here, step, fails}
 use Rattle.cas_runs.specs.Access.{Accesses, Holding, with_lock, without_lock, words_in, place_among, word_in, Doing, has_read, Performed, reads_as, reads_cell, number_in, reads_word, value_in, loads_as, performed}
 use Rattle.cas_runs.specs.Forms.{ShareSelfSame, FootIn}
 use Rattle.cas_runs.specs.Unit.{IsEdge}
 use Rattle.cas_runs.specs.Calls.{Last, Goes, Takes, Gives, Puts, Calls, Tails, Returns, Past, with_share, with_own, without_own, set_blocks, gone, one_begun, called_by, nothing_touched}
-use Rattle.cas_runs.specs.Passing.{Position, Moment, Relation, t_step, s_step, t_on, s_on, after_step, act_alone, FailsSoon, Going, Ready, ReadyIf, Settles, PassesOn, cannot_go_on, fails_then, returns_first, TailAlike, tail, passing, Does, CallsToo, FineAt, Passes, Keeps}
-use Rattle.cas_runs.specs.Held.{stored_at, Activation, Held, MatchIf, LastHeld, goes_held, takes_held, gives_held, puts_held, calls_held, tails_held, passing_held, returns_held, Amounts, Leads, meets_there, steps_alone, Alone, reads_alone, loads_alone, looks_alone, stores_alone, goes_alone, fails_alone, Begin, begins_at_once, begins_later, BeginIf, Steps, Midway, HoldsBy}
+use Rattle.cas_runs.specs.Passing.{Moment, Relation, t_step, s_step, t_on, s_on, after_step, act_alone, FailsSoon, Going, Ready, ReadyIf, Settles, PassesOn, cannot_go_on, fails_then, returns_first, TailAlike, tail, passing, Does, CallsToo, FineAt, Passes, Keeps}
+use Rattle.cas_runs.specs.Held.{stored_at, Activation, Held, MatchIf, LastHeld, goes_held, takes_held, gives_held, puts_held, calls_held, tails_held, passing_held, returns_held, Amounts, Leads, meets_there, steps_alone, Alone, reads_alone, loads_alone, looks_alone, stores_alone, goes_alone, fails_alone, begins_at_once, begins_later, BeginIf, Steps, Midway, HoldsBy}
 use Rattle.cas_runs.proofs.Words.{self_get, self_found, self_with_lock, self_without_lock, guarded_self, table_self}
 use Rattle.cas_runs.proofs.Refining.{among_front}
 use Rattle.cas_runs.proofs.Footing.{among_back, among_either, within_step, nothing_in}

@@ -1,5 +1,5 @@
 -- In any language of activations units, functions and threads refine themselves.
-use Rattle.std.proofs.Common.{◌≡◌, ℕ, List, true, refl}
+use Rattle.std.proofs.Common.{◌≡◌, List, true, refl}
 use Rattle.cas_base.specs.declared.decl.Decl.{Decl}
 use Rattle.cas_base.specs.declared.decl.Unit.{Unit as UnitOf}
 use Rattle.cas_runs.specs.Bounds.{IsTariff}

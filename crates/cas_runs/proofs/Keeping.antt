@@ -1,9 +1,8 @@
 -- The small language of critical sections keeps the rules.
-use Rattle.std.specs.Prelude.{slice_get}
 use Rattle.std.proofs.Common.{◌≡◌, ℕ, ◌≤◌, List, [], ◌∷◌, Option, Some, None, refl, sym, ap, subst, inl, inr}
 use Rattle.cas_base.specs.declared.kind.Kind.TheVariants.{U32}
 use Rattle.cas_runs.specs.Label.{NameBytes, Share, RunLabel, Lock, Unlock, Out, Done}
-use Rattle.cas_runs.specs.Edge.{LockWord, AreGuarded, AreUnder, IsOfKind}
+use Rattle.cas_runs.specs.Edge.{AreGuarded, IsOfKind}
 use Rattle.cas_runs.specs.Outside.{IsAmong, first, later}
 use Rattle.cas_runs.specs.Machine.{Act, Quiet, Emits, Crosses, Locks, Receives, Bad, Stops, Names, Event, Unlocks, Prints, Ends, label_of, StepsTo, Block, Run, starts, quiet, labelled}
 use Rattle.cas_runs.specs.Rules.{and_lock, except_lock, locks_after, IsShared, HasEnded, HasCrossed, MayAct, OpensBy, KeepsRules, EmitsInKind, EmitsLocks, KeepsKinds, KeepsLocks}

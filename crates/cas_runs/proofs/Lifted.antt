@@ -1,20 +1,16 @@
 -- Where functions run together, what matches refines.
-use Rattle.std.proofs.Common.{◌≡◌, ℕ, List, [], ◌∷◌, ◌++◌, Some, Bool, true, false, if◌then◌else◌, refl, sym, ap, ◌∙◌, subst}
-use Rattle.cas_base.specs.declared.decl.Decl.{Decl}
-use Rattle.cas_base.specs.declared.decl.Unit.{Unit as UnitOf}
+use Rattle.std.proofs.Common.{ℕ, List, [], ◌∷◌, Some, true, false, refl}
 use Rattle.cas_base.specs.declared.kind.Kind.TheVariants.{U32}
-use Rattle.cas_runs.specs.Label.{Both, NameBytes, same_name}
-use Rattle.cas_runs.specs.Edge.{Edge, IsOfKind}
-use Rattle.cas_runs.specs.Naming.{Value, Number, Layout}
+use Rattle.cas_runs.specs.Label.{NameBytes}
+use Rattle.cas_runs.specs.Edge.{IsOfKind}
+use Rattle.cas_runs.specs.Naming.{Number}
 use Rattle.cas_runs.specs.Refines.{Refines}
 use Rattle.cas_runs.specs.Simulation.{here}
-use Rattle.cas_runs.specs.Access.{Holding}
-use Rattle.cas_runs.specs.Unit.{Setting, laid_out, names_of, IsEdge, AreDeclared, all_decls, all_globals, all_functions, has_function, defines, AreDefined, AreKnown, FitsProgram, IsLayout, UnitRefines, FunctionRefines, ThreadRefines}
-use Rattle.cas_runs.specs.Calls.{Activations, Past, machine, outside_first, starts, find, no_past, no_holding, language}
-use Rattle.cas_runs.specs.Passing.{Position, Relation, IsPass, AllMade, UnitsMade, MadeSo, MadeAt, MadeAmong, relation}
+use Rattle.cas_runs.specs.Unit.{laid_out}
+use Rattle.cas_runs.specs.Calls.{machine, outside_first, starts, find, no_past, no_holding}
+use Rattle.cas_runs.specs.Passing.{Relation, IsPass}
 use Rattle.cas_runs.proofs.Lifting.{away, bottom, waits_within, lifted_refines, enters_too}
-use Rattle.cas_runs.proofs.Found.{AllFound, found_among}
-use Rattle.cas_runs.proofs.Tests.{same_name_from}
+use Rattle.cas_runs.proofs.Found.{AllFound}
 
 module _ {F A G B : Type 0} (r : Relation F A G B) (is : IsPass r) (all : AllFound r.target r.source r.by.made r.targets r.sources) where
   -- where the outside runs first

@@ -1,18 +1,18 @@
 -- A pass of activations is a simulation of the machines that the layer of calls makes of them.
-use Rattle.std.proofs.Common.{◌≡◌, ℕ, zero, suc, ◌+◌, ◌≤◌, List, [], ◌∷◌, ◌++◌, length, ◌⊎◌, Option, Some, None, Bool, true, false, if◌then◌else◌, inl, inr, refl, sym, ap, ◌∙◌, subst, ⊎_elim, arith}
-use Rattle.cas_runs.specs.Label.{NameBytes, Share, Crossing, RunLabel, Lock, Unlock, Out, Done, Enter, Back, Call, Leave}
+use Rattle.std.proofs.Common.{◌≡◌, ℕ, zero, suc, ◌+◌, ◌≤◌, List, [], ◌∷◌, ◌++◌, length, ◌⊎◌, Option, Some, None, Bool, true, false, inl, inr, refl, sym, ap, ◌∙◌, subst, ⊎_elim, arith}
+use Rattle.cas_runs.specs.Label.{NameBytes, Share, RunLabel, Lock, Unlock, Out, Done, Enter, Back, Call, Leave}
 use Rattle.cas_runs.specs.Edge.{AreGuarded, returned, results_of}
 use Rattle.cas_runs.specs.Outside.{Brings, crossed, MayBring}
 use Rattle.cas_runs.specs.Naming.{Value, Naming, and_then, all_taken}
 use Rattle.cas_runs.specs.Naming.{objects_of}
-use Rattle.cas_runs.specs.Machine.{Act, Quiet, Emits, Crosses, Locks, Receives, Bad, Stops, Ended, Taken, Full, Unlocks, Prints, Ends, Names, Opened, Open, Between, Machine, and_called, open_functions, crossing_by, IsBad, Block, nothing, begun, onward, and_step}
+use Rattle.cas_runs.specs.Machine.{Act, Quiet, Emits, Crosses, Locks, Receives, Bad, Stops, Taken, Unlocks, Prints, Ends, Names, Opened, Open, Between, Machine, and_called, open_functions, crossing_by, IsBad, Block, nothing, begun, onward, and_step}
 use Rattle.cas_runs.specs.Refines.{Within, Subsequence, done, keep, skip, Fine, Refines}
 use Rattle.cas_runs.specs.Simulation.{Quietly, here, step, fails, GoesWrong, Follows, Meets, Answers, Simulates}
 use Rattle.cas_runs.specs.Bounds.{IsTariff, Tariff, BySize, ByForms, step_price, first_price, waiting_price}
 use Rattle.cas_runs.specs.Access.{Holding, Then, Fails, words_in, with_lock, without_lock, performed}
 use Rattle.cas_runs.specs.Unit.{Setting, laid_out, guard_of}
-use Rattle.cas_runs.specs.Calls.{Last, Goes, Takes, Gives, Puts, Calls, Tails, Returns, Scene, Frame, Waits, Outer, Past, Thread, Away, Runs, Leaves, Over, nothing_touched, can_cross, named_as, with_naming, to_outside, crosses_if, crosses_out, first_values, kept_results, leaves_with, leaves_later, goes_back, returns, resumes, comes_back, with_share, takes_lock, takes, gives_lock, gives, find, with_own, without_own, set_blocks, gone, one_begun, begins, calls_in, enters_at, enters, waiting, called_by, calls_out, calls, acts, receives, machine, no_past, no_holding}
-use Rattle.cas_runs.specs.Passing.{Activity, Position, position, Moment, Relation, AllMatch, t_step, s_step, after_step, act_alone, on_alone, Settles, Matched, Ready, ReadyIf, WaitAlike, PassesOn, cannot_go_on, fails_then, returns_first, OnlyPasses, TailAlike, tail, passing, LastAlike, Does, CallsToo, Passes, MatchIf, brought_in, received, Keeps, Pays}
+use Rattle.cas_runs.specs.Calls.{Last, Goes, Takes, Gives, Puts, Calls, Tails, Returns, Scene, Frame, Waits, Outer, Past, Thread, Away, Runs, Leaves, Over, nothing_touched, can_cross, named_as, with_naming, to_outside, crosses_if, crosses_out, first_values, kept_results, leaves_with, leaves_later, goes_back, returns, resumes, comes_back, with_share, takes_lock, takes, gives_lock, gives, find, with_own, without_own, set_blocks, gone, one_begun, begins, calls_in, enters_at, enters, waiting, called_by, calls_out, calls, acts, receives, machine, no_past}
+use Rattle.cas_runs.specs.Passing.{Activity, position, Moment, Relation, AllMatch, t_step, s_step, after_step, act_alone, on_alone, Settles, Matched, Ready, ReadyIf, WaitAlike, PassesOn, cannot_go_on, fails_then, returns_first, OnlyPasses, TailAlike, tail, passing, LastAlike, Does, CallsToo, Passes, MatchIf, brought_in, received, Keeps, Pays}
 use Rattle.cas_runs.proofs.Found.{FoundAlike, AllFound}
 use Rattle.cas_runs.proofs.Refining.{IsQuiet, answers_bad, answers_quiet, answers_wrong, steps_refine, within_more}
 use Rattle.cas_runs.proofs.Showing.{some_names, named_so}

@@ -1,13 +1,13 @@
 -- The open functions of the layer of calls change by calls, entries and returns alone.
-use Rattle.std.proofs.Common.{◌≡◌, ℕ, List, [], ◌∷◌, ◌⊎◌, Option, Some, None, Bool, true, false, if◌then◌else◌, inl, inr, refl, sym, ap, subst}
+use Rattle.std.proofs.Common.{◌≡◌, ℕ, List, [], ◌∷◌, ◌⊎◌, Option, Some, None, Bool, true, false, inl, inr, refl, sym, ap, subst}
 use Rattle.cas_runs.specs.Label.{NameBytes, Share, RunLabel, Lock, Unlock, Out, Done, Enter, Back, Call, Leave}
 use Rattle.cas_runs.specs.Edge.{results_of}
-use Rattle.cas_runs.specs.Naming.{Value, Number, Naming, and_then, all_taken, brought}
-use Rattle.cas_runs.specs.Machine.{Act, Quiet, Emits, Crosses, Locks, Receives, Bad, Stops, Full, Names, Opened, Open, Between, Machine, label_of, crossing_by, StepsTo, IsBad, Block, Run}
+use Rattle.cas_runs.specs.Naming.{Value, Naming, and_then, all_taken, brought}
+use Rattle.cas_runs.specs.Machine.{Act, Quiet, Emits, Crosses, Locks, Receives, Bad, Stops, Full, Names, Opened, Open, Between, Machine, label_of, crossing_by, StepsTo, IsBad}
 use Rattle.cas_runs.specs.Rules.{AtMostOneLess, OpensQuietly, OpensBy, OpensFirst, Opens}
 use Rattle.cas_runs.specs.Access.{Holding, words_in, with_lock, without_lock}
 use Rattle.cas_runs.specs.Unit.{Setting, guard_of}
-use Rattle.cas_runs.specs.Calls.{Last, Goes, Takes, Gives, Puts, Calls, Tails, Returns, Activations, Scene, Frame, Waits, Outer, Past, Thread, Away, Runs, Leaves, Over, Wrong, can_cross, named_as, with_naming, to_outside, crosses_if, kept_results, leaves_with, leaves_later, goes_back, returns, resumes, comes_back, with_share, takes_lock, takes, gives_lock, gives, find, without_own, calls_in, enters_at, enters, waiting, called_by, step_at, calls_out, calls, acts, receives, machine, no_past, no_holding, outside_first, starts}
+use Rattle.cas_runs.specs.Calls.{Last, Goes, Takes, Gives, Puts, Calls, Tails, Returns, Activations, Scene, Frame, Waits, Outer, Past, Thread, Away, Runs, Leaves, Over, Wrong, can_cross, named_as, with_naming, to_outside, crosses_if, kept_results, leaves_with, leaves_later, goes_back, returns, resumes, comes_back, with_share, takes_lock, takes, gives_lock, gives, find, without_own, calls_in, enters_at, enters, waiting, called_by, step_at, calls_out, calls, acts, receives, machine}
 use Rattle.cas_runs.proofs.Found.{found_named}
 
 module _ {F A : Type 0} (l : Activations F A) (setting : Setting) (scene : Scene F) (start : Thread F A) where

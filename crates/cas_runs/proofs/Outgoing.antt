@@ -1,10 +1,10 @@
 -- What goes out: the objects that cross for the first time take the next numbers, and a unit calls over its edge only what isn't inside.
 use Rattle.std.proofs.Common.{◌≡◌, ℕ, ◌+◌, List, [], ◌∷◌, ◌++◌, Option, Some, None, Bool, true, false, ◌&&◌, if◌then◌else◌, length, nat_eq, nat_lt, slice_get, refl, sym, ap, ◌∙◌, subst, arith}
-use Rattle.cas_runs.specs.Label.{NameBytes, same_name, Shown, Word, Place, Object, Crossing, Call}
+use Rattle.cas_runs.specs.Label.{NameBytes, same_name, Shown, Word, Place, Object}
 use Rattle.cas_runs.specs.Edge.{Signature, signature_of}
 use Rattle.cas_runs.specs.Outside.{numbered}
 use Rattle.cas_runs.specs.Naming.{Home, Own, Theirs, Value, Number, Pointer, Hidden, Part, Layout, Named, Naming, Memory, number_of, is_place, part_by, again, if_new, first_time, named_by, and_then, all_named_by, same_home, objects_of}
-use Rattle.cas_runs.specs.Machine.{Act, Quiet, Emits, Crosses, Locks, Receives, Bad, Stops, Machine}
+use Rattle.cas_runs.specs.Machine.{Act, Crosses, Machine}
 use Rattle.cas_runs.specs.Rules.{CallsOut}
 use Rattle.cas_runs.specs.Access.{Holding, words_in, with_lock, without_lock}
 use Rattle.cas_runs.specs.Unit.{Setting, guard_of, has_function, OnlyInside}

@@ -1,12 +1,12 @@
 -- A unit that shows another place of its variable doesn't refine.
-use Rattle.std.proofs.Common.{◌≡◌, ℕ, [], ◌∷◌, Option, Some, None, refl, sym, ap, ◌∙◌, subst, ⊎_elim, arith}
+use Rattle.std.proofs.Common.{◌≡◌, ℕ, [], ◌∷◌, Option, Some, None, refl, subst, ⊎_elim, arith}
 use Rattle.cas_base.specs.declared.kind.Kind.TheVariants.{I32}
 use Rattle.cas_runs.specs.Label.{Place, Inside, RunLabel, Enter}
 use Rattle.cas_runs.specs.Machine.{Act, Quiet, Crosses, Names}
 use Rattle.cas_runs.specs.Outside.{MayBring}
 use Rattle.cas_runs.specs.Refines.{Comes, Answered, Refines}
 use Rattle.cas_runs.specs.Calls.{Thread, receives, of_unit, no_past, no_holding}
-use Rattle.cas_runs.specs.Pointing.{main_name, show_name, Pointing, pointing, edge, setting, shows}
+use Rattle.cas_runs.specs.Pointing.{main_name, Pointing, pointing, edge, setting, shows}
 use Rattle.cas_runs.proofs.Refining.{IsQuiet, one_state}
 use Rattle.cas_runs.proofs.Composing.{IsCrossing}
 use Rattle.cas_runs.proofs.Sanity.{ComesTo, comes_first, comes_by, has_run_to, stands_at, not_bad, bad_first, bad_last}

@@ -1,5 +1,5 @@
 -- Machines that are equal at each state that a run reaches have the same runs, and refine the same.
-use Rattle.std.proofs.Common.{◌≡◌, ◌≤◌, List, [], ◌∷◌, ◌⊎◌, inl, inr, ⊎_elim, sym, ap, ◌∙◌, subst}
+use Rattle.std.proofs.Common.{◌≡◌, ◌≤◌, List, [], ◌∷◌, inl, inr, ⊎_elim, sym, ap, ◌∙◌, subst}
 use Rattle.cas_runs.specs.Label.{RunLabel}
 use Rattle.cas_runs.specs.Edge.{Edge}
 use Rattle.cas_runs.specs.Machine.{Machine, StepsTo, IsBad, open_functions, and_called, Block, and_step, nothing, begun, onward, Run, starts, quiet, labelled}

@@ -1,11 +1,11 @@
 -- A simulation gives refinement.
 use Rattle.std.proofs.Common.{◌≡◌, ℕ, List, [], ◌∷◌, ◌++◌, ◌⊎◌, Option, Some, None, inl, inr, refl, sym, ap, ◌∙◌, subst, ⊎_elim, arith}
-use Rattle.cas_runs.specs.Label.{NameBytes, Share, Crossing, RunLabel, Lock, Call, Leave, crossing_label}
-use Rattle.cas_runs.specs.Edge.{Edge, AreGuarded}
-use Rattle.cas_runs.specs.Outside.{IsAmong, first, later, MayBring}
-use Rattle.cas_runs.specs.Machine.{Act, Quiet, Emits, Crosses, Locks, Receives, Bad, Stops, Halt, Ended, Taken, Full, Event, Names, Machine, label_of, crossing_by, StepsTo, IsBad, Block, begun, onward, Run, starts, quiet, labelled}
-use Rattle.cas_runs.specs.Refines.{Within, EachWithin, none, more, Reached, Reaches, Comes, HasRun, BadBefore, Fine, Kept, CrossesAs, Answered, Refines}
-use Rattle.cas_runs.specs.Simulation.{Quietly, here, step, fails, GoesWrong, CrossesToo, Follows, After, Meets, Answers, Simulates, RunsMatch}
+use Rattle.cas_runs.specs.Label.{NameBytes, Share, Crossing, RunLabel, Lock, crossing_label}
+use Rattle.cas_runs.specs.Edge.{Edge}
+use Rattle.cas_runs.specs.Outside.{IsAmong, first, later}
+use Rattle.cas_runs.specs.Machine.{Act, Quiet, Emits, Crosses, Locks, Receives, Bad, Stops, Ended, Taken, Full, Names, Machine, label_of, crossing_by, StepsTo, IsBad, Block, begun, onward, Run, starts, quiet, labelled}
+use Rattle.cas_runs.specs.Refines.{Within, EachWithin, none, more, Reached, Reaches, Comes, HasRun, BadBefore, Fine, Kept, Answered, Refines}
+use Rattle.cas_runs.specs.Simulation.{Quietly, here, step, fails, GoesWrong, Follows, After, Meets, Answers, Simulates, RunsMatch}
 
 pub among_front : (w : ℕ) (xs ys : List ℕ) → IsAmong w xs → IsAmong w (xs ++ ys)
 among_front w xs ys first = first

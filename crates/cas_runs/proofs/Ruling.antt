@@ -1,9 +1,9 @@
 -- The machines of the layer of calls keep the rules, whatever the activations do.
-use Rattle.std.proofs.Common.{◌≡◌, ℕ, zero, suc, ◌+◌, ◌≤◌, List, [], ◌∷◌, ◌⊎◌, inl, inr, Option, Some, None, Bool, true, false, if◌then◌else◌, length, slice_get, refl, sym, ap, ◌∙◌, subst, arith}
-use Rattle.cas_runs.specs.Label.{NameBytes, same_name, Share, Object, Crossing, RunLabel, Lock, Unlock, Out, Done, Enter, Back, Call, Leave, locks_of}
+use Rattle.std.proofs.Common.{◌≡◌, ℕ, zero, suc, ◌+◌, ◌≤◌, List, [], ◌∷◌, ◌⊎◌, inl, inr, Option, Some, None, Bool, true, false, length, slice_get, refl, sym, ap, ◌∙◌, subst, arith}
+use Rattle.cas_runs.specs.Label.{NameBytes, Share, Object, Crossing, RunLabel, Lock, Unlock, Out, Done, Enter, Back, Call, Leave, locks_of}
 use Rattle.cas_runs.specs.Edge.{Cell, LockWord, SharedWord, TableWord, Stretch, Edge, AreGuarded, IsOrdered, results_of}
 use Rattle.cas_runs.specs.Outside.{Pending, Called, Entered, without_newest, pending, crossed, numbered, IsAmong, Brings, MayBring}
-use Rattle.cas_runs.specs.Naming.{Value, Number, ArePlaced, Part, parts_at, Naming, and_then, all_named_by, objects_of, same_objects, all_taken, brought}
+use Rattle.cas_runs.specs.Naming.{Value, Number, ArePlaced, Part, parts_at, Naming, and_then, objects_of, all_taken, brought}
 use Rattle.cas_runs.specs.Machine.{Act, Quiet, Emits, Crosses, Locks, Receives, Bad, Stops, Names, label_of, crossing_by, Machine, StepsTo, IsBad, Block, Run, starts as begins_run, quiet, labelled}
 use Rattle.cas_runs.specs.Rules.{and_lock, locks_after, IsShared, Leaves, LeavesAll, Carries, IsReturnFor, NameOne, MayEmit, MayCrossBy, HasEnded, MayHalt, MayReceive, MayAct, IsReceiving, OpensFirst, Opens, Proceeds, KeepsRules}
 use Rattle.cas_runs.specs.Rules as rules

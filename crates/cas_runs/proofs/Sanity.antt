@@ -3,7 +3,7 @@ use Rattle.std.proofs.Common.{◌≡◌, ℕ, zero, suc, ◌+◌, ◌≤◌, Lis
 use Rattle.cas_base.specs.declared.kind.Kind.TheVariants.{U32}
 use Rattle.cas_runs.specs.Label.{RunLabel, Lock, Unlock, Out}
 use Rattle.cas_runs.specs.Edge.{Edge, AreGuarded, IsOfKind}
-use Rattle.cas_runs.specs.Machine.{Act, Quiet, Emits, Crosses, Locks, Receives, Bad, Stops, Machine, StepsTo, IsBad, Block, begun, onward, Run, starts, quiet, labelled, quiet_now, Halt, Taken}
+use Rattle.cas_runs.specs.Machine.{Act, Quiet, Emits, Crosses, Locks, Receives, Bad, Stops, Machine, StepsTo, IsBad, Block, begun, onward, Run, starts, quiet, labelled, quiet_now, Taken}
 use Rattle.cas_runs.specs.Refines.{Reached, Comes, HasRun, BadBefore, Answered, PaysMore, Refines}
 use Rattle.cas_runs.specs.Sections.{Instruction, Take, Give, Load, Store, Print, Spin, Standing, one_lock, standing, sections}
 use Rattle.cas_runs.proofs.Refining.{IsQuiet, one_state, has_of, before_label, leads_there}

@@ -1,9 +1,9 @@
 -- A run is a walk of silent steps from where its last block begins, and its labels determine that.
-use Rattle.std.proofs.Common.{◌≡◌, ℕ, List, [], ◌∷◌, ◌++◌, ◌⊎◌, inl, inr, refl, sym, ap, ◌∙◌, subst, arith}
+use Rattle.std.proofs.Common.{◌≡◌, ℕ, List, [], ◌∷◌, ◌++◌, inl, refl, sym, ap, ◌∙◌, subst, arith}
 use Rattle.cas_runs.specs.Label.{RunLabel}
 use Rattle.cas_runs.specs.Edge.{Edge}
 use Rattle.cas_runs.specs.Machine.{Act, Quiet, Emits, Crosses, Locks, Receives, Bad, Stops, Machine, StepsTo, IsBad, Footprint, Block, and_step, begun, onward, Run, starts, quiet, labelled}
-use Rattle.cas_runs.specs.Refines.{Reached, Comes, HasRun, BadBefore, Within}
+use Rattle.cas_runs.specs.Refines.{Comes, HasRun, BadBefore, Within}
 use Rattle.cas_runs.specs.Walking.{Star, stays, goes, HasNoSilentStep, Begins, at_start, after, Walk, SameBeginning}
 use Rattle.cas_runs.proofs.Composing.{within_both}
 use Rattle.cas_runs.proofs.Refining.{IsQuiet, leads_not_quiet, leads_to_one, one_state, before_label, has_before, among_front}

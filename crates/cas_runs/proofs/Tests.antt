@@ -3,7 +3,7 @@ use Rattle.std.proofs.Common.{◌≡◌, ℕ, List, [], ◌∷◌, Bool, true, f
 use Rattle.std.proofs.lemmas.Bool.Decides.{nat_tests}
 use Rattle.cas_base.specs.declared.kind.Kind.{Kind}
 use Rattle.cas_base.specs.declared.kind.Kind.TheVariants.{I8, U8, I16, U16, I32, U32}
-use Rattle.cas_runs.specs.Label.{NameBytes, same_name, Object, Owner, Inside, Outside, Share}
+use Rattle.cas_runs.specs.Label.{NameBytes, same_name, Object, Owner, Inside, Outside}
 use Rattle.cas_runs.specs.Naming.{Home, Own, Theirs, same_home, kind_number, same_owner, same_content, same_contents, same_state, same_object, same_objects}
 
 pub and_both : (a b : Bool) → (a && b) ≡ true → (a ≡ true) × (b ≡ true)

@@ -6,8 +6,8 @@ use Rattle.cas_runs.specs.Access.{Holding, with_lock, without_lock, value_in, le
 use Rattle.cas_runs.specs.Edge.{Edge}
 use Rattle.cas_runs.specs.Unit.{Setting, AreLaidOut}
 use Rattle.cas_runs.specs.Calls.{Activations, Past, set_blocks, fresh, gone, one_begun, can_cross, named_as, with_naming}
-use Rattle.cas_runs.specs.Passing.{Position, Relation, AllMatch, MatchIf, brought_in, received, Keeps, AllMade, MadeSo, MadeAt, MadeAmong, Matching, MadeOf, RunTogether, IsMatching}
-use Rattle.cas_runs.specs.Held.{Activation, Steps, Midway, HoldsBy, with_blocks_of}
+use Rattle.cas_runs.specs.Passing.{Position, Relation, AllMatch, MatchIf, brought_in, received, Keeps, AllMade, MadeSo, MadeAt, MadeAmong, MadeOf, IsMatching}
+use Rattle.cas_runs.specs.Held.{Activation, Midway, HoldsBy, with_blocks_of}
 use Rattle.cas_runs.specs.Unmoved.{equal_matches, keeps_values, in_place, Unmoved, places, bare, unmoved, IsUnmoved}
 use Rattle.cas_runs.proofs.Words.{all_self}
 use Rattle.cas_runs.proofs.Found.{found_of}

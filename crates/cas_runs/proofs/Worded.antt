@@ -12,8 +12,8 @@ use Rattle.cas_runs.specs.Access.{Holding, with_lock, without_lock, value_in}
 use Rattle.cas_runs.specs.Unit.{Setting, AreLaidOut}
 use Rattle.cas_runs.specs.Forms.{MemoryKeeps, ShareSelfSame}
 use Rattle.cas_runs.specs.Calls.{Activations, Past, so_many, set_blocks, fresh, gone, one_begun, can_cross, named_as, with_naming}
-use Rattle.cas_runs.specs.Passing.{Position, Relation, AllMatch, MatchIf, brought_in, received, Keeps, AllMade, MadeSo, MadeAt, MadeAmong, Matching, MadeOf, RunTogether, IsMatching}
-use Rattle.cas_runs.specs.Held.{Activation, Steps, Midway, HoldsBy, with_blocks_of}
+use Rattle.cas_runs.specs.Passing.{Position, Relation, AllMatch, MatchIf, brought_in, received, Keeps, AllMade, MadeSo, MadeAt, MadeAmong, MadeOf, IsMatching}
+use Rattle.cas_runs.specs.Held.{Activation, Midway, HoldsBy, with_blocks_of}
 use Rattle.cas_runs.specs.Worded.{IsWord, AreWords, HasWords, SameWord, EqualMemories, word_matches, in_words, Worded, places, bare, worded, IsWorded}
 use Rattle.cas_runs.specs.Unmoved.{keeps_values}
 use Rattle.cas_runs.proofs.Words.{kind_word, guarded_self, self_with_lock, self_without_lock}

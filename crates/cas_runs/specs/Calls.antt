@@ -1,7 +1,6 @@
 -- The layer of calls: a language gives the steps of one activation, and calls, crossings, locks, shares, memory and
 -- prices are told here once.
-use Rattle.std.specs.Prelude.{ℕ, zero, suc, ◌+◌, nat_eq, Bool, true, false, List, [], ◌∷◌, Option, Some, None}
-use Rattle.std.specs.Prelude.{if◌then◌else◌}
+use Rattle.std.specs.Prelude.{ℕ, zero, suc, ◌+◌, Bool, true, false, List, [], ◌∷◌, Option, Some, None}
 use Rattle.cas_runs.specs.Label.{NameBytes, Share, RunLabel, Enter, Back}
 use Rattle.cas_runs.specs.Edge.{results_of}
 use Rattle.cas_runs.specs.Naming.{Own, Value, Number, Layout, parts_at, Naming, Memory, and_then, all_named_by}

@@ -1,6 +1,6 @@
 -- Forms that do the same: their accesses are to the same words and to blocks that are the same, but for what the
 -- target has no need to read, and what they do at last is the same.
-use Rattle.std.specs.Prelude.{◌≡◌, ℕ, ◌<◌, List, [], ◌∷◌, Option, Some, None, length, slice_set, ◌⊎◌}
+use Rattle.std.specs.Prelude.{◌≡◌, ℕ, ◌<◌, List, Option, Some, None, length, slice_set, ◌⊎◌}
 use Rattle.cas_runs.specs.Label.{Each, NameBytes, Held, Share}
 use Rattle.cas_runs.specs.Naming.{Home, Value, Number, Pointer, Memory, with_block}
 use Rattle.cas_runs.specs.Outside.{IsAmong}

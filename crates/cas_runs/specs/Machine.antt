@@ -1,6 +1,6 @@
 -- A unit, a function or a thread that runs alone against an outside: its steps, its labels and what they cost.
 use Rattle.std.specs.Prelude.{◌≡◌, ℕ, ◌+◌, List, [], ◌∷◌, ◌++◌, Option, Some, None}
-use Rattle.cas_runs.specs.Label.{NameBytes, Shown, Object, Share, Crossing, RunLabel, Lock, Unlock, Out, Done}
+use Rattle.cas_runs.specs.Label.{NameBytes, Shown, Object, Share, RunLabel, Lock, Unlock, Out, Done}
 use Rattle.cas_runs.specs.Label.{crossing_label}
 use Rattle.cas_runs.specs.Edge.{Edge, AreGuarded}
 use Rattle.cas_runs.specs.Outside.{MayBring}

@@ -22,7 +22,7 @@ IsNatural {F = F} l kinds fs layout =
     (name : NameBytes) (f : F) → found l.name fs name ≡ Some f → AreOneEach (l.blocks f) (kinds f) 0 (layout name)
 
 -- the language keeps kinds and locks of the unit, in each setting that fits it with the layout of its variables
-pub record IsSource {F S : Type 0} (l : Language F S) (kinds : F → List Kind) (unit : UnitOf F) : Type 0 where
+pub record KeepsAsSource {F S : Type 0} (l : Language F S) (kinds : F → List Kind) (unit : UnitOf F) : Type 0 where
   pub keeps_kinds : (setting : Setting) → FitsUnit setting unit.decls unit.globals →
       IsNatural l kinds unit.funs setting.layout → KeepsKinds setting.edge (l.unit setting unit.funs)
   pub keeps_locks : (setting : Setting) → FitsUnit setting unit.decls unit.globals →

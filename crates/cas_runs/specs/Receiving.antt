@@ -1,6 +1,6 @@
 -- What a unit shows with a Call or a Leave, as another unit receives it: the same values, share and objects under the
 -- numbers that they have there.
-use Rattle.std.specs.Prelude.{◌≡◌, ◌⊎◌, ℕ, ◌≤◌, true, List, [], ◌∷◌, length, Option, Some, None, slice_get}
+use Rattle.std.specs.Prelude.{◌≡◌, ◌⊎◌, ℕ, ◌≤◌, true, List, ◌∷◌, length, Option, Some, None, slice_get}
 use Rattle.cas_runs.specs.Label.{Both, NameBytes, Shown, Word, Place, Outside, Object, Crossing, RunLabel, Enter}
 use Rattle.cas_runs.specs.Label.{Back, Call, Leave}
 use Rattle.cas_runs.specs.Edge.{Signature, Edge, signature_of, most_live}

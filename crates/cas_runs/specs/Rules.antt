@@ -12,7 +12,7 @@ use Rattle.cas_runs.specs.Edge.{AreOfKinds, guarded, AreUnder, IsOrdered, IsShar
 use Rattle.cas_runs.specs.Outside.{Pending, Entered, Contents, AreWordsOf, SameBut, Extend, IsAmong, Holds, pending}
 use Rattle.cas_runs.specs.Outside.{crossed, numbered}
 use Rattle.cas_runs.specs.Machine.{Act, Quiet, Emits, Crosses, Locks, Receives, Stops, Halt, Ended, Taken, Full}
-use Rattle.cas_runs.specs.Machine.{Names, Opened, Open, Between, Machine, label_of, crossing_by, StepsTo, IsBad}
+use Rattle.cas_runs.specs.Machine.{Names, Opened, Open, Between, Machine, label_of, StepsTo, IsBad}
 use Rattle.cas_runs.specs.Machine.{Always}
 
 -- the lock and these, in ascending order

@@ -14,7 +14,7 @@ use Rattle.cas_runs.specs.Bounds.{step_price, first_price}
 use Rattle.cas_runs.specs.Forms.{FormAlike}
 use Rattle.cas_runs.specs.Calls.{Last, Goes, Takes, Gives, Puts, Calls, Tails, Returns}
 use Rattle.cas_runs.specs.Passing.{Relation, AllMatch}
-use Rattle.cas_runs.specs.Held.{Activation, Held}
+use Rattle.cas_runs.specs.Held.{Activation}
 
 module _ {F A G B : Type 0} (r : Relation F A G B) (At : F → G → A → B → Type 0) where
   abbrev pub AtIf : F → G → Option A → Option B → Type 0

@@ -3,7 +3,7 @@
 use Rattle.std.specs.Prelude.{◌≡◌, List, [], ◌∷◌}
 use Rattle.cas_runs.specs.Label.{RunLabel}
 use Rattle.cas_runs.specs.Edge.{Edge}
-use Rattle.cas_runs.specs.Machine.{Act, Quiet, Machine, Footprint, StepsTo, Opened, Block, begun, onward, Run}
+use Rattle.cas_runs.specs.Machine.{Quiet, Machine, StepsTo, Block, begun, onward, Run}
 
 -- silent steps lead from one state to another, and from the block so far to the block with these steps
 pub data Star {S : Type 0} (m : Machine S) : Block → S → Block → S → Type 0 where

@@ -48,7 +48,8 @@ pub trait FunctionPass {
 pub fn functions_refine<P: FunctionPass>()
     ensures { (decls : List Decl) (a : P.Source) (b : P.Target) → defines decls (P.matching.source.name a) ≡ true
         → P.matching.made decls b a
-        → FunctionRefines (language P.matching.target) (language P.matching.source) decls (P.matching.source.name a) b a }
+        → FunctionRefines (language P.matching.target) (language P.matching.source) decls (P.matching.source.name a)
+        b a }
 {
     P::shows();
 }

@@ -43,7 +43,8 @@ pub trait Pass {
     ghost makes: { Self.Source → Self.Target → Type 0 };
 
     /// After these labels, the states of target and source with the block so far of each, where they match.
-    ghost match_states: { Setting → Self.Source → Self.Target → List RunLabel → target_state → Block → source_state → Block → Type 0 };
+    ghost match_states: { Setting → Self.Source → Self.Target → List RunLabel → target_state → Block → source_state →
+        Block → Type 0 };
 
     /// What the pass makes of the source.
     fn apply(&self, alloc: Global, from: &Self::Source) -> Result<Self::Target, NoMemory>
@@ -51,21 +52,26 @@ pub trait Pass {
 
     /// The law that each step of the target keeps states matched.
     fn simulates()
-        ensures { (setting : Setting) (a : Self.Source) (b : Self.Target) → makes a b → fits setting a → Simulates setting.edge (target (laid_out setting (naming a setting.layout)) b) (source setting a) (match_states setting a b) };
+        ensures { (setting : Setting) (a : Self.Source) (b : Self.Target) → makes a b → fits setting a →
+            Simulates setting.edge (target (laid_out setting (naming a setting.layout)) b) (source setting a)
+            (match_states setting a b) };
 }
 
 /// What a pass makes refines what it is made of, in each setting that fits that. Which settings fit is the
 /// implementation's own word, and could be few or none: a reader of a pass should read its `UnitRefines`, whose
 /// settings are the same for all.
 pub fn steps_refine<P: Pass>()
-    ensures { (setting : Setting) (a : P.Source) (b : P.Target) → P.makes a b → P.fits setting a → Refines setting.edge (P.target (laid_out setting (P.naming a setting.layout)) b) (P.source setting a) }
+    ensures { (setting : Setting) (a : P.Source) (b : P.Target) → P.makes a b → P.fits setting a →
+        Refines setting.edge (P.target (laid_out setting (P.naming a setting.layout)) b) (P.source setting a) }
 {
     P::simulates();
 }
 
 /// The result of the pass, which refines its argument.
 pub fn run_pass<P: Pass>(alloc: Global, pass: &P, from: &P::Source) -> Result<P::Target, NoMemory>
-    ensures { IfOk result (λ to. (setting : Setting) → P.fits setting from.now → Refines setting.edge (P.target (laid_out setting (P.naming from.now setting.layout)) to) (P.source setting from.now)) }
+    ensures { IfOk result (λ to. (setting : Setting) → P.fits setting from.now →
+        Refines setting.edge (P.target (laid_out setting (P.naming from.now setting.layout)) to)
+        (P.source setting from.now)) }
 {
     P::simulates();
     pass.apply(alloc, from)
@@ -79,7 +85,9 @@ pub fn runs_match<P: Pass>()
         → Reaches setting.edge (P.target (laid_out setting (P.naming a setting.layout)) b) ls x
         → HasRun setting.edge (P.source setting a) ls
         → BadBefore setting.edge (P.source setting a) ls
-        ⊎ Comes setting.edge (P.source setting a) ls (RunsMatch setting.edge (P.target (laid_out setting (P.naming a setting.layout)) b) (P.source setting a) (P.match_states setting a b) ls x) }
+        ⊎ Comes setting.edge (P.source setting a) ls
+        (RunsMatch setting.edge (P.target (laid_out setting (P.naming a setting.layout)) b) (P.source setting a)
+        (P.match_states setting a b) ls x) }
 {
     P::simulates();
 }

@@ -14,13 +14,15 @@ pub fn endless_loop_refused()
 /// A unit that drops a store to a guarded word before its Unlock doesn't refine.
 #[tactic(auto, using(crate::proofs::Sanity::dropped_store))]
 pub fn dropped_store_refused()
-    ensures { (p q : ℕ) → Refines one_lock (sections q (Take ∷ Give ∷ [])) (sections p (Take ∷ Store 1 ∷ Give ∷ [])) → ⊥ }
+    ensures { (p q : ℕ) → Refines one_lock (sections q (Take ∷ Give ∷ [])) (sections p (Take ∷ Store 1 ∷ Give ∷ [])) →
+        ⊥ }
 {}
 
 /// A unit that prints after the next Lock what it read before, without reading it anew, doesn't refine.
 #[tactic(auto, using(crate::proofs::Sanity::kept_word))]
 pub fn kept_word_refused()
-    ensures { (p q : ℕ) → Refines one_lock (sections q (Take ∷ Load ∷ Give ∷ Take ∷ Print ∷ [])) (sections p (Take ∷ Load ∷ Give ∷ Take ∷ Load ∷ Print ∷ [])) → ⊥ }
+    ensures { (p q : ℕ) → Refines one_lock (sections q (Take ∷ Load ∷ Give ∷ Take ∷ Print ∷ []))
+        (sections p (Take ∷ Load ∷ Give ∷ Take ∷ Load ∷ Print ∷ [])) → ⊥ }
 {}
 
 /// A unit that locks again where the source unlocks, and so never goes on, doesn't refine.
