@@ -1,5 +1,5 @@
--- A small machine with calls of its own, which crosses: a unit whose function `main` calls `show` of another unit with a
--- word, and returns. It takes its call at once, or after a step without a label.
+-- A small machine with calls of its own, which crosses: a unit whose function `main` calls `show` of another unit
+-- with a word, and returns. It takes its call at once, or after a step without a label.
 use Rattle.std.specs.Prelude.{ℕ, ◌+◌, nat_eq, Bool, true, false, List, [], ◌∷◌, Option, Some, None, if◌then◌else◌}
 use Rattle.cas_base.specs.declared.kind.Kind.TheVariants.{U32}
 use Rattle.cas_base.specs.declared.kind.Ty.TheVariants.{Void, Int}

@@ -12,7 +12,8 @@ abbrev pub other : Edge
 other = record {
   cells = edge.cells;
   words = edge.words;
-  functions = record { name = main_name; ret = Void; params = []; holds = []; inside = false } ∷ record { name = show_name; ret = Ptr I32; params = Ptr I32 ∷ []; holds = []; inside = true } ∷ [];
+  functions = record { name = main_name; ret = Void; params = []; holds = []; inside = false }
+      ∷ record { name = show_name; ret = Ptr I32; params = Ptr I32 ∷ []; holds = []; inside = true } ∷ [];
 }
 
 -- the labels of the unit before its call

@@ -1,5 +1,5 @@
--- Two small languages without blocks of memory. A program's function `main` calls `show` with a word and returns its result, or nothing: by a call and
--- a return, or by a tail call.
+-- Two small languages without blocks of memory. A program's function `main` calls `show` with a word and returns its
+-- result, or nothing: by a call and a return, or by a tail call.
 use Rattle.std.specs.Prelude.{ℕ, List, [], ◌∷◌, Option, Some, None}
 use Rattle.cas_runs.specs.Naming.{Value, Number}
 use Rattle.cas_runs.specs.Bounds.{ByForms}

@@ -1,5 +1,6 @@
--- Two small languages with blocks of memory. A program's function `main` sets two variables, stores the first under a lock, shows the place after
--- it to the outside, and puts out what stands at the place that comes back, and then the second variable. Its variables are blocks of their own, or one block.
+-- Two small languages with blocks of memory. A program's function `main` sets two variables, stores the first under a
+-- lock, shows the place after it to the outside, and puts out what stands at the place that comes back, and then the
+-- second variable. Its variables are blocks of their own, or one block.
 use Rattle.std.specs.Prelude.{ℕ, List, [], ◌∷◌, Option, Some, None}
 use Rattle.cas_runs.specs.Label.{NameBytes}
 use Rattle.cas_runs.specs.Naming.{Own, Value, Number, Pointer, Hidden}
@@ -51,7 +52,8 @@ came_back serial (v ∷ w ∷ vs) = None
 
 -- the steps, where the second variable stands at this place of this block of the activation
 abbrev pub form : (block place : ℕ) → Stage → Accesses (Last Stage)
-form block place (Begins first second serial) = Stores (Own main_name serial 0) 0 (Number first) (Stores (Own main_name serial block) place (Number second) (Then (Goes (Locks first serial))))
+form block place (Begins first second serial) = Stores (Own main_name serial 0) 0 (Number first)
+    (Stores (Own main_name serial block) place (Number second) (Then (Goes (Locks first serial))))
 form block place (Locks first serial) = Then (Takes lock_name (Holds first serial))
 form block place (Holds first serial) = Writes global_name 0 first (Then (Goes (Unlocks serial)))
 form block place (Unlocks serial) = Then (Gives lock_name (Shows serial))

@@ -1,5 +1,5 @@
--- A whole program of a table and two functions, `const unsigned g = 1; void f(void) { } void main(int me) { f(); print(g + ..); }`, an edge that fits it, and the
--- labels of its thread.
+-- A whole program of a table and two functions, `const unsigned g = 1; void f(void) { } void main(int me) { f();
+-- print(g + ..); }`, an edge that fits it, and the labels of its thread.
 use Rattle.std.specs.Prelude.{ℕ, ◌+◌, false, true, List, [], ◌∷◌, Option, Some, None, if◌then◌else◌}
 use Rattle.cas_base.specs.declared.kind.Kind.TheVariants.{I32, U32}
 use Rattle.cas_base.specs.declared.kind.Ty.TheVariants.{Void, Int}
@@ -67,7 +67,12 @@ main_decl = record { name = main_name; form = forms.Function Void (Int I32 ∷ [
 
 -- its one unit
 abbrev pub unit : UnitOf Routine
-unit = record { decls = table_decl ∷ helper_decl ∷ main_decl ∷ []; globals = record { decl = table_decl; values = 1 ∷ [] } ∷ []; funs = Helper ∷ Main ∷ [] }
+unit = record {
+  decls = table_decl ∷ helper_decl ∷ main_decl ∷ [];
+  globals =
+      record { decl = table_decl; values = 1 ∷ [] } ∷ [];
+  funs = Helper ∷ Main ∷ [];
+}
 
 abbrev pub program : List (UnitOf Routine)
 program = unit ∷ []

@@ -1,9 +1,9 @@
-//! A trial of the form in which each pass of the compiler is proved, over the layer of calls of `cas_runs`: four small
-//! passes, each with the files that all passes have. `joining` puts two variables into one block, `tailing` makes tail
-//! calls, `lowering` makes two instructions of one and none of another, `summing` drops a sum with 0. `laws`, `raw`
-//! and `threads` only test the definitions. It stands on `cas_base` and `cas_runs`.
-//! calls, `lowering` makes two instructions of one and none of another, `summing` drops a sum with 0. `laws` and `threads`
-//! only test the definitions, and what is refused stands in `refused`. It stands on `cas_base` and `cas_runs`.
+//! A trial of the form in which each pass of the compiler is proved, over the layer of calls of `cas_runs`: four
+//! small passes, each with the files that all passes have. `joining` puts two variables into one block, `tailing`
+//! makes tail calls, `lowering` makes two instructions of one and none of another, `summing` drops a sum with 0.
+//! `laws`, `raw` and `threads` only test the definitions. It stands on `cas_base` and `cas_runs`. calls, `lowering`
+//! makes two instructions of one and none of another, `summing` drops a sum with 0. `laws` and `threads` only test
+//! the definitions, and what is refused stands in `refused`. It stands on `cas_base` and `cas_runs`.
 #![tactic(auto)]
 
 mod joining;

@@ -1,5 +1,5 @@
-//! A machine with calls of its own, which crosses: what it emits is in kind, and a pass between two paces of it is shown
-//! by the law of machines.
+//! A machine with calls of its own, which crosses: what it emits is in kind, and a pass between two paces of it is
+//! shown by the law of machines.
 
 ghost use Rattle.std.specs.Prelude.{Bool, ℕ, IfOk, false, true, ◌≡◌};
 ghost use Rattle.cas_base.specs.declared.kind.Kind.TheVariants.{U32};
@@ -50,7 +50,8 @@ impl Pass for Slowing {
 ///
 /// Errors: none but want of memory.
 pub fn slow(alloc: Global, program: &Relaying) -> Result<Relaying, NoMemory>
-    ensures { IfOk result (λ made. (setting : Setting) → setting.edge ≡ edge → Refines setting.edge (relay true 1 made.word) (relay false 2 program.now.word)) }
+    ensures { IfOk result (λ made. (setting : Setting) → setting.edge ≡ edge
+        → Refines setting.edge (relay true 1 made.word) (relay false 2 program.now.word)) }
 {
     run_pass(alloc, &Slowing, program)
 }

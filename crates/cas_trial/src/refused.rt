@@ -19,20 +19,22 @@ pub fn swapped_variables_refused()
 /// A variable whose address was given away, and that is put out as it was before the call.
 #[tactic(auto, using(crate::proofs::Wrong::cached_refused))]
 pub fn cached_variable_refused()
-    ensures { Refines edge ((language caching).unit setting (program ∷ [])) ((language apart).unit setting (program ∷ [])) → ⊥ }
+    ensures { Refines edge ((language caching).unit setting (program ∷ []))
+        ((language apart).unit setting (program ∷ [])) → ⊥ }
 {}
 
 /// A word behind a lock that isn't read before it is put out.
 #[tactic(auto, using(crate::proofs::Wrong::unread_refused))]
 pub fn unread_word_refused()
-    ensures { UnitRefines (language low_language) (language high_language) (unit_of (not_reading ∷ [])) (unit_of (showing ∷ []))
-        → ⊥ }
+    ensures { UnitRefines (language low_language) (language high_language)
+        (unit_of (not_reading ∷ [])) (unit_of (showing ∷ [])) → ⊥ }
 {}
 
 /// Steps that do the same and cost more than what they stand for.
 #[tactic(auto, using(crate::proofs::Wrong::dear_refused))]
 pub fn dear_steps_refused()
-    ensures { UnitRefines (language dear) (language high_language) (unit_of (reading ∷ [])) (unit_of (showing ∷ [])) → ⊥ }
+    ensures { UnitRefines (language dear) (language high_language) (unit_of (reading ∷ [])) (unit_of (showing ∷ []))
+        → ⊥ }
 {}
 
 /// A machine that offers each value as the argument of its call breaks the rules: what crosses has one value.

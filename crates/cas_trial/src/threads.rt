@@ -8,7 +8,8 @@ ghost use Rattle.cas_runs.specs.Unit.{FitsProgram, IsCode, IsLayout, IsStack, Th
 ghost use Rattle.cas_trial.specs.Stages.{global_name, main_name};
 ghost use Rattle.cas_trial.specs.Whole.{edge, labels, program, routines, setting};
 
-/// A whole program of a table and two functions, one of which calls the other, fits an edge, a stack and places of code.
+/// A whole program of a table and two functions, one of which calls the other, fits an edge, a stack and places of
+/// code.
 #[tactic(auto, using(crate::proofs::Whole::routines_fit, crate::proofs::Whole::routines_stack, crate::proofs::Whole::routines_code, crate::proofs::Whole::routines_laid_out))]
 pub fn a_thread_fits()
     ensures fits { FitsProgram (language (routines 0)) edge program main_name }
@@ -33,5 +34,6 @@ pub fn another_word_refused()
 /// first read would be Bad and any target would refine.
 #[tactic(auto, using(crate::proofs::Whole::table_there))]
 pub fn edge_without_table_refused()
-    ensures { (edge : Edge) → FitsProgram (language (routines 0)) edge program main_name → (s : Stretch) × (edge.words global_name ≡ Some s) × (slice_get edge.cells s.first ≡ Some (TableWord 1)) }
+    ensures { (edge : Edge) → FitsProgram (language (routines 0)) edge program main_name
+        → (s : Stretch) × (edge.words global_name ≡ Some s) × (slice_get edge.cells s.first ≡ Some (TableWord 1)) }
 {}

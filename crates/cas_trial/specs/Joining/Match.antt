@@ -47,12 +47,16 @@ one_word function block = 1
 
 -- both stand at the same stage of a program that runs
 pub data SameStage : List Apart → Stage → Stage → Type 0 where
-  begins : {f : Apart} {fs : List Apart} {first second serial : ℕ} → SameStage (f ∷ fs) (Begins first second serial) (Begins first second serial)
-  locks : {f : Apart} {fs : List Apart} {first serial : ℕ} → SameStage (f ∷ fs) (Locks first serial) (Locks first serial)
-  holds : {f : Apart} {fs : List Apart} {first serial : ℕ} → SameStage (f ∷ fs) (Holds first serial) (Holds first serial)
+  begins : {f : Apart} {fs : List Apart} {first second serial : ℕ} →
+      SameStage (f ∷ fs) (Begins first second serial) (Begins first second serial)
+  locks : {f : Apart} {fs : List Apart} {first serial : ℕ} →
+      SameStage (f ∷ fs) (Locks first serial) (Locks first serial)
+  holds : {f : Apart} {fs : List Apart} {first serial : ℕ} →
+      SameStage (f ∷ fs) (Holds first serial) (Holds first serial)
   unlocks : {f : Apart} {fs : List Apart} {serial : ℕ} → SameStage (f ∷ fs) (Unlocks serial) (Unlocks serial)
   shows : {f : Apart} {fs : List Apart} {serial : ℕ} → SameStage (f ∷ fs) (Shows serial) (Shows serial)
-  loading : {f : Apart} {fs : List Apart} {serial : ℕ} {v w : Value} → SameMoved (places (f ∷ fs)) v w → SameStage (f ∷ fs) (Loading serial v) (Loading serial w)
+  loading : {f : Apart} {fs : List Apart} {serial : ℕ} {v w : Value} → SameMoved (places (f ∷ fs)) v w →
+      SameStage (f ∷ fs) (Loading serial v) (Loading serial w)
   tells : {f : Apart} {fs : List Apart} {serial : ℕ} → SameStage (f ∷ fs) (Tells serial) (Tells serial)
   ends : {f : Apart} {fs : List Apart} → SameStage (f ∷ fs) Ends Ends
 
