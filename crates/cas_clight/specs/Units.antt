@@ -1,5 +1,5 @@
 -- The unit of Clight that a typed module is.
-use Rattle.std.specs.Prelude.{ℕ, Bool, true, false, List, [], ◌∷◌, map}
+use Rattle.std.specs.Prelude.{ℕ, List, [], ◌∷◌, map, Option, Some, None, if◌then◌else◌}
 use Rattle.cas_base.specs.declared.decl.Decl.{Decl}
 use Rattle.cas_base.specs.declared.decl.Global.{Global}
 use Rattle.cas_base.specs.declared.decl.Unit.{Unit as UnitOf}
@@ -13,16 +13,18 @@ use Rattle.cas_clight.specs.Clight.{ClightFun}
 abbrev pub decls_of : List ItemTree → List Decl
 decls_of items = map decl_of items
 
--- the data that an item defines
-abbrev pub with_data : Bool → Decl → List ℕ → List Global → List Global
-with_data true d vs rest = record { decl = d; values = vs } ∷ rest
-with_data false d vs rest = rest
+-- the data that an item defines, if it defines some
+abbrev pub datum_of : ItemTree → Option Global
+datum_of (global d vs p) = if d.defined then Some (record { decl = d; values = vs }) else None
+datum_of _ = None
+
+abbrev pub with_datum : Option Global → List Global → List Global
+with_datum (Some g) rest = g ∷ rest
+with_datum None rest = rest
 
 abbrev pub data_in : List ItemTree → List Global
 data_in [] = []
-data_in (global d vs p ∷ rest) = with_data d.defined d vs (data_in rest)
-data_in (prototype d hs p ∷ rest) = data_in rest
-data_in (define f ∷ rest) = data_in rest
+data_in (a ∷ rest) = with_datum (datum_of a) (data_in rest)
 
 -- a function with a body, resolved so
 abbrev pub function_of : List Decl → FunTree → TypedFunTree → ClightFun

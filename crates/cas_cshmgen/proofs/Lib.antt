@@ -10,3 +10,6 @@ pub mod Weights
 pub mod Functions
 pub mod Pass
 pub mod Typed
+pub mod Modules
+pub mod In_order
+pub mod Simple_fors

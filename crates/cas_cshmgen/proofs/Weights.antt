@@ -145,6 +145,7 @@ module _ (ds : List Decl) (r : ℕ) where
 
   -- a simple statement has no for in it
   simple_fors : (a : StmtTree) → IsSimpleText a → ForsAreSimple a
+  simple_fors (tree.skip p) h = tt
   simple_fors (tree.declare p ty x a) h = tt
   simple_fors (tree.assign p target o a) h = tt
   simple_fors (tree.call p x f args) h = tt
@@ -152,7 +153,7 @@ module _ (ds : List Decl) (r : ℕ) where
 
   -- a simple part of a for
   simple_is : {ret : Ty} {l : Bool} {s : Scope} {a : StmtTree} {x : TypedStmtTree} → IsStmt ret l s a x → IsSimpleText a → IsSimple x
-  simple_is (ty.skips l s p) h = absurd h
+  simple_is (ty.skips l s p) h = tt
   simple_is (ty.declares l s p ty x new some) h = tt
   simple_is (ty.declares_value l s p ty x a y new i) h = let w = assigns _ i in w.simple
   simple_is (ty.declares_result l s p ty x f args y new i) h = let w = calls _ i in w.simple

@@ -32,6 +32,7 @@ use Rattle.cas_cshmgen.specs.Makes.{Csharp, made_stmt, made_part, made_call, kee
 
 -- a statement that may be the first or last part of a for
 abbrev pub IsSimpleText : StmtTree → Type 0
+IsSimpleText (tree.skip p) = ⊤
 IsSimpleText (tree.declare p ty x a) = ⊤
 IsSimpleText (tree.assign p target o a) = ⊤
 IsSimpleText (tree.call p x f args) = ⊤

@@ -1,18 +1,20 @@
 //! What Cshmgen makes refines what it is made of.
 
-ghost use Rattle.std.specs.Prelude.{◌≡◌, ◌≤◌, List, length, true};
+ghost use Rattle.std.specs.Prelude.{◌≡◌, ◌≤◌, ℕ, List, length, true};
 ghost use Rattle.cas_base.specs.declared.decl.Decl.{Decl};
 ghost use Rattle.cas_base.specs.declared.decl.Unit.{Unit as UnitOf};
 ghost use Rattle.cas_clight.specs.Clight.{ClightFun, cells_of, clight};
 ghost use Rattle.cas_clight.specs.Units.{function_of};
+ghost use Rattle.cas_cshmgen.specs.Made.{ForsAreSimpleIn};
 ghost use Rattle.cas_cshmgen.specs.Makes.{made_routine};
 ghost use Rattle.cas_cshmgen.specs.Match.{AllForsAreSimple, IsMade};
 ghost use Rattle.cas_mid.specs.Code.{csharp_routine};
 ghost use Rattle.cas_mid.specs.Rooms.{room_of};
 ghost use Rattle.cas_runs.specs.Bounds.{frame_bound, weight_of};
-ghost use Rattle.cas_syntax.specs.Tree.{FunTree};
+ghost use Rattle.cas_syntax.specs.Reading.{IsReadAs};
+ghost use Rattle.cas_syntax.specs.Tree.{FunTree, ModuleTree};
 ghost use Rattle.cas_typed.specs.Counts.{nodes_of, parameter_types};
-ghost use Rattle.cas_typed.specs.Modules.{IsFunction};
+ghost use Rattle.cas_typed.specs.Modules.{IsFunction, filled_module};
 ghost use Rattle.cas_typed.specs.Resolved.{TypedFunTree};
 ghost use Rattle.cas_mid.specs.Csharpminor.{csharpminor};
 ghost use Rattle.cas_mid.specs.declared.tree.CsharpFun.{CsharpFun};
@@ -43,8 +45,8 @@ pub fn made_threads_refine()
         → UnitsMade IsMade ts ss → ThreadRefines (language csharpminor) (language clight) edge ts ss entry }
 {}
 
-/// What is made of a typed function is made so that its steps can pay, weighs no more, and has no greater room. The first
-/// and last parts of a `for` are assignments, calls or locals, as in each text.
+/// What is made of a typed function is made so that its steps can pay, weighs no more, and has no greater room. The
+/// first and last parts of a `for` are assignments, calls or locals, as in each text.
 pub fn typed_functions_are_made()
     ensures made { (before decls : List Decl) (f : FunTree) (r : TypedFunTree) (c : CsharpFun) → IsFunction before f r
         → length (parameter_types f.decl.form) ≤ 16 → AllForsAreSimple f.body
@@ -57,4 +59,10 @@ pub fn typed_functions_are_made()
         → length (parameter_types f.decl.form) ≤ 16 → AllForsAreSimple f.body
         → csharp_routine c ≡ made_routine (function_of decls f r)
         → room_of (csharp_routine c) ≤ frame_bound (nodes_of f) (cells_of (function_of decls f r)) }
+{}
+
+/// In each module that a text is read as, with the values of its variables filled up, the first and last parts of each
+/// `for` are assignments, calls or locals.
+pub fn texts_have_simple_fors()
+    ensures { (text : List ℕ) (m : ModuleTree) → IsReadAs text m → ForsAreSimpleIn (filled_module m).items }
 {}

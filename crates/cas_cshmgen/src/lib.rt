@@ -15,8 +15,8 @@
 //!       Return(0) }
 //! ```
 //!
-//! The definitions stand in `specs/`: what is made of each form (`Makes`), and where activations of both languages stand
-//! for one another (`Match`). It stands on `cas_clight` and `cas_mid`.
+//! The definitions stand in `specs/`: what is made of each form (`Makes`) and of a module (`Made`), and where
+//! activations of both languages stand for one another (`Match`). It stands on `cas_clight` and `cas_mid`.
 #![tactic(auto)]
 
 mod expr;
@@ -24,5 +24,6 @@ mod function;
 pub mod laws;
 mod parts;
 mod stmt;
+mod unit;
 
-pub use expr::make_expr;
+pub use unit::cshmgen;
