@@ -22,7 +22,8 @@ IsFirstRow-from_position rows text (Some i) h = (
 )
 
 -- a row that is found is one of the table's
-pub found_below : (n : ℕ) (rows : List (List ℕ)) (text : List ℕ) (r : Option ℕ) → IsTable n rows → IsFirstRow rows text r → IfSome r (λ k. k < n)
+pub found_below : (n : ℕ) (rows : List (List ℕ)) (text : List ℕ) (r : Option ℕ) → IsTable n rows →
+    IsFirstRow rows text r → IfSome r (λ k. k < n)
 found_below n rows text None table first = tt
 found_below n rows text (Some k) table first = omega (arith, table.0, slice_get_within rows k text first.0)
 

@@ -1,16 +1,15 @@
 -- The derived `==` of types is the test of the definitions.
-use Rattle.std.proofs.Common.{◌≡◌, Bool, ◌&&◌, List, [], ◌∷◌, ap, refl, sym, ◌∙◌, arith, rules}
+use Rattle.std.proofs.Common.{◌≡◌, Bool, ◌&&◌, List, [], ◌∷◌, refl, rules}
 use Rattle.std.specs.Cmp.Lexicographic.{pointwise}
 use Rattle.cas_base.specs.declared.kind.Kind.{Kind}
-use Rattle.cas_base.specs.declared.kind.Kind.TheVariants.{I8, U8, I16, U16, I32, U32}
 use Rattle.cas_base.specs.declared.kind.Ty.{Ty}
-use Rattle.cas_base.specs.declared.kind.Ty.TheVariants.{Void, Int, Ptr, Array}
 use Rattle.cas_base.specs.contracts.kind.TyPartialEq.TheImpl.{eq-value as ty}
 use Rattle.cas_base.specs.contracts.kind.KindPartialEq.TheImpl.{eq-value as kind}
 use Rattle.cas_base.specs.Ty.{same_kind, same_ty}
 
 -- two tests that agree at each two elements agree on lists
-pub pointwise_congr : {X : Type 0} (E F : X → X → Bool) → ((x y : X) → E x y ≡ F x y) → (xs ys : List X) → pointwise E xs ys ≡ pointwise F xs ys
+pub pointwise_congr : {X : Type 0} (E F : X → X → Bool) → ((x y : X) → E x y ≡ F x y) → (xs ys : List X) →
+    pointwise E xs ys ≡ pointwise F xs ys
 pointwise_congr E F same [] [] = refl
 pointwise_congr E F same [] (y ∷ ys) = refl
 pointwise_congr E F same (x ∷ xs) [] = refl

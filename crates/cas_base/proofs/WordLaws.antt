@@ -21,7 +21,8 @@ signed-word_sub a b p q = wrapping_sub-bits w32 a b p q
 pub signed-word_mul : (a b : ℕ) → a < 2 ^ 32 → b < 2 ^ 32 → signed (word_mul a b) ≡ wrapped (signed a *ℤ signed b)
 signed-word_mul a b p q = wrapping_mul-bits w32 a b p q
 
-pub signed-word_mul_fits : (a b : ℕ) → a < 2 ^ 32 → b < 2 ^ 32 → FitsSigned w32 (signed a *ℤ signed b) → signed (word_mul a b) ≡ signed a *ℤ signed b
+pub signed-word_mul_fits : (a b : ℕ) → a < 2 ^ 32 → b < 2 ^ 32 → FitsSigned w32 (signed a *ℤ signed b) →
+    signed (word_mul a b) ≡ signed a *ℤ signed b
 signed-word_mul_fits a b p q fits = signed-word_mul a b p q ∙ int_wrap_fits w32 (signed a *ℤ signed b) fits
 
 pub ruleset wraps = (signed-word_add, signed-word_sub, signed-word_mul, signed-word_mul_fits)
@@ -59,14 +60,18 @@ negated_size (suc k) = omega arith
 
 int_div_fits : (a d : ℤ) → FitsSigned w32 a → (d ≡ negsuc 0 → a ≡ negsuc 2147483647 → ⊥) → FitsSigned w32 (int_div a d)
 int_div_fits (pos a) (pos d) fits h = record { sfits = omega (arith, fits.sfits, div-le_self a d) }
-int_div_fits (pos a) (negsuc d) fits h = record { sfits = omega (arith, fits.sfits, div-le_self a (suc d), negated_size (a / suc d)) }
-int_div_fits (negsuc a) (pos d) fits h = record { sfits = omega (arith, fits.sfits, div-le_self (suc a) d, negated_size (suc a / d)) }
+int_div_fits (pos a) (negsuc d) fits h =
+    record { sfits = omega (arith, fits.sfits, div-le_self a (suc d), negated_size (a / suc d)) }
+int_div_fits (negsuc a) (pos d) fits h =
+    record { sfits = omega (arith, fits.sfits, div-le_self (suc a) d, negated_size (suc a / d)) }
 int_div_fits (negsuc a) (negsuc zero) fits h =
     let not_least : a ≡ 2147483647 → ⊥ = λ e. h refl (ap negsuc e) in
     record { sfits = omega (arith, fits.sfits, div-one (suc a)) }
-int_div_fits (negsuc a) (negsuc (suc d)) fits h = record { sfits = omega (arith, fits.sfits, div-lt_self {n = suc a} {k = suc (suc d)} (omega arith) (omega arith)) }
+int_div_fits (negsuc a) (negsuc (suc d)) fits h = record
+    { sfits = omega (arith, fits.sfits, div-lt_self {n = suc a} {k = suc (suc d)} (omega arith) (omega arith)) }
 
-pub quotient_fits : (a b : ℕ) → a < 2 ^ 32 → b < 2 ^ 32 → has_no_signed_quotient a b ≡ false → FitsSigned w32 (int_div (signed a) (signed b))
+pub quotient_fits : (a b : ℕ) → a < 2 ^ 32 → b < 2 ^ 32 → has_no_signed_quotient a b ≡ false →
+    FitsSigned w32 (int_div (signed a) (signed b))
 quotient_fits a b p q h = int_div_fits (signed a) (signed b) (signed_fits a p) (λ e f.
     let divisor : 4294967295 ≡ b = ap word_of (sym e) ∙ of_z-to_z w32 b q in
     let dividend : 2147483648 ≡ a = ap word_of (sym f) ∙ of_z-to_z w32 a p in
@@ -78,19 +83,24 @@ rem_fits a d fits = record { sfits = omega (arith, fits.sfits, mag_rem a d) }
 divisor_size : (a b : ℕ) → b < 2 ^ 32 → has_no_signed_quotient a b ≡ false → 0 < unsigned_abs (signed b)
 divisor_size a b q h = grind (arith, nat_tests, ints)
 
-pub signed-quotient : (a b q : ℕ) → a < 2 ^ 32 → b < 2 ^ 32 → word_div_signed a b ≡ Some q → signed q ≡ int_div (signed a) (signed b)
+pub signed-quotient : (a b q : ℕ) → a < 2 ^ 32 → b < 2 ^ 32 → word_div_signed a b ≡ Some q →
+    signed q ≡ int_div (signed a) (signed b)
 signed-quotient a b q p s = by (has_no_signed_quotient a b) refl
   where
-    by : (t : Bool) → has_no_signed_quotient a b ≡ t → (if t then None else Some (word_of (int_div (signed a) (signed b)))) ≡ Some q → signed q ≡ int_div (signed a) (signed b)
+    by : (t : Bool) → has_no_signed_quotient a b ≡ t →
+        (if t then None else Some (word_of (int_div (signed a) (signed b)))) ≡ Some q →
+        signed q ≡ int_div (signed a) (signed b)
     by true is e = cc
     by false is e =
         let same : q ≡ word_of (int_div (signed a) (signed b)) = cc in
         ap signed same ∙ to_z-of_z w32 _ (quotient_fits a b p s is)
 
-pub signed-remainder : (a b r : ℕ) → a < 2 ^ 32 → word_rem_signed a b ≡ Some r → signed r ≡ int_rem (signed a) (signed b)
+pub signed-remainder : (a b r : ℕ) → a < 2 ^ 32 → word_rem_signed a b ≡ Some r →
+    signed r ≡ int_rem (signed a) (signed b)
 signed-remainder a b r p = by (has_no_signed_quotient a b)
   where
-    by : (t : Bool) → (if t then None else Some (word_of (int_rem (signed a) (signed b)))) ≡ Some r → signed r ≡ int_rem (signed a) (signed b)
+    by : (t : Bool) → (if t then None else Some (word_of (int_rem (signed a) (signed b)))) ≡ Some r →
+        signed r ≡ int_rem (signed a) (signed b)
     by true e = cc
     by false e =
         let same : r ≡ word_of (int_rem (signed a) (signed b)) = cc in
@@ -105,6 +115,8 @@ has_divisor a b q = by (has_no_signed_quotient a b)
     by true e = cc
     by false e = refl
 
-pub division_truncates : (a b q r : ℕ) → a < 2 ^ 32 → b < 2 ^ 32 → word_div_signed a b ≡ Some q → word_rem_signed a b ≡ Some r → IsTruncatedDivision (signed a) (signed b) (signed q) (signed r)
+pub division_truncates : (a b q r : ℕ) → a < 2 ^ 32 → b < 2 ^ 32 → word_div_signed a b ≡ Some q →
+    word_rem_signed a b ≡ Some r → IsTruncatedDivision (signed a) (signed b) (signed q) (signed r)
 division_truncates a b q r p s d m =
-    rw (signed-quotient a b q p s d, signed-remainder a b r p m) (truncated (signed a) (signed b) (divisor_size a b s (has_divisor a b q d)))
+    rw (signed-quotient a b q p s d, signed-remainder a b r p m)
+    (truncated (signed a) (signed b) (divisor_size a b s (has_divisor a b q d)))

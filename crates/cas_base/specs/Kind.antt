@@ -42,4 +42,5 @@ value_of a U32 = pos a
 
 -- the word is a value of the kind
 abbrev pub is_of_kind : ℕ → Kind → Bool
-is_of_kind a kind = nat_lt a (2 ^ 32) && int_le (least_of kind) (value_of a kind) && int_le (value_of a kind) (greatest_of kind)
+is_of_kind a kind = nat_lt a (2 ^ 32) && int_le (least_of kind) (value_of a kind) && int_le (value_of a kind)
+    (greatest_of kind)

@@ -1,5 +1,5 @@
 -- How a declaration is printed: as a line of an objects text, without `extern` and without values.
-use Rattle.std.specs.Prelude.{ℕ, List, [], ◌∷◌, ◌++◌, length, codes}
+use Rattle.std.specs.Prelude.{ℕ, List, ◌++◌, length, codes}
 use Rattle.std.specs.List.{flat_map}
 use Rattle.std.specs.Fmt.{decimal}
 use Rattle.cas_base.specs.declared.kind.Kind.{Kind}
@@ -37,7 +37,8 @@ names_text names = decimal (length names) ++ flat_map (λ name. codes " " ++ nam
 -- the line of a function: its name, its return, its parameters and the locks that it holds
 abbrev pub function_text : (name : List ℕ) (ret : Ty) (params : List Ty) (holds : List (List ℕ)) → List ℕ
 function_text name ret params holds =
-    codes "function " ++ (name ++ (codes " " ++ (ty_text ret ++ (codes " " ++ (types_text params ++ (codes " " ++ names_text holds))))))
+    codes "function " ++
+    (name ++ (codes " " ++ (ty_text ret ++ (codes " " ++ (types_text params ++ (codes " " ++ names_text holds))))))
 
 -- the line of a declaration: its sort, its name, and its type and the lock that guards it
 abbrev pub form_text : (name : List ℕ) → Form → List ℕ

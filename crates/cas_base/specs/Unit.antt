@@ -1,7 +1,6 @@
 -- Units: their data and functions are in order.
 use Rattle.std.specs.Prelude.{◌≡◌, map}
 use Rattle.cas_base.specs.declared.decl.Decl.{Decl}
-use Rattle.cas_base.specs.declared.decl.Global.{Global}
 use Rattle.cas_base.specs.declared.decl.Unit.{Unit as Module}
 use Rattle.cas_base.specs.Decl.{data_of, functions_of}
 

@@ -1,4 +1,5 @@
--- Words: numbers below 2^32, with their signed reading and their operators. (CompCert's integers, but the count of a shift is taken modulo 32.)
+-- Words: numbers below 2^32, with their signed reading and their operators. (CompCert's integers, but the count of a
+-- shift is taken modulo 32.)
 use Rattle.std.specs.Prelude.{ℕ, ◌+◌, ◌-◌, ◌*◌, ◌/◌, ◌%◌, ◌^◌, ℤ, pos, ◌+ℤ◌, ◌*ℤ◌, ◌≤ℤ◌, int_div, int_rem, unsigned_abs, ◌≡◌, ◌<◌}
 use Rattle.std.specs.Prelude.{Bool, ◌&&◌, ◌||◌, ◌==◌, if◌then◌else◌, Option, Some, None}
 use Rattle.std.specs.Int.{cast_signed, cast_unsigned, int_shr, int_wrap, w8, w16, w32}

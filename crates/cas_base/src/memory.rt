@@ -2,8 +2,8 @@
 
 use std::alloc::{AllocError, AllocFailed};
 
-/// Out of memory, or out of numbers to count what memory would have to hold: 2^32 items. It is an answer of its own, and no
-/// fault of a text is merged with it.
+/// Out of memory, or out of numbers to count what memory would have to hold: 2^32 items. It is an answer of its
+/// own, and no fault of a text is merged with it.
 #[derive(Clone, Copy, Debug, PartialEq, Eq, Hash)]
 pub struct NoMemory;
 

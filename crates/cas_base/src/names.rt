@@ -68,14 +68,22 @@ impl<'a, const N: usize> Names<'a, N> {
 fn row_at<'a>(text: &'a str, k: usize) -> Option<&'a str>
     ensures { option_map (λ row. row.now) result ≡ slice_get (rows_of text.entry.now) k }
 {
-    text.split(' ').nth(k)
+    let row = bytes_at(text, k)?;
+    std::str::from_utf8(row).ok()
+}
+
+// The bytes of the row with a number.
+fn bytes_at<'a>(text: &'a str, k: usize) -> Option<&'a [u8]>
+    ensures { option_map (λ row. row.now) result ≡ slice_get (rows_of text.entry.now) k }
+{
+    text.as_bytes().split(|byte| *byte == b' ').nth(k)
 }
 
 // Whether a text has so many rows.
 fn has_rows(text: &str, count: usize) -> bool
     ensures { result ≡ nat_eq (length (rows_of text.now)) count }
 {
-    text.split(' ').count() == count
+    text.as_bytes().split(|byte| *byte == b' ').count() == count
 }
 
 // The number of the first row that is a text.

@@ -37,7 +37,8 @@ fn write_function<W: fmt::Write>(
     params: &[Ty],
     holds: &[Name],
 ) -> fmt::Result
-    ensures { DisplaysOnOk W.write_str_gives f.old result (Some (function_text name.now ret params.now holds.now)) f.new }
+    ensures { DisplaysOnOk W.write_str_gives f.old result
+        (Some (function_text name.now ret params.now holds.now)) f.new }
 {
     write!(f, "function {name} {ret} ")?;
     write_types(f, params)?;

@@ -5,7 +5,8 @@ use Rattle.cas_base.specs.declared.decl.Decl.{Decl}
 use Rattle.cas_base.specs.declared.decl.Form.{Form}
 use Rattle.cas_own.specs.Locks.{guard_of_form, holds_of_form}
 
-told_of : {X : Type 0} (f : Form → X) (decls : List (Bor Decl)) → map (λ d. f d.now.form) decls ≡ map (λ d. f d.form) (map (λ d. d.now) decls)
+told_of : {X : Type 0} (f : Form → X) (decls : List (Bor Decl)) →
+    map (λ d. f d.now.form) decls ≡ map (λ d. f d.form) (map (λ d. d.now) decls)
 told_of f [] = refl
 told_of f (d ∷ decls) = ap (λ xs. f d.now.form ∷ xs) (told_of f decls)
 

@@ -21,25 +21,32 @@ fit_prop : (ds : List Decl) (fs : List TypedFun) → IsProp (FunctionsFit ds fs)
 fit_prop ds [] = Unit-prop
 fit_prop ds (f ∷ fs) = ×_prop ∥∥₁_prop (fit_prop ds fs)
 
-each_fits : (ds : List Decl) (rs : List TypedFunTree) (fs : List TypedFun) → AreFunctionsOf rs fs → AllByRecursion (IsSortedFunction ds) rs → FunctionsFit ds fs
+each_fits : (ds : List Decl) (rs : List TypedFunTree) (fs : List TypedFun) → AreFunctionsOf rs fs →
+    AllByRecursion (IsSortedFunction ds) rs → FunctionsFit ds fs
 each_fits ds [] [] are sorted = tt
 each_fits ds (r ∷ rs) (f ∷ fs) are sorted = (∣ (r, are.0, sorted.0) ∣₁, each_fits ds rs fs are.1 sorted.1)
 each_fits ds [] (f ∷ fs) are sorted = absurd are
 each_fits ds (r ∷ rs) [] are sorted = absurd are
 
-one_fits : (ds : List Decl) (m : ModuleTree) (fs : List TypedFun) (r : TypedModuleTree) → ds ≡ map decl_of m.items → AreTypedAs m fs r → FunctionsFit ds fs
+one_fits : (ds : List Decl) (m : ModuleTree) (fs : List TypedFun) (r : TypedModuleTree) → ds ≡ map decl_of m.items →
+    AreTypedAs m fs r → FunctionsFit ds fs
 one_fits ds m fs r is typed =
-    let same : map decl_of r.module_tree.items ≡ ds = ap (λ (t : ModuleTree). map decl_of t.items) typed.module_tree ∙ sym is in
+    let same : map decl_of r.module_tree.items ≡ ds = ap (λ (t : ModuleTree). map decl_of t.items) typed.module_tree
+    ∙ sym is in
     each_fits ds r.functions fs typed.functions
     (recursion_from_All (IsSortedFunction ds) r.functions
-    (subst (λ (all : List Decl). All (IsSortedFunction all) r.functions) same (IsTyped-sorted r.module_tree r typed.typed)))
+    (subst (λ (all : List Decl). All (IsSortedFunction all) r.functions) same
+    (IsTyped-sorted r.module_tree r typed.typed)))
 
 -- the functions of a typed module fit
-pub typed_fit : (ds : List Decl) (m : ModuleTree) (fs : List TypedFun) → ds ≡ map decl_of m.items → ∥ ((r : TypedModuleTree) × AreTypedAs m fs r) ∥₁ → FunctionsFit ds fs
-typed_fit ds m fs is typed = ∥∥₁_elim typed (fit_prop ds fs) (λ (w : (r : TypedModuleTree) × AreTypedAs m fs r). one_fits ds m fs w.0 is w.1)
+pub typed_fit : (ds : List Decl) (m : ModuleTree) (fs : List TypedFun) → ds ≡ map decl_of m.items →
+    ∥ ((r : TypedModuleTree) × AreTypedAs m fs r) ∥₁ → FunctionsFit ds fs
+typed_fit ds m fs is typed = ∥∥₁_elim typed (fit_prop ds fs)
+    (λ (w : (r : TypedModuleTree) × AreTypedAs m fs r). one_fits ds m fs w.0 is w.1)
 
 -- the faults of its items are the module's
-pub typed_answers : (ds : List Decl) (m : ModuleTree) (fs : List TypedFun) (r : TypedModuleTree) (result : Result ⊤ OwnFault) → ds ≡ map decl_of m.items → AreTypedAs m fs r
+pub typed_answers : (ds : List Decl) (m : ModuleTree) (fs : List TypedFun) (r : TypedModuleTree)
+    (result : Result ⊤ OwnFault) → ds ≡ map decl_of m.items → AreTypedAs m fs r
     → Answers result (items_fault ds [] m.items r.functions) → Answers result (own_fault r)
 typed_answers ds m fs r result is typed answers =
     subst (Answers result)

@@ -15,10 +15,12 @@ pub followed_by_nothing : (o : Option Parts) → followed_by (record { names = [
 followed_by_nothing None = refl
 followed_by_nothing (Some more) = refl
 
-followed_by-named : (p : Parts) (name : List ℕ) (o : Option Parts) → followed_by (named p name) o ≡ followed_by p (option_map (with_name name) o)
+followed_by-named : (p : Parts) (name : List ℕ) (o : Option Parts) →
+    followed_by (named p name) o ≡ followed_by p (option_map (with_name name) o)
 followed_by-named p name None = refl
 followed_by-named p name (Some more) =
-    ap (λ names. Some (record { names = names; options = p.options ++ more.options })) (append_assoc p.names (name ∷ []) more.names)
+    ap (λ names. Some (record { names = names; options = p.options ++ more.options }))
+    (append_assoc p.names (name ∷ []) more.names)
 
 followed_by-given : (p : Parts) (option value : List ℕ) (o : Option Parts)
     → followed_by (given p option value) o ≡ followed_by p (option_map (with_option option value) o)
@@ -32,7 +34,8 @@ pub step_value : (p : Parts) (option word : List ℕ) (words : List (List ℕ)) 
     → followed_by (given p option word) (parts_of None words) ≡ followed_by p (parts_of (Some option) (word ∷ words))
 step_value p option word words plain =
     followed_by-given p option word (parts_of None words)
-    ∙ ap (λ dash. followed_by p (cond dash None (option_map (with_option option word) (parts_of None words)))) (sym plain)
+    ∙ ap (λ dash. followed_by p (cond dash None (option_map (with_option option word) (parts_of None words))))
+    (sym plain)
 
 pub value_missing : (p : Parts) (option word : List ℕ) (words : List (List ℕ)) → has_dash word ≡ true
     → None ≡ followed_by p (parts_of (Some option) (word ∷ words))
@@ -43,7 +46,8 @@ abbrev behind_dash : (word : List ℕ) → (words : List (List ℕ)) → Option 
 behind_dash word words cut =
     option_map_or (λ cut. option_map (with_option cut.0 cut.1) (parts_of None words)) cut (parts_of (Some word) words)
 
-abbrev by_tests : (word : List ℕ) → (words : List (List ℕ)) → (dashes dash : Bool) → Option (List ℕ × List ℕ) → Option Parts
+abbrev by_tests : (word : List ℕ) → (words : List (List ℕ)) → (dashes dash : Bool) → Option (List ℕ × List ℕ) →
+    Option Parts
 by_tests word words dashes dash cut =
     cond dashes (Some (record { names = words; options = [] }))
     (cond dash (behind_dash word words cut) (option_map (with_name word) (parts_of None words)))
@@ -57,7 +61,8 @@ same_by_tests word words dashes dash cut e f g =
     ∙ ap (λ c. by_tests word words dashes dash c) g
 
 -- a name
-pub step_name : (p : Parts) (word : List ℕ) (words : List (List ℕ)) → bytes_eq word (codes "--") ≡ false → has_dash word ≡ false
+pub step_name : (p : Parts) (word : List ℕ) (words : List (List ℕ)) → bytes_eq word (codes "--") ≡ false →
+    has_dash word ≡ false
     → followed_by (named p word) (parts_of None words) ≡ followed_by p (parts_of None (word ∷ words))
 step_name p word words e plain =
     followed_by-named p word (parts_of None words)

@@ -19,12 +19,14 @@ use Rattle.cas_command.specs.Parts.{given_view, text_of}
 use Rattle.cas_command.specs.Words as w
 
 -- a test of all elements is one of all that they stand for
-pub list_all-map : {X Y : Type 0} (test : Y → Bool) (f : X → Y) (xs : List X) → list_all (λ x. test (f x)) xs ≡ list_all test (map f xs)
+pub list_all-map : {X Y : Type 0} (test : Y → Bool) (f : X → Y) (xs : List X) →
+    list_all (λ x. test (f x)) xs ≡ list_all test (map f xs)
 list_all-map test f [] = refl
 list_all-map test f (x ∷ xs) = ap (λ b. test (f x) && b) (list_all-map test f xs)
 
 -- the first element that passes, by what the elements stand for
-pub find-map : {X Y : Type 0} (test : Y → Bool) (f : X → Y) (xs : List X) → option_map f (find (λ x. test (f x)) xs) ≡ find test (map f xs)
+pub find-map : {X Y : Type 0} (test : Y → Bool) (f : X → Y) (xs : List X) →
+    option_map f (find (λ x. test (f x)) xs) ≡ find test (map f xs)
 find-map test f [] = refl
 find-map test f (x ∷ xs) = by (test (f x)) (find-map test f xs)
   where
@@ -34,7 +36,8 @@ find-map test f (x ∷ xs) = by (test (f x)) (find-map test f xs)
     by false rest = rest
 
 pub list_all-digits : (text : List ℕ) → list_all is_ascii_digit text ≡ all_ascii_digits text
-list_all-digits text = same_from_clauses (list_all is_ascii_digit) all_ascii_digits (λ c digits. is_ascii_digit c && digits) refl (λ _ _. refl) (λ _ _. refl) text
+list_all-digits text = same_from_clauses (list_all is_ascii_digit) all_ascii_digits
+    (λ c digits. is_ascii_digit c && digits) refl (λ _ _. refl) (λ _ _. refl) text
 
 both : (a b : Bool) → (a && b) ≡ true → (a ≡ true) × (b ≡ true)
 both true b e = (refl, e)
@@ -47,7 +50,8 @@ abbrev is_number : List ℕ → Bool
 is_number text = ltb 0 (length text) && leb (length text) 10 && all_ascii_digits text
 
 -- a number is read by `parse`
-pub number_of-parsed : {E : Type 0} (text : List ℕ) (r : Result ℕ E) → ParsesUnsigned 64 10 text r → is_number text ≡ true
+pub number_of-parsed : {E : Type 0} (text : List ℕ) (r : Result ℕ E) → ParsesUnsigned 64 10 text r →
+    is_number text ≡ true
     → r ≡ Ok (digits_value 10 text)
 number_of-parsed text r parsed e =
     let all = both (ltb 0 (length text) && leb (length text) 10) (all_ascii_digits text) e in
@@ -61,18 +65,23 @@ pub value_of-found : (option : List ℕ) (options : List Given) (r : Option (Bor
     → option_map (λ g. g.now.value.now) r ≡ w.value_of option (map given_view options)
 value_of-found option options None found =
     ap (λ o. option_map (λ (g : w.Given). g.value) (option_map given_view o)) found
-    ∙ ap (option_map (λ (g : w.Given). g.value)) (find-map (λ (g : w.Given). bytes_eq g.option option) given_view options)
+    ∙ ap (option_map (λ (g : w.Given). g.value)) (find-map (λ (g : w.Given). bytes_eq g.option option)
+    given_view options)
 value_of-found option options (Some g) found =
     ap (λ o. option_map (λ (g : w.Given). g.value) (option_map given_view o)) found
-    ∙ ap (option_map (λ (g : w.Given). g.value)) (find-map (λ (g : w.Given). bytes_eq g.option option) given_view options)
+    ∙ ap (option_map (λ (g : w.Given). g.value)) (find-map (λ (g : w.Given). bytes_eq g.option option)
+    given_view options)
 
 -- an option that stands among others has a value there
-is_some-value_of : (option : List ℕ) (others : List w.Given) → list_any (λ other. bytes_eq other.option option) others ≡ is_some (w.value_of option others)
+is_some-value_of : (option : List ℕ) (others : List w.Given) →
+    list_any (λ other. bytes_eq other.option option) others ≡ is_some (w.value_of option others)
 is_some-value_of option [] = refl
 is_some-value_of option (g ∷ others) = by (bytes_eq g.option option) (is_some-value_of option others)
   where
     by : (b : Bool) → list_any (λ other. bytes_eq other.option option) others ≡ is_some (w.value_of option others)
-        → (b || list_any (λ other. bytes_eq other.option option) others) ≡ is_some (option_map (λ (g : w.Given). g.value) (cond b (Some g) (find (λ other. bytes_eq other.option option) others)))
+        → (b || list_any (λ other. bytes_eq other.option option) others) ≡ is_some
+        (option_map (λ (g : w.Given). g.value)
+        (cond b (Some g) (find (λ other. bytes_eq other.option option) others)))
     by true rest = refl
     by false rest = rest
 
@@ -84,21 +93,28 @@ stand_once-from g others value e =
 
 at_place : (options : List Given) (place : ℕ) (d : Given) → place < length options
     → drop place options ≡ get_or options place d ∷ drop (place + 1) options
-at_place options place d within = drop-cons options place d within ∙ ap (λ n. get_or options place d ∷ drop n options) (sym (add-one place))
+at_place options place d within = drop-cons options place d within
+    ∙ ap (λ n. get_or options place d ∷ drop n options) (sym (add-one place))
 
-behind : (options : List Given) (place : ℕ) → take (length options - (place + 1)) (drop (place + 1) options) ≡ drop (place + 1) options
-behind options place = take_all (length options - (place + 1)) (drop (place + 1) options) (omega (arith, length-drop (place + 1) options))
+behind : (options : List Given) (place : ℕ) → take (length options - (place + 1)) (drop (place + 1) options) ≡ drop
+    (place + 1) options
+behind options place = take_all (length options - (place + 1)) (drop (place + 1) options)
+    (omega (arith, length-drop (place + 1) options))
 
-pub stand_once-place : (options : List Given) (place : ℕ) (d : Given) (value : Option (Bor (List ℕ))) → place < length options
-    → text_of value ≡ w.value_of (get_or options place d).option.now (map given_view (take (length options - (place + 1)) (drop (place + 1) options)))
-    → w.stand_once (map given_view (drop place options)) ≡ (not (is_some value) && w.stand_once (map given_view (drop (place + 1) options)))
+pub stand_once-place : (options : List Given) (place : ℕ) (d : Given) (value : Option (Bor (List ℕ))) →
+    place < length options
+    → text_of value ≡ w.value_of (get_or options place d).option.now
+    (map given_view (take (length options - (place + 1)) (drop (place + 1) options)))
+    → w.stand_once (map given_view (drop place options)) ≡
+    (not (is_some value) && w.stand_once (map given_view (drop (place + 1) options)))
 stand_once-place options place d value within e =
     ap (λ os. w.stand_once (map given_view os)) (at_place options place d within)
     ∙ stand_once-from (given_view (get_or options place d)) (map given_view (drop (place + 1) options)) (text_of value)
     (e ∙ ap (λ os. w.value_of (get_or options place d).option.now (map given_view os)) (behind options place))
     ∙ some value
   where
-    some : (value : Option (Bor (List ℕ))) → (not (is_some (text_of value)) && w.stand_once (map given_view (drop (place + 1) options)))
+    some : (value : Option (Bor (List ℕ))) →
+        (not (is_some (text_of value)) && w.stand_once (map given_view (drop (place + 1) options)))
         ≡ (not (is_some value) && w.stand_once (map given_view (drop (place + 1) options)))
     some None = refl
     some (Some v) = refl

@@ -60,17 +60,20 @@ abbrev pub with_option : (option value : List ℕ) → Parts → Parts
 with_option option value parts =
     record { names = parts.names; options = record { option = option; value = value } ∷ parts.options }
 
--- The words apart, where the first of them is the value of the option that waits for one. A word that begins with `-` is
+-- The words apart, where the first of them is the value of the option that waits for one. A word that begins with `-`
+-- is
 -- no such value. Behind `--` all words are names; before it a word that begins with `-` is an option, whose value is
 -- behind its first `=`, or else the next word; each other word is a name.
 abbrev pub parts_of : (waiting : Option (List ℕ)) → (words : List (List ℕ)) → Option Parts
 parts_of (Some option) [] = None
-parts_of (Some option) (word ∷ words) = if has_dash word then None else option_map (with_option option word) (parts_of None words)
+parts_of (Some option) (word ∷ words) = if has_dash word then None else option_map (with_option option word)
+    (parts_of None words)
 parts_of None [] = Some (record { names = []; options = [] })
 parts_of None (word ∷ words) =
     if bytes_eq word (codes "--") then Some (record { names = words; options = [] })
     else if has_dash word
-    then option_map_or (λ cut. option_map (with_option cut.0 cut.1) (parts_of None words)) (cut_at 61 word) (parts_of (Some word) words)
+    then option_map_or (λ cut. option_map (with_option cut.0 cut.1) (parts_of None words)) (cut_at 61 word)
+    (parts_of (Some word) words)
     else option_map (with_name word) (parts_of None words)
 
 -- a text may have this name: it isn't empty, nor `-` alone
@@ -97,7 +100,8 @@ value_of option options = option_map (λ given. given.value) (find (λ given. by
 -- a number, of one to ten decimal digits
 abbrev pub number_of : List ℕ → Option ℕ
 number_of text =
-    if nat_lt 0 (length text) && nat_le (length text) DIGIT_LIMIT && all_ascii_digits text then Some (digits_value 10 text) else None
+    if nat_lt 0 (length text) && nat_le (length text) DIGIT_LIMIT && all_ascii_digits text then Some
+    (digits_value 10 text) else None
 
 -- the parts of a text that commas join
 abbrev pub listed : List ℕ → List (List ℕ)
@@ -105,7 +109,8 @@ listed text = slice_split (λ b. b == 44) text
 
 -- the functions of the threads: names of the source language, at most 64
 abbrev pub threads_of : List ℕ → Option (List (List ℕ))
-threads_of text = if nat_le (length (listed text)) THREAD_LIMIT && list_all is_name (listed text) then Some (listed text) else None
+threads_of text = if nat_le (length (listed text)) THREAD_LIMIT && list_all is_name (listed text) then Some
+    (listed text) else None
 
 -- the number of one of so many threads
 abbrev pub thread_of : (threads : ℕ) → List ℕ → Option ℕ
@@ -118,7 +123,8 @@ count_of text = option_and_then (λ n. if nat_lt 0 n && nat_le n TURN_LIMIT then
 -- an item of a schedule: `i` or `i*n`
 abbrev pub item_of : (threads : ℕ) → List ℕ → Option (ℕ × ℕ)
 item_of threads text =
-    option_map_or (λ cut. option_and_then (λ i. option_map (λ n. (i, n)) (count_of cut.1)) (thread_of threads cut.0)) (cut_at 42 text)
+    option_map_or (λ cut. option_and_then (λ i. option_map (λ n. (i, n)) (count_of cut.1)) (thread_of threads cut.0))
+    (cut_at 42 text)
     (option_map (λ i. (i, 1)) (thread_of threads text))
 
 -- the items of these texts, where each has one
@@ -130,7 +136,8 @@ items_of threads (text ∷ texts) =
 -- a schedule of at most 10,000,000 turns
 abbrev pub schedule_of : (threads : ℕ) → List ℕ → Option (List (ℕ × ℕ))
 schedule_of threads text =
-    option_and_then (λ items. if nat_le (sum_by (λ item. item.1) items) TURN_LIMIT then Some items else None) (items_of threads (listed text))
+    option_and_then (λ items. if nat_le (sum_by (λ item. item.1) items) TURN_LIMIT then Some items else None)
+    (items_of threads (listed text))
 
 -- at most 1,000,000 rounds
 abbrev pub rounds_of : List ℕ → Option ℕ
@@ -166,7 +173,8 @@ abbrev pub world_from : Parts → Option Command
 world_from parts =
     option_and_then (λ threads.
     option_map (λ turns. world (record { names = parts.names; threads = threads; turns = turns }))
-    (turns_of (length threads) (value_of (codes "--schedule") parts.options) (value_of (codes "--rounds") parts.options)))
+    (turns_of (length threads) (value_of (codes "--schedule") parts.options)
+    (value_of (codes "--rounds") parts.options)))
     (option_and_then threads_of (value_of (codes "--threads") parts.options))
 
 -- `world NAME.. --threads LIST [--schedule S] [--rounds N]`

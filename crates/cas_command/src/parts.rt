@@ -97,7 +97,8 @@ impl<'a> Parts<'a> {
     fn add_word(&mut self, word: &'a str) -> Result<Option<&'a str>, NoMemory>
         requires { bytes_eq word.now (codes "--") ≡ false }
         ensures { IfOk result (λ waiting. (words : List (List ℕ)) →
-            followed_by self.new (parts_of (text_of waiting) words) ≡ followed_by self.old (parts_of None (word.entry.now ∷ words))) }
+            followed_by self.new (parts_of (text_of waiting) words)
+            ≡ followed_by self.old (parts_of None (word.entry.now ∷ words))) }
     {
         if !has_dash(word) {
             self.add_name(word)?;

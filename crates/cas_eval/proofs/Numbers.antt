@@ -14,7 +14,8 @@ negated z = omega (arith, ints)
 fits_negated : (z : ℤ) → negsuc (2 ^ 32) ≤ℤ z → z ≤ℤ pos (2 ^ 32) → SFits w64 (neg_ℤ z)
 fits_negated z low high = omega (arith, ints)
 
-pub passed_negated : (z : ℤ) → negsuc (2 ^ 32) ≤ℤ z → z ≤ℤ pos (2 ^ 32) → to_z w64 (of_z w64 (pos 0 -ℤ to_z w64 (of_z w64 z))) ≡ neg_ℤ z
+pub passed_negated : (z : ℤ) → negsuc (2 ^ 32) ≤ℤ z → z ≤ℤ pos (2 ^ 32) →
+    to_z w64 (of_z w64 (pos 0 -ℤ to_z w64 (of_z w64 z))) ≡ neg_ℤ z
 passed_negated z low high =
     ap (λ y. to_z w64 (of_z w64 (pos 0 -ℤ y))) (passed z low high)
     ∙ ap (λ y. to_z w64 (of_z w64 y)) (negated z)

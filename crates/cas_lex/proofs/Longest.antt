@@ -11,7 +11,8 @@ both true b h = (refl, h)
 both false b h = cc
 
 -- an element passes what all pass
-passes_at : {X : Type 0} (p : X → Bool) (xs : List X) (k : ℕ) (x : X) → list_all p xs ≡ true → slice_get xs k ≡ Some x → p x ≡ true
+passes_at : {X : Type 0} (p : X → Bool) (xs : List X) (k : ℕ) (x : X) → list_all p xs ≡ true → slice_get xs k ≡ Some x →
+    p x ≡ true
 passes_at p [] k x all is = cc
 passes_at p (y ∷ ys) zero x all is = let same : y ≡ x = cc in rw (sym same) (both _ _ all).0
 passes_at p (y ∷ ys) (suc k) x all is = passes_at p ys k x (both _ _ all).1 is
@@ -19,13 +20,18 @@ passes_at p (y ∷ ys) (suc k) x all is = passes_at p ys k x (both _ _ all).1 is
 -- no later sign is longer
 abbrev is_falling : List Sign → Bool
 is_falling [] = true
-is_falling (s ∷ rest) = list_all (λ t. nat_le (length (sign_spelling t)) (length (sign_spelling s))) rest && is_falling rest
+is_falling (s ∷ rest) = list_all (λ t. nat_le (length (sign_spelling t)) (length (sign_spelling s)))
+    rest && is_falling rest
 
-first_is_longest : (p : Sign → Bool) (all : List Sign) (k : ℕ) (s t : Sign) → is_falling all ≡ true → find p all ≡ Some s → slice_get all k ≡ Some t → p t ≡ true → length (sign_spelling t) ≤ length (sign_spelling s)
+first_is_longest : (p : Sign → Bool) (all : List Sign) (k : ℕ) (s t : Sign) → is_falling all ≡ true →
+    find p all ≡ Some s → slice_get all k ≡ Some t → p t ≡ true → length (sign_spelling t) ≤ length (sign_spelling s)
 first_is_longest p [] k s t falling found is passes = cc
-first_is_longest p (x ∷ rest) k s t falling found is passes = step (p x) refl found k is (λ j. first_is_longest p rest j s t (both _ _ falling).1)
+first_is_longest p (x ∷ rest) k s t falling found is passes =
+    step (p x) refl found k is (λ j. first_is_longest p rest j s t (both _ _ falling).1)
   where
-    step : (b : Bool) → p x ≡ b → cond b (Some x) (find p rest) ≡ Some s → (k : ℕ) → slice_get (x ∷ rest) k ≡ Some t → ((j : ℕ) → find p rest ≡ Some s → slice_get rest j ≡ Some t → p t ≡ true → length (sign_spelling t) ≤ length (sign_spelling s)) → length (sign_spelling t) ≤ length (sign_spelling s)
+    step : (b : Bool) → p x ≡ b → cond b (Some x) (find p rest) ≡ Some s → (k : ℕ) → slice_get (x ∷ rest) k ≡ Some t →
+        ((j : ℕ) → find p rest ≡ Some s → slice_get rest j ≡ Some t → p t ≡ true →
+        length (sign_spelling t) ≤ length (sign_spelling s)) → length (sign_spelling t) ≤ length (sign_spelling s)
     step true now found zero is later =
         let one : x ≡ s = cc in
         let other : x ≡ t = cc in
@@ -33,7 +39,8 @@ first_is_longest p (x ∷ rest) k s t falling found is passes = step (p x) refl 
         rw same (omega arith)
     step true now found (suc j) is later =
         let one : x ≡ s = cc in
-        let le = passes_at (λ t. nat_le (length (sign_spelling t)) (length (sign_spelling x))) rest j t (both _ _ falling).0 is in
+        let le = passes_at (λ t. nat_le (length (sign_spelling t)) (length (sign_spelling x))) rest j t
+        (both _ _ falling).0 is in
         rw (sym one) (grind (arith, nat_tests))
     step false not_now found zero is later = let same : x ≡ t = cc in cc
     step false not_now found (suc j) is later = later j found is passes
@@ -84,22 +91,26 @@ place_of s.OpenBrace = (41, refl)
 place_of s.CloseBrace = (42, refl)
 
 -- what is read is no shorter than any sign that begins the text
-pub sign_at-longest : (text : List ℕ) (s t : Sign) → sign_at text ≡ Some s → starts_with nat_eq text (sign_spelling t) ≡ true → length (sign_spelling t) ≤ length (sign_spelling s)
+pub sign_at-longest : (text : List ℕ) (s t : Sign) → sign_at text ≡ Some s →
+    starts_with nat_eq text (sign_spelling t) ≡ true → length (sign_spelling t) ≤ length (sign_spelling s)
 sign_at-longest text s t found begins =
     let place = place_of t in
     first_is_longest (λ s. starts_with nat_eq text (sign_spelling s)) signs place.0 s t refl found place.1 begins
 
-find_none : (p : Sign → Bool) (all : List Sign) (k : ℕ) (t : Sign) → find p all ≡ None → slice_get all k ≡ Some t → p t ≡ true → ⊥
+find_none : (p : Sign → Bool) (all : List Sign) (k : ℕ) (t : Sign) → find p all ≡ None → slice_get all k ≡ Some t →
+    p t ≡ true → ⊥
 find_none p [] k t none is passes = cc
 find_none p (x ∷ rest) k t none is passes = step (p x) refl none k is (λ j. find_none p rest j t)
   where
-    step : (b : Bool) → p x ≡ b → cond b (Some x) (find p rest) ≡ None → (k : ℕ) → slice_get (x ∷ rest) k ≡ Some t → ((j : ℕ) → find p rest ≡ None → slice_get rest j ≡ Some t → p t ≡ true → ⊥) → ⊥
+    step : (b : Bool) → p x ≡ b → cond b (Some x) (find p rest) ≡ None → (k : ℕ) → slice_get (x ∷ rest) k ≡ Some t →
+        ((j : ℕ) → find p rest ≡ None → slice_get rest j ≡ Some t → p t ≡ true → ⊥) → ⊥
     step true now none k is later = cc
     step false not_now none zero is later = let same : x ≡ t = cc in cc
     step false not_now none (suc j) is later = later j none is passes
 
 -- where none is read, none begins the text
-pub sign_at-none : (text : List ℕ) (t : Sign) → sign_at text ≡ None → starts_with nat_eq text (sign_spelling t) ≡ true → ⊥
+pub sign_at-none : (text : List ℕ) (t : Sign) → sign_at text ≡ None → starts_with nat_eq text (sign_spelling t) ≡ true →
+    ⊥
 sign_at-none text t none begins =
     let place = place_of t in
     find_none (λ s. starts_with nat_eq text (sign_spelling s)) signs place.0 t none place.1 begins

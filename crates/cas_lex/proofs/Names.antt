@@ -14,7 +14,8 @@ pub list_all-take_while : (p : ℕ → Bool) (xs : List ℕ) → list_all p (tak
 list_all-take_while p [] = refl
 list_all-take_while p (x ∷ xs) = rw (take_while-cons p x xs) (step (p x) refl (list_all-take_while p xs))
   where
-    step : (b : Bool) → p x ≡ b → list_all p (take_while p xs) ≡ true → list_all p (cond b (x ∷ take_while p xs) []) ≡ true
+    step : (b : Bool) → p x ≡ b → list_all p (take_while p xs) ≡ true →
+        list_all p (cond b (x ∷ take_while p xs) []) ≡ true
     step true passes rest = rw (passes, rest) refl
     step false fails rest = refl
 
@@ -26,7 +27,8 @@ name_ascii : (bs : List ℕ) → list_all is_name_byte bs ≡ true → IsAscii b
 name_ascii [] h = IsAscii-nil
 name_ascii (b ∷ bs) h = both (is_name_byte b) refl h (name_ascii bs)
   where
-    both : (t : Bool) → is_name_byte b ≡ t → (t && list_all is_name_byte bs) ≡ true → (list_all is_name_byte bs ≡ true → IsAscii bs) → IsAscii (b ∷ bs)
+    both : (t : Bool) → is_name_byte b ≡ t → (t && list_all is_name_byte bs) ≡ true →
+        (list_all is_name_byte bs ≡ true → IsAscii bs) → IsAscii (b ∷ bs)
     both true passes rest all = IsAscii-cons b bs (name_byte_ascii b passes) (all rest)
     both false fails rest all = cc
 
@@ -35,13 +37,15 @@ pub name_utf8 : (text : List ℕ) → IsUtf8 (take_while is_name_byte text)
 name_utf8 text = IsUtf8-from_ascii _ (name_ascii _ (list_all-take_while is_name_byte text))
 
 -- what a name begins with still begins it
-pub begins-take_while : (b : ℕ) (bs : List ℕ) → is_first_byte b ≡ true → begins_with_letter (take_while is_name_byte (b ∷ bs)) ≡ true
+pub begins-take_while : (b : ℕ) (bs : List ℕ) → is_first_byte b ≡ true →
+    begins_with_letter (take_while is_name_byte (b ∷ bs)) ≡ true
 begins-take_while b bs h = rw (take_while-cons is_name_byte b bs) (rw (first_is_name_byte b h) h)
   where
     first_is_name_byte : (c : ℕ) → is_first_byte c ≡ true → is_name_byte c ≡ true
     first_is_name_byte c h = grind (arith, nat_tests)
 
 -- letters, digits and `_` after a letter or `_` are a name, where they aren't too many
-pub is_name-from : (text : List ℕ) → IsTrue (begins_with_letter text) → IsTrue (list_all is_name_byte text) → length text ≤ 63 → is_name text ≡ true
+pub is_name-from : (text : List ℕ) → IsTrue (begins_with_letter text) → IsTrue (list_all is_name_byte text) →
+    length text ≤ 63 → is_name text ≡ true
 is_name-from [] h all few = cc
 is_name-from (b ∷ bs) h all few = grind (arith, nat_tests)

@@ -92,7 +92,8 @@ is_R7 (Fault R7) = true
 is_R7 found = false
 
 -- the bytes that stand in no module outside comments: controls, `$`, `@`, `\`, a backquote, and all that aren't ASCII
-refused_bytes : filter (λ b. is_R1 (front (b ∷ []))) (drop 10 (below 127)) ≡ filter (λ b. nat_lt b 32 && not (b == 10 || b == 13)) (drop 10 (below 32)) ++ (36 ∷ 64 ∷ 92 ∷ 96 ∷ [])
+refused_bytes : filter (λ b. is_R1 (front (b ∷ []))) (drop 10 (below 127)) ≡ filter
+    (λ b. nat_lt b 32 && not (b == 10 || b == 13)) (drop 10 (below 32)) ++ (36 ∷ 64 ∷ 92 ∷ 96 ∷ [])
 unfolding front_at mark_at
 refused_bytes = refl
 

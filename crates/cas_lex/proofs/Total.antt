@@ -23,12 +23,14 @@ shorter m n text some le = omega (arith, length-drop m text)
 lexed : (n : ℕ) (p : Place) (text : List ℕ) → length text ≤ n → Some_lexed p text
 lexed n p [] le = ([], at_end, ends p)
 lexed zero p (b ∷ bs) le = absurd (omega arith)
-lexed (suc n) p (b ∷ bs) le = step (front (b ∷ bs)) refl (front-within (b ∷ bs) nonempty) (λ q rest short. lexed n q rest short)
+lexed (suc n) p (b ∷ bs) le = step (front (b ∷ bs)) refl (front-within (b ∷ bs) nonempty)
+    (λ q rest short. lexed n q rest short)
   where
     nonempty : b ∷ bs ≡ [] → ⊥
     nonempty h = cc
 
-    step : (found : Front) → front (b ∷ bs) ≡ found → IsWithin (front (b ∷ bs)) (length (b ∷ bs)) → ((q : Place) (rest : List ℕ) → length rest ≤ n → Some_lexed q rest) → Some_lexed p (b ∷ bs)
+    step : (found : Front) → front (b ∷ bs) ≡ found → IsWithin (front (b ∷ bs)) (length (b ∷ bs)) →
+        ((q : Place) (rest : List ℕ) → length rest ≤ n → Some_lexed q rest) → Some_lexed p (b ∷ bs)
     step (f.Blank m) is within next =
         let bounds = rw is at within in
         let rest = next (behind p (take m (b ∷ bs))) (drop m (b ∷ bs)) (shorter m n (b ∷ bs) bounds.0 le) in
@@ -51,4 +53,9 @@ lexed-total text = test (is_utf8 text) refl
     test true is = let good = IsUtf8-from_is_utf8 text is in stopped good (lexed (length text) start text (omega arith))
     test false is =
         let bad : IsUtf8 text → ⊥ = λ good. let h = is_utf8-from_IsUtf8 text good in cc in
-        inr (R1, behind start (take (utf8_valid_len text) text), broken text (behind start (take (utf8_valid_len text) text)) bad refl)
+        inr (
+          R1,
+          behind start (take (utf8_valid_len text) text),
+          broken text
+              (behind start (take (utf8_valid_len text) text)) bad refl,
+        )

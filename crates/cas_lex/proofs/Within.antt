@@ -28,7 +28,8 @@ IsWithin (Token kind m) n = (0 < m) × (m ≤ n)
 IsWithin (Fault code) n = Unit {0}
 
 -- by cases on a test
-choose : (t : Bool) (x y : Front) (n : ℕ) → (t ≡ true → IsWithin x n) → (t ≡ false → IsWithin y n) → IsWithin (if t then x else y) n
+choose : (t : Bool) (x y : Front) (n : ℕ) → (t ≡ true → IsWithin x n) → (t ≡ false → IsWithin y n) →
+    IsWithin (if t then x else y) n
 choose true x y n passes fails = passes refl
 choose false x y n passes fails = fails refl
 
@@ -49,15 +50,18 @@ starts_with-is needle text h = (bytes_eq-Decides needle (take (length needle) te
 
 -- so a text is no shorter
 length-starts_with : (needle text : List ℕ) → starts_with nat_eq text needle ≡ true → length needle ≤ length text
-length-starts_with needle text h = omega (arith, ap length (starts_with-is needle text h), length-take-le (length needle) text)
+length-starts_with needle text h =
+    omega (arith, ap length (starts_with-is needle text h), length-take-le (length needle) text)
 
 -- names
 name-within : (text : List ℕ) (n : ℕ) → 0 < length text → length text ≤ n → IsWithin (name_at text) n
-name-within text n some le = choose (is_left_out text) (Fault R7) (word_or_name (word_of text) text) n (λ _. tt) (λ _. either (word_of text))
+name-within text n some le = choose (is_left_out text) (Fault R7) (word_or_name (word_of text) text) n (λ _. tt)
+    (λ _. either (word_of text))
   where
     either : (w : Option Word) → IsWithin (word_or_name w text) n
     either (Some w) = (some, le)
-    either None = choose (nat_lt 63 (length text)) (Fault R4) (Token (kind.Name text) (length text)) n (λ _. tt) (λ _. (some, le))
+    either None = choose (nat_lt 63 (length text)) (Fault R4) (Token (kind.Name text) (length text)) n (λ _. tt)
+        (λ _. (some, le))
 
 take_while-nonempty : (p : ℕ → Bool) (b : ℕ) (bs : List ℕ) → p b ≡ true → 0 < length (take_while p (b ∷ bs))
 take_while-nonempty p b bs h = rw (take_while-cons p b bs, h) (omega arith)
@@ -70,18 +74,22 @@ begins_with_u-some : (after : List ℕ) → begins_with_u after ≡ true → 1 �
 begins_with_u-some [] h = cc
 begins_with_u-some (b ∷ bs) h = omega arith
 
-ended-within : (value : ℕ) (has_u : Bool) (m : ℕ) (after : List ℕ) (n : ℕ) → 0 < m → m ≤ n → IsWithin (ended_literal value has_u m after) n
+ended-within : (value : ℕ) (has_u : Bool) (m : ℕ) (after : List ℕ) (n : ℕ) → 0 < m → m ≤ n →
+    IsWithin (ended_literal value has_u m after) n
 ended-within value has_u m after n some le = choose (begins_with_letter after) _ _ n (λ _. tt) (λ _. (some, le))
 
-literal_before-within : (value m : ℕ) (after : List ℕ) (n : ℕ) → 0 < m → m + length after ≤ n → IsWithin (literal_before value m after) n
+literal_before-within : (value m : ℕ) (after : List ℕ) (n : ℕ) → 0 < m → m + length after ≤ n →
+    IsWithin (literal_before value m after) n
 literal_before-within value m after n some le =
     choose (nat_lt 4294967295 value) _ _ n (λ _. tt) (λ _.
     choose (begins_with_u after) _ _ n
-    (λ h. let one = begins_with_u-some after h in ended-within value true (m + 1) (drop 1 after) n (omega arith) (omega arith))
+    (λ h. let one = begins_with_u-some after h in ended-within value true (m + 1) (drop 1 after) n (omega arith)
+    (omega arith))
     (λ _. ended-within value false m after n some (omega arith)))
 
 -- the front of a list and what follows it are the list
-length-parts : (p : ℕ → Bool) (xs : List ℕ) → length (take_while p xs) + length (drop (length (take_while p xs)) xs) ≡ length xs
+length-parts : (p : ℕ → Bool) (xs : List ℕ) → length (take_while p xs) + length (drop (length (take_while p xs)) xs)
+    ≡ length xs
 length-parts p xs = let le = length-take_while-le p xs in simp length-drop (omega arith)
 
 is_hexadecimal-some : (text : List ℕ) → is_hexadecimal text ≡ true → 2 ≤ length text
@@ -97,10 +105,12 @@ literal-within b bs digit =
     (λ _. choose (is_octal (take_while is_ascii_digit (b ∷ bs))) _ _ (length (b ∷ bs)) (λ _. tt)
     (λ _. literal_before-within _ _ _ _ (take_while-nonempty is_ascii_digit b bs digit) (decimal (b ∷ bs))))
   where
-    hexadecimal : (text : List ℕ) → 2 ≤ length text → (2 + length (take_while is_ascii_hexdigit (drop 2 text))) + length (drop (length (take_while is_ascii_hexdigit (drop 2 text))) (drop 2 text)) ≤ length text
+    hexadecimal : (text : List ℕ) → 2 ≤ length text → (2 + length (take_while is_ascii_hexdigit (drop 2 text))) + length
+        (drop (length (take_while is_ascii_hexdigit (drop 2 text))) (drop 2 text)) ≤ length text
     hexadecimal text two = omega (arith, length-parts is_ascii_hexdigit (drop 2 text), length-drop 2 text)
 
-    decimal : (text : List ℕ) → length (take_while is_ascii_digit text) + length (drop (length (take_while is_ascii_digit text)) text) ≤ length text
+    decimal : (text : List ℕ) → length (take_while is_ascii_digit text) + length
+        (drop (length (take_while is_ascii_digit text)) text) ≤ length text
     decimal text = omega (arith, length-parts is_ascii_digit text)
 
 -- comments
@@ -108,7 +118,9 @@ closing_len-le : (text : List ℕ) → IfSome (closing_len text) (λ n. n ≤ le
 closing_len-le [] = tt
 closing_len-le (b ∷ bs) = step (starts_with nat_eq (b ∷ bs) (codes "*/")) refl (closing_len bs) (closing_len-le bs)
   where
-    step : (t : Bool) → starts_with nat_eq (b ∷ bs) (codes "*/") ≡ t → (found : Option ℕ) → IfSome found (λ n. n ≤ length bs) → IfSome (if t then Some 2 else option_map (λ n. n + 1) found) (λ n. n ≤ length (b ∷ bs))
+    step : (t : Bool) → starts_with nat_eq (b ∷ bs) (codes "*/") ≡ t → (found : Option ℕ) →
+        IfSome found (λ n. n ≤ length bs) → IfSome (if t then Some 2 else option_map (λ n. n + 1) found)
+        (λ n. n ≤ length (b ∷ bs))
     step true h found rest = length-starts_with (codes "*/") (b ∷ bs) h
     step false h None rest = tt
     step false h (Some n) rest = omega arith
@@ -116,12 +128,18 @@ closing_len-le (b ∷ bs) = step (starts_with nat_eq (b ∷ bs) (codes "*/")) re
 block-within : (text : List ℕ) → 2 ≤ length text → IsWithin (block_comment (block_comment_len text)) (length text)
 block-within text two = step (closing_len (drop 2 text)) (closing_len-le (drop 2 text))
   where
-    step : (found : Option ℕ) → IfSome found (λ n. n ≤ length (drop 2 text)) → IsWithin (block_comment (option_map (λ n. n + 2) found)) (length text)
+    step : (found : Option ℕ) → IfSome found (λ n. n ≤ length (drop 2 text)) →
+        IsWithin (block_comment (option_map (λ n. n + 2) found)) (length text)
     step None h = tt
     step (Some n) h = (omega arith, omega (arith, length-drop 2 text))
 
-line-within : (b : ℕ) (bs : List ℕ) → starts_with nat_eq (b ∷ bs) (codes "//") ≡ true → IsWithin (Blank (line_comment_len (b ∷ bs))) (length (b ∷ bs))
-line-within b bs h = (positive (let is = starts_with-is (codes "//") (b ∷ bs) h in cc), prefix_len-le-length (λ b. not (b == 10)) (b ∷ bs))
+line-within : (b : ℕ) (bs : List ℕ) → starts_with nat_eq (b ∷ bs) (codes "//") ≡ true →
+    IsWithin (Blank (line_comment_len (b ∷ bs))) (length (b ∷ bs))
+line-within b bs h = (
+  positive (let is = starts_with-is (codes "//") (b ∷ bs) h in cc),
+  prefix_len-le-length (λ b. not (b == 10))
+      (b ∷ bs),
+)
   where
     positive : b ≡ 47 → 0 < line_comment_len (b ∷ bs)
     positive is = rw is (omega arith)
@@ -172,7 +190,8 @@ sign_spelling-some s.CloseBracket = lit< tt
 sign_spelling-some s.OpenBrace = lit< tt
 sign_spelling-some s.CloseBrace = lit< tt
 
-pub sign_at-begins : (text : List ℕ) (s : Sign) → sign_at text ≡ Some s → starts_with nat_eq text (sign_spelling s) ≡ true
+pub sign_at-begins : (text : List ℕ) (s : Sign) → sign_at text ≡ Some s →
+    starts_with nat_eq text (sign_spelling s) ≡ true
 sign_at-begins text s h = find-passes (λ s. starts_with nat_eq text (sign_spelling s)) signs s h
 
 sign-within : (text : List ℕ) → IsWithin (sign_front (sign_at text)) (length text)
@@ -188,13 +207,15 @@ mark-within b bs =
     choose (is_blank b) _ _ _ (λ _. (omega arith, omega arith)) (λ _.
     choose (not (is_character b)) _ _ _ (λ _. tt) (λ _.
     choose (starts_with nat_eq (b ∷ bs) (codes "//")) _ _ _ (line-within b bs) (λ _.
-    choose (starts_with nat_eq (b ∷ bs) (codes "/*")) _ _ _ (λ h. block-within (b ∷ bs) (length-starts_with (codes "/*") (b ∷ bs) h)) (λ _.
+    choose (starts_with nat_eq (b ∷ bs) (codes "/*")) _ _ _
+    (λ h. block-within (b ∷ bs) (length-starts_with (codes "/*") (b ∷ bs) h)) (λ _.
     choose (starts_with nat_eq (b ∷ bs) (codes "->")) _ _ _ (λ _. tt) (λ _. sign-within (b ∷ bs))))))
 
 front_at-within : (b : ℕ) (bs : List ℕ) → IsWithin (front (b ∷ bs)) (length (b ∷ bs))
 unfolding front_at
 front_at-within b bs =
-    choose (is_first_byte b) _ _ _ (λ h. name-within (take_while is_name_byte (b ∷ bs)) _ (name-some h) (length-take_while-le is_name_byte (b ∷ bs))) (λ _.
+    choose (is_first_byte b) _ _ _ (λ h. name-within (take_while is_name_byte (b ∷ bs)) _ (name-some h)
+    (length-take_while-le is_name_byte (b ∷ bs))) (λ _.
     choose (is_ascii_digit b) _ _ _ (literal-within b bs) (λ _. mark-within b bs))
   where
     first_is_name_byte : (c : ℕ) → is_first_byte c ≡ true → is_name_byte c ≡ true

@@ -112,7 +112,8 @@ fn first_text<'a>(texts: &'a [(String, Vec<u8>)], name: &str) -> Option<&'a [u8]
 
 /// Keeps the name of a read that failed, if there is memory for it.
 fn note(alloc: Global, failed: &mut Vec<String>, name: &str) -> ShelfFault
-    ensures names { names_as_bytes failed.new.items ≡ failed_after (names_as_bytes failed.old.items) name.now (Err result) }
+    ensures names { names_as_bytes failed.new.items
+        ≡ failed_after (names_as_bytes failed.old.items) name.now (Err result) }
     ensures failure { IsFailure (Err result) }
 {
     match String::from_str(alloc, name) {

@@ -60,7 +60,8 @@ block body = t.block (at 50) (stmts body)
 -- print(g); lock(M) print(g) unlock(M); lock(L) print(g); print(t); lock(M) lock(M); unlock(M); lock(M); f() without
 -- a lock, with M alone, with both; f(g) without a lock; lock(L) return g
 straight_rows :
-    map (walked []) ((print 1 (g 2) ∷ []) ∷ (lock 1 1 ∷ print 2 (g 3) ∷ unlock 4 1 ∷ []) ∷ (lock 1 0 ∷ print 2 (g 3) ∷ [])
+    map (walked []) ((print 1 (g 2) ∷ []) ∷ (lock 1 1 ∷ print 2 (g 3) ∷ unlock 4 1 ∷ []) ∷
+    (lock 1 0 ∷ print 2 (g 3) ∷ [])
     ∷ (print 1 (table 2) ∷ []) ∷ (lock 1 1 ∷ lock 2 1 ∷ []) ∷ (unlock 1 1 ∷ []) ∷ (lock 1 1 ∷ [])
     ∷ (t.call (at 1) None 4 (at 2) [] ∷ []) ∷ (lock 1 1 ∷ t.call (at 2) None 4 (at 3) (g 4 ∷ []) ∷ [])
     ∷ (lock 1 1 ∷ lock 2 0 ∷ t.call (at 3) None 4 (at 4) [] ∷ unlock 5 1 ∷ unlock 6 0 ∷ [])
@@ -80,7 +81,8 @@ held_rows = refl
 -- lock(L); if (me) { unlock(L); } print(1); unlock(L);   if (me) lock(L); else lock(L); unlock(L);
 -- lock(L); if (me) { unlock(L); return; } unlock(L);   lock(L); return;
 branch_rows :
-    map (walked []) ((lock 1 0 ∷ t.if_ (at 2) me (block (unlock 3 0 ∷ [])) absent ∷ print 4 (t.literal 1) ∷ unlock 5 0 ∷ [])
+    map (walked [])
+    ((lock 1 0 ∷ t.if_ (at 2) me (block (unlock 3 0 ∷ [])) absent ∷ print 4 (t.literal 1) ∷ unlock 5 0 ∷ [])
     ∷ (t.if_ (at 1) me (lock 2 0) (present (lock 3 0)) ∷ unlock 4 0 ∷ [])
     ∷ (lock 1 0 ∷ t.if_ (at 2) me (block (unlock 3 0 ∷ t.return_ (at 4) None ∷ [])) absent ∷ unlock 5 0 ∷ [])
     ∷ (lock 1 0 ∷ t.return_ (at 2) None ∷ print 3 (g 4) ∷ []) ∷ [])
@@ -100,15 +102,18 @@ loop_rows :
     ∷ (t.do_ (at 1) (block (lock 2 1 ∷ t.return_ (at 3) None ∷ [])) (g 4) ∷ [])
     ∷ (t.for_ (at 1) (present (t.assign (at 2) (t.to_global 2 (at 3)) me)) None absent (t.skip (at 4)) ∷ [])
     ∷ (t.for_ (at 1) absent (Some me) (present (print 2 (g 3))) (t.break_ (at 4)) ∷ [])
-    ∷ (t.while_ (at 1) me (block (t.if_ (at 2) me (block (lock 3 0 ∷ t.break_ (at 4) ∷ [])) absent ∷ print 5 (g 6) ∷ [])) ∷ [])
+    ∷ (t.while_ (at 1) me
+    (block (t.if_ (at 2) me (block (lock 3 0 ∷ t.break_ (at 4) ∷ [])) absent ∷ print 5 (g 6) ∷ [])) ∷ [])
     ∷ (t.while_ (at 1) me (block (lock 2 0 ∷ t.while_ (at 3) me (t.break_ (at 4)) ∷ unlock 5 0 ∷ [])) ∷ []) ∷ [])
-    ≡ fault O4 (at 1) 0 ∷ on None ∷ fault O4 (at 1) 0 ∷ on None ∷ fault O1 (at 3) 1 ∷ fault O5 (at 3) 1 ∷ fault O1 (at 3) 1 ∷ fault O1 (at 3) 1
+    ≡ fault O4 (at 1) 0 ∷ on None ∷ fault O4 (at 1) 0 ∷ on None ∷ fault O1 (at 3) 1 ∷ fault O5 (at 3) 1 ∷ fault O1
+    (at 3) 1 ∷ fault O1 (at 3) 1
     ∷ fault O4 (at 1) 0 ∷ on None ∷ []
 loop_rows = refl
 
 -- the sets of: lock(M); if (me) { unlock(M); return; } else unlock(M); print(me); return; print(me);
 sets_row :
-    sets_of_body decls [] (stmts (lock 1 1 ∷ t.if_ (at 2) me (block (unlock 3 1 ∷ t.return_ (at 4) None ∷ [])) (present (unlock 5 1))
+    sets_of_body decls []
+    (stmts (lock 1 1 ∷ t.if_ (at 2) me (block (unlock 3 1 ∷ t.return_ (at 4) None ∷ [])) (present (unlock 5 1))
     ∷ print 6 me ∷ t.return_ (at 7) None ∷ print 8 me ∷ []))
     ≡ Some [] ∷ Some (1 ∷ []) ∷ Some (1 ∷ []) ∷ Some (1 ∷ []) ∷ Some [] ∷ Some (1 ∷ []) ∷ Some [] ∷ Some [] ∷ None ∷ []
 sets_row = refl
@@ -128,8 +133,10 @@ abbrev a_function : ItemTree
 a_function = prototype (declared (codes "f") (Function Void [] [])) [] (at 91)
 
 guard_rows :
-    map of_items ((shared_at 1 (codes "X") ∷ []) ∷ (shared_at 2 (codes "L") ∷ a_lock ∷ []) ∷ (a_function ∷ shared_at 3 (codes "f") ∷ [])
+    map of_items ((shared_at 1 (codes "X") ∷ []) ∷ (shared_at 2 (codes "L") ∷ a_lock ∷ []) ∷
+    (a_function ∷ shared_at 3 (codes "f") ∷ [])
     ∷ (a_lock ∷ shared_at 4 (codes "L") ∷ []) ∷ [])
-    ≡ Some (record { code = O8; place = at 1; lock = codes "X" }) ∷ Some (record { code = O8; place = at 2; lock = codes "L" })
+    ≡ Some (record { code = O8; place = at 1; lock = codes "X" }) ∷ Some
+    (record { code = O8; place = at 2; lock = codes "L" })
     ∷ Some (record { code = O8; place = at 3; lock = codes "f" }) ∷ None ∷ []
 guard_rows = refl

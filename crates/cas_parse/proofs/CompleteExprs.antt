@@ -99,17 +99,20 @@ module _ (limits : Limits) where
   shorter (an_address_of_element l x a o p q s r h) = let one = shorter h in omega arith
   shorter (a_cast l kd a p q s t r hk h) = let one = shorter_kind hk in let two = shorter h in omega arith
   shorter (two_operands l op a b p s t r le ha hb) = let one = shorter ha in let two = shorter hb in omega arith
-  shorter (a_choice l c a b p q s t u r le hc ha hb) = let one = shorter hc in let two = shorter ha in let three = shorter hb in omega arith
+  shorter (a_choice l c a b p q s t u r le hc ha hb) = let one = shorter hc in let two = shorter ha in let three =
+      shorter hb in omega arith
   shorter (a_call l x p r out) = omega arith
   shorter (a_call_of_address l x o p r out) = omega arith
 
   -- where the next token doesn't go on with a name, the name is an operand
   pub rests : (used l : ℕ) (taken : Bool) (x : Ident) (st : List Frame) (r : List Token) → next_is is_opening r ≡ false
       → run limits r (Named used l taken x) st ≡ run limits r (HaveExpr used l (named taken x)) st
-  rests used l taken x st r h = alike limits is_opening false (Named used l taken x) (HaveExpr used l (named taken x)) st st refl by_kind r h
+  rests used l taken x st r h = alike limits is_opening false (Named used l taken x) (HaveExpr used l (named taken x))
+      st st refl by_kind r h
     where
       by_kind : (near leaves : Bool) (place : Place) (kind : TokenKind) → is_opening kind ≡ false
-          → after_operand_name limits near leaves used l taken x st kind ≡ have limits near leaves used l (named taken x) st kind
+          → after_operand_name limits near leaves used l taken x st kind ≡ have limits near leaves used l
+          (named taken x) st kind
       by_kind near leaves place (k.Sign sg.OpenBracket) h = cc
       by_kind near leaves place (k.Sign sg.OpenParen) h = cc
       by_kind near leaves place _ h = refl
@@ -152,7 +155,8 @@ module _ (limits : Limits) where
   begins_no_kind _ = refl
 
 operand_unary : (limits : Limits) (near leaves : Bool) (used l : ℕ) (st : List Frame) (p : Place) (op : UnaryOperator)
-    → operand limits near leaves used l st p (k.Sign (unary_sign op)) ≡ Ok (WantExpr (used + 1) 12, Before l (Operates op) ∷ st)
+    → operand limits near leaves used l st p (k.Sign (unary_sign op)) ≡ Ok
+    (WantExpr (used + 1) 12, Before l (Operates op) ∷ st)
 operand_unary limits near leaves used l st p u.Neg = refl
 operand_unary limits near leaves used l st p _ = refl
 
@@ -165,33 +169,44 @@ module _ (limits : Limits) (whole behind : ℕ) (room : whole ≤ limits.tokens 
   fits : (used : ℕ) (ts : List Token) → used + (1 + length ts) ≡ whole → behind ≤ length ts → Counts used ts
   fits used ts count inside = counts limits used whole behind ts count room inside
 
-  rises : (used l : ℕ) (a : ExprTree) (st : List Frame) (op : Infix) (p : Place) (ts : List Token) → Counts used ts → l ≤ level op
-      → run limits (sign (infix_sign op) p ∷ ts) (HaveExpr used l a) st ≡ run limits ts (WantExpr (used + 1) (level op + 1)) (Right l op a ∷ st)
+  rises : (used l : ℕ) (a : ExprTree) (st : List Frame) (op : Infix) (p : Place) (ts : List Token) → Counts used ts →
+      l ≤ level op
+      → run limits (sign (infix_sign op) p ∷ ts) (HaveExpr used l a) st ≡ run limits ts
+      (WantExpr (used + 1) (level op + 1)) (Right l op a ∷ st)
   rises used l a st op p ts c h =
-      let e : nat_le l (binds (k.Sign (infix_sign op))) ≡ true = grind (arith, binds_sign, nat_tests) in rw (e, infix_of_sign op, c)
+      let e : nat_le l (binds (k.Sign (infix_sign op))) ≡ true =
+      grind (arith, binds_sign, nat_tests) in rw (e, infix_of_sign op, c)
 
   chooses : (used l : ℕ) (a : ExprTree) (st : List Frame) (p : Place) (ts : List Token) → Counts used ts → l ≤ 1
-      → run limits (sign sg.Question p ∷ ts) (HaveExpr used l a) st ≡ run limits ts (WantExpr (used + 1) 1) (Then l a ∷ st)
+      → run limits (sign sg.Question p ∷ ts) (HaveExpr used l a) st ≡ run limits ts (WantExpr (used + 1) 1)
+      (Then l a ∷ st)
   chooses used l a st p ts c h = let e : nat_le l 1 ≡ true = grind (arith, nat_tests) in rw (e, c)
 
   goes_on : (used l : ℕ) (c a : ExprTree) (st : List Frame) (q : Place) (ts : List Token) → Counts used ts
-      → run limits (sign sg.Colon q ∷ ts) (HaveExpr used 1 a) (Then l c ∷ st) ≡ run limits ts (WantExpr (used + 1) 1) (Otherwise l c a ∷ st)
+      → run limits (sign sg.Colon q ∷ ts) (HaveExpr used 1 a) (Then l c ∷ st) ≡ run limits ts (WantExpr (used + 1) 1)
+      (Otherwise l c a ∷ st)
   goes_on used l c a st q ts fit = rw fit
 
   casts : (used l : ℕ) (kd : Kind) (st : List Frame) (q : Place) (ts : List Token) → Counts used ts
-      → run limits (sign sg.CloseParen q ∷ ts) (HaveKind (Some used) kd) (CastKind l ∷ st) ≡ run limits ts (WantExpr (used + 1) 12) (Before l (Casts kd) ∷ st)
+      → run limits (sign sg.CloseParen q ∷ ts) (HaveKind (Some used) kd) (CastKind l ∷ st) ≡ run limits ts
+      (WantExpr (used + 1) 12) (Before l (Casts kd) ∷ st)
   casts used l kd st q ts fit = rw fit
 
   closes_parentheses : (used l : ℕ) (a : ExprTree) (st : List Frame) (q : Place) (r : List Token) → Counts used r
-      → run limits (sign sg.CloseParen q ∷ r) (HaveExpr used 1 a) (InParens l ∷ st) ≡ run limits r (HaveExpr (used + 1) l a) st
+      → run limits (sign sg.CloseParen q ∷ r) (HaveExpr used 1 a) (InParens l ∷ st) ≡ run limits r
+      (HaveExpr (used + 1) l a) st
   closes_parentheses used l a st q r c = rw c
 
-  closes_brackets : (used l : ℕ) (taken : Bool) (x : Ident) (a : ExprTree) (st : List Frame) (q : Place) (r : List Token) → Counts used r
-      → run limits (sign sg.CloseBracket q ∷ r) (HaveExpr used 1 a) (InBrackets l taken x ∷ st) ≡ run limits r (HaveExpr (used + 1) l (bracketed taken x a)) st
+  closes_brackets : (used l : ℕ) (taken : Bool) (x : Ident) (a : ExprTree) (st : List Frame) (q : Place)
+      (r : List Token) → Counts used r
+      → run limits (sign sg.CloseBracket q ∷ r) (HaveExpr used 1 a) (InBrackets l taken x ∷ st) ≡ run limits r
+      (HaveExpr (used + 1) l (bracketed taken x a)) st
   closes_brackets used l taken x a st q r c = rw c
 
-  pub reads : {m : ℕ} {a : ExprTree} {s r : List Token} → Spells limits m a s r → (used used' l : ℕ) (st : List Frame) → used + length s ≡ whole
-      → used' + length r ≡ whole → behind ≤ length r → 1 ≤ l → l ≤ m → next_binds r ≤ m → next_binds r + 2 ≤ 2 * m → next_is is_opening r ≡ false
+  pub reads : {m : ℕ} {a : ExprTree} {s r : List Token} → Spells limits m a s r → (used used' l : ℕ) (st : List Frame) →
+      used + length s ≡ whole
+      → used' + length r ≡ whole → behind ≤ length r → 1 ≤ l → l ≤ m → next_binds r ≤ m → next_binds r + 2 ≤ 2 * m →
+      next_is is_opening r ≡ false
       → run limits s (WantExpr used l) st ≡ run limits r (HaveExpr used' l a) st
   reads (a_literal m n kd p r) used used' l st count count' inside least below most stops ends =
       let same : used' ≡ used + 1 = omega arith in
@@ -204,8 +219,14 @@ module _ (limits : Limits) (whole behind : ℕ) (room : whole ≤ limits.tokens 
       let last = whole - (1 + length r) in
       let counted : last + (1 + length r) ≡ whole = omega arith in
       let same : used' ≡ last + 1 = omega arith in
-      rw (fits used (sign sg.OpenBracket p ∷ s) (omega arith) (omega arith), fits (used + 1) s (omega arith) (omega arith), same)
-      (reads h (used + 1 + 1) last 1 (InBrackets l false x ∷ st) (omega arith) (omega arith) (omega arith) (omega arith) (omega arith) (omega arith) (omega arith) refl
+      rw (
+        fits used (sign sg.OpenBracket p ∷ s) (omega arith) (omega arith),
+        fits (used + 1) s (omega arith)
+            (omega arith),
+        same,
+      )
+      (reads h (used + 1 + 1) last 1 (InBrackets l false x ∷ st) (omega arith) (omega arith) (omega arith) (omega arith)
+      (omega arith) (omega arith) (omega arith) refl
       ∙ closes_brackets last l false x a st q r (fits last r counted inside))
   reads (in_parentheses m a p q s r h) used used' l st count count' inside least below most stops ends =
       let shrinks = shorter limits h in
@@ -214,30 +235,42 @@ module _ (limits : Limits) (whole behind : ℕ) (room : whole ≤ limits.tokens 
       let same : used' ≡ last + 1 = omega arith in
       rw (fits used s (omega arith) (omega arith), same)
       (opens_parentheses limits (used + 1) l st s (begins_no_kind limits h)
-      ∙ reads h (used + 1) last 1 (InParens l ∷ st) (omega arith) (omega arith) (omega arith) (omega arith) (omega arith) (omega arith) (omega arith) refl
+      ∙ reads h (used + 1) last 1 (InParens l ∷ st) (omega arith) (omega arith) (omega arith) (omega arith)
+      (omega arith) (omega arith) (omega arith) refl
       ∙ closes_parentheses last l a st q r (fits last r counted inside))
   reads (an_operand_of m op a p s r h) used used' l st count count' inside least below most stops ends =
       let shrinks = shorter limits h in
       let binding = next_at_most r in
       rw (fits used s (omega arith) (omega arith), operand_unary)
-      (reads h (used + 1) used' 12 (Before l (Operates op) ∷ st) (omega arith) count' inside (omega arith) (omega arith) (omega arith) (omega arith) ends
+      (reads h (used + 1) used' 12 (Before l (Operates op) ∷ st) (omega arith) count' inside (omega arith) (omega arith)
+      (omega arith) (omega arith) ends
       ∙ pop_before limits used' l (Operates op) a st r)
   reads (what_is_pointed_to m a p s r h) used used' l st count count' inside least below most stops ends =
       let shrinks = shorter limits h in
       let binding = next_at_most r in
       rw (fits used s (omega arith) (omega arith))
-      (reads h (used + 1) used' 12 (Before l Points ∷ st) (omega arith) count' inside (omega arith) (omega arith) (omega arith) (omega arith) ends
+      (reads h (used + 1) used' 12 (Before l Points ∷ st) (omega arith) count' inside (omega arith) (omega arith)
+      (omega arith) (omega arith) ends
       ∙ pop_before limits used' l Points a st r)
   reads (an_address m x p r) used used' l st count count' inside least below most stops ends =
       let same : used' ≡ used + 1 + 1 = omega arith in
-      rw (fits used (ident x ∷ r) (omega arith) (omega arith), fits (used + 1) r (omega arith) inside, same) (rests limits (used + 1 + 1) l true x st r ends)
+      rw (fits used (ident x ∷ r) (omega arith) (omega arith), fits (used + 1) r (omega arith) inside, same)
+      (rests limits (used + 1 + 1) l true x st r ends)
   reads (an_address_of_element m x a o p q s r h) used used' l st count count' inside least below most stops ends =
       let shrinks = shorter limits h in
       let last = whole - (1 + length r) in
       let counted : last + (1 + length r) ≡ whole = omega arith in
       let same : used' ≡ last + 1 = omega arith in
-      rw (fits used (ident x ∷ sign sg.OpenBracket p ∷ s) (omega arith) (omega arith), fits (used + 1) (sign sg.OpenBracket p ∷ s) (omega arith) (omega arith), fits (used + 1 + 1) s (omega arith) (omega arith), same)
-      (reads h (used + 1 + 1 + 1) last 1 (InBrackets l true x ∷ st) (omega arith) (omega arith) (omega arith) (omega arith) (omega arith) (omega arith) (omega arith) refl
+      rw (
+        fits used (ident x ∷ sign sg.OpenBracket p ∷ s) (omega arith) (omega arith),
+        fits (used + 1)
+            (sign sg.OpenBracket p ∷ s) (omega arith) (omega arith),
+        fits (used + 1 + 1) s (omega arith)
+            (omega arith),
+        same,
+      )
+      (reads h (used + 1 + 1 + 1) last 1 (InBrackets l true x ∷ st) (omega arith) (omega arith) (omega arith)
+      (omega arith) (omega arith) (omega arith) (omega arith) refl
       ∙ closes_brackets last l true x a st q r (fits last r counted inside))
   reads (a_cast m kd a p q s t r hk h) used used' l st count count' inside least below most stops ends =
       let shrinks = shorter limits h in
@@ -247,9 +280,11 @@ module _ (limits : Limits) (whole behind : ℕ) (room : whole ≤ limits.tokens 
       let counted : last + (1 + length t) ≡ whole = omega arith in
       rw (fits used s (omega arith) (omega arith))
       (opens_cast limits (used + 1) l st s (begins_with_kind hk)
-      ∙ reads_kind_in limits whole behind room hk (used + 1) last (CastKind l ∷ st) (omega arith) (omega arith) (omega arith) refl
+      ∙ reads_kind_in limits whole behind room hk (used + 1) last (CastKind l ∷ st) (omega arith) (omega arith)
+      (omega arith) refl
       ∙ casts last l kd st q t (fits last t counted (omega arith))
-      ∙ reads h (last + 1) used' 12 (Before l (Casts kd) ∷ st) (omega arith) count' inside (omega arith) (omega arith) (omega arith) (omega arith) ends
+      ∙ reads h (last + 1) used' 12 (Before l (Casts kd) ∷ st) (omega arith) count' inside (omega arith) (omega arith)
+      (omega arith) (omega arith) ends
       ∙ pop_before limits used' l (Casts kd) a st r)
   reads (two_operands m op a b p s t r le ha hb) used used' l st count count' inside least below most stops ends =
       let shrinks = shorter limits ha in
@@ -258,9 +293,11 @@ module _ (limits : Limits) (whole behind : ℕ) (room : whole ≤ limits.tokens 
       let counted : last + (1 + length t) ≡ whole = omega arith in
       let same = binds_sign op in
       let tight = level_at_least op in
-      reads ha used last l st count (omega arith) (omega arith) least (omega arith) (omega arith) (omega arith) (opens_no_name op)
+      reads ha used last l st count (omega arith) (omega arith) least (omega arith) (omega arith) (omega arith)
+      (opens_no_name op)
       ∙ rises last l a st op p t (fits last t counted (omega arith)) (omega arith)
-      ∙ reads hb (last + 1) used' (level op + 1) (Right l op a ∷ st) (omega arith) count' inside (omega arith) (omega arith) (omega arith) (omega arith) ends
+      ∙ reads hb (last + 1) used' (level op + 1) (Right l op a ∷ st) (omega arith) count' inside (omega arith)
+      (omega arith) (omega arith) (omega arith) ends
       ∙ pop_right limits used' l (level op + 1) op a b st r (omega arith)
   reads (a_choice m c a b p q s t v r le hc ha hb) used used' l st count count' inside least below most stops ends =
       let shrinks = shorter limits hc in
@@ -272,16 +309,32 @@ module _ (limits : Limits) (whole behind : ℕ) (room : whole ≤ limits.tokens 
       let second_counted : second + (1 + length v) ≡ whole = omega arith in
       reads hc used first l st count (omega arith) (omega arith) least (omega arith) (omega arith) (omega arith) refl
       ∙ chooses first l c st p t (fits first t first_counted (omega arith)) (omega arith)
-      ∙ reads ha (first + 1) second 1 (Then l c ∷ st) (omega arith) (omega arith) (omega arith) (omega arith) (omega arith) (omega arith) (omega arith) refl
+      ∙ reads ha (first + 1) second 1 (Then l c ∷ st) (omega arith) (omega arith) (omega arith) (omega arith)
+      (omega arith) (omega arith) (omega arith) refl
       ∙ goes_on second l c a st q v (fits second v second_counted (omega arith))
-      ∙ reads hb (second + 1) used' 1 (Otherwise l c a ∷ st) (omega arith) count' inside (omega arith) (omega arith) (omega arith) (omega arith) ends
+      ∙ reads hb (second + 1) used' 1 (Otherwise l c a ∷ st) (omega arith) count' inside (omega arith) (omega arith)
+      (omega arith) (omega arith) ends
       ∙ pop_otherwise limits used' l c a b st r (omega arith)
   reads (a_call m x p r out) used used' l st count count' inside least below most stops ends =
       let same : used' ≡ used + 1 + 1 = omega arith in
-      rw (fits used (sign sg.OpenParen p ∷ r) (omega arith) (omega arith), leaves limits r out, fits (used + 1) r (omega arith) inside, same)
+      rw (
+        fits used (sign sg.OpenParen p ∷ r) (omega arith) (omega arith),
+        leaves limits r out,
+        fits (used + 1) r
+            (omega arith) inside,
+        same,
+      )
   reads (a_call_of_address m x o p r out) used used' l st count count' inside least below most stops ends =
       let same : used' ≡ used + 1 + 1 + 1 = omega arith in
-      rw (fits used (ident x ∷ sign sg.OpenParen p ∷ r) (omega arith) (omega arith), fits (used + 1) (sign sg.OpenParen p ∷ r) (omega arith) (omega arith), leaves limits r out, fits (used + 1 + 1) r (omega arith) inside, same)
+      rw (
+        fits used (ident x ∷ sign sg.OpenParen p ∷ r) (omega arith) (omega arith),
+        fits (used + 1)
+            (sign sg.OpenParen p ∷ r) (omega arith) (omega arith),
+        leaves limits r out,
+        fits (used + 1 + 1) r
+            (omega arith) inside,
+        same,
+      )
 
 -- where an expression ends: the next token is `;`, `,`, `)`, `]`
 
@@ -316,20 +369,24 @@ module _ (limits : Limits) where
   begins_outermost st [] = refl
   begins_outermost st (t ∷ ts) = refl
 
-  gives : (used : ℕ) (a : ExprTree) (st : List Frame) (r : List Token) → next_binds r ≡ 0 → run limits r (HaveExpr used 1 a) st ≡ run limits r (Given used a) st
+  gives : (used : ℕ) (a : ExprTree) (st : List Frame) (r : List Token) → next_binds r ≡ 0 →
+      run limits r (HaveExpr used 1 a) st ≡ run limits r (Given used a) st
   gives used a st [] h = refl
   gives used a st (t ∷ ts) h = let below : binds t.kind < 1 = omega arith in rw (falls limits _ _ used 1 a st t below)
 
-  pub reads_given : {a : ExprTree} {s r : List Token} → SpellsExpr limits a s r → (st : List Frame) → next_is is_ending r ≡ true
+  pub reads_given : {a : ExprTree} {s r : List Token} → SpellsExpr limits a s r → (st : List Frame) →
+      next_is is_ending r ≡ true
       → run limits s WantOutermost st ≡ run limits r (Given (length s - length r) a) st
   reads_given (outermost a s r room h) st ends =
       let shrinks = shorter limits h in
       let binding = ends-binds r ends in
       begins_outermost st s
-      ∙ reads limits (length s) (length r) room h 0 (length s - length r) 1 st (omega arith) (omega arith) (omega arith) (omega arith) (omega arith) (omega arith) (omega arith) (ends-opens r ends)
+      ∙ reads limits (length s) (length r) room h 0 (length s - length r) 1 st (omega arith) (omega arith) (omega arith)
+      (omega arith) (omega arith) (omega arith) (omega arith) (ends-opens r ends)
       ∙ gives (length s - length r) a st r binding
 
   -- what comes of an outermost expression, however many tokens it has, comes of its tokens
-  pub reads_outermost : {a : ExprTree} {s r : List Token} → SpellsExpr limits a s r → (st : List Frame) (V : Verdict) → next_is is_ending r ≡ true
+  pub reads_outermost : {a : ExprTree} {s r : List Token} → SpellsExpr limits a s r → (st : List Frame) (V : Verdict) →
+      next_is is_ending r ≡ true
       → ((used : ℕ) → run limits r (Given used a) st ≡ V) → run limits s WantOutermost st ≡ V
   reads_outermost {s = s} {r = r} h st V ends on = reads_given h st ends ∙ on (length s - length r)

@@ -28,17 +28,22 @@ named_alone [] = refl
 named_alone (x ∷ xs) = rw (named_alone xs)
 
 module _ (limits : Limits) (some : 0 < limits.tokens) where
-  begins_body : (x : Ident) (f : Form) (xs : List Ident) (held : List Place) (p : Place) (t : List Token) (items : List ItemTree) (st : List Frame)
-      → run limits (sign sg.OpenBrace p ∷ t) (AfterHead x f true (map Some xs) held items) st ≡ run limits t (InList 0 no_more) (BodyOf x f xs held items ∷ st)
+  begins_body : (x : Ident) (f : Form) (xs : List Ident) (held : List Place) (p : Place) (t : List Token)
+      (items : List ItemTree) (st : List Frame)
+      → run limits (sign sg.OpenBrace p ∷ t) (AfterHead x f true (map Some xs) held items) st ≡ run limits t
+      (InList 0 no_more) (BodyOf x f xs held items ∷ st)
   begins_body x f xs held p t items st = rw (named_alone xs)
 
-  is_plain : (d : Bool) (ty : Ty) (x : Ident) (by : Sign) (p : Place) (r : List Token) (items : List ItemTree) (st : List Frame) → FollowsGlobal by → IsLeftOut limits r
-      → run limits (sign by p ∷ r) (FunctionName (record { defined = d; ret = ty; name = x }) items) st ≡ run limits r (InItems (items ++ global (declared x.name (form.Table ty) d) [] x.place ∷ [])) st
+  is_plain : (d : Bool) (ty : Ty) (x : Ident) (by : Sign) (p : Place) (r : List Token) (items : List ItemTree)
+      (st : List Frame) → FollowsGlobal by → IsLeftOut limits r
+      → run limits (sign by p ∷ r) (FunctionName (record { defined = d; ret = ty; name = x }) items) st ≡ run limits r
+      (InItems (items ++ global (declared x.name (form.Table ty) d) [] x.place ∷ [])) st
   is_plain d ty x by p r items st its_length out = rw (leaves limits r out)
   is_plain d ty x by p r items st its_value out = rw (leaves limits r out)
   is_plain d ty x by p r items st its_end out = rw (leaves limits r out)
 
-  pub reads_item : {a : ItemTree} {s r : List Token} → SpellsItem limits a s r → (items : List ItemTree) (st : List Frame)
+  pub reads_item : {a : ItemTree} {s r : List Token} → SpellsItem limits a s r →
+      (items : List ItemTree) (st : List Frame)
       → run limits s (InItems items) st ≡ run limits r (InItems (items ++ a ∷ [])) st
   reads_item (a_lock x d p q s r h) items st = reads_extern limits h items st refl
   reads_item (a_shared x guard kd ty vs d p q q' e s t v r h hk hc) items st =
@@ -57,7 +62,8 @@ module _ (limits : Limits) (some : 0 < limits.tokens) where
       ∙ reads_head limits hh true items st refl
       ∙ begins_body x f xs held p t items st
       ∙ reads_stmts limits some hb no_more (BodyOf x f xs held items ∷ st) refl
-      ∙ ap (λ all. run limits r (InItems (items ++ closing_of_function x f xs held all closing ∷ [])) st) (adds_all body)
+      ∙ ap (λ all. run limits r (InItems (items ++ closing_of_function x f xs held all closing ∷ [])) st)
+      (adds_all body)
   reads_item (a_plain_global x ty d by p s t r out follows h hr) items st =
       reads_extern limits h items st (return_item hr)
       ∙ reads_return limits hr d items st
@@ -72,11 +78,13 @@ module _ (limits : Limits) (some : 0 < limits.tokens) where
       ∙ ap (λ all. run limits r (InItems all) []) (append_assoc before (a ∷ []) bs)
 
   -- the tokens of a module are read as it
-  pub reads_module : {items : List ItemTree} {tokens : List Token} → SpellsItems limits items tokens [] → run limits tokens (InItems []) [] ≡ Ok items
+  pub reads_module : {items : List ItemTree} {tokens : List Token} → SpellsItems limits items tokens [] →
+      run limits tokens (InItems []) [] ≡ Ok items
   reads_module h = reads_items h []
 
   -- tokens are those of one module at most
-  pub unambiguous : {items other : List ItemTree} {tokens : List Token} → SpellsItems limits items tokens [] → SpellsItems limits other tokens [] → items ≡ other
+  pub unambiguous : {items other : List ItemTree} {tokens : List Token} → SpellsItems limits items tokens [] →
+      SpellsItems limits other tokens [] → items ≡ other
   unambiguous {items = items} {other = other} {tokens = tokens} h g =
       let one = reads_module h in
       let two = reads_module g in
@@ -90,5 +98,6 @@ some_within cut = omega arith
 pub some_without : (count : ℕ) (left_out : Option ℕ) → 0 < (without count left_out).tokens
 some_without count left_out = omega arith
 
-pub IsModule-once : {items other : List ItemTree} {tokens : List Token} → IsModule items tokens → IsModule other tokens → items ≡ other
+pub IsModule-once : {items other : List ItemTree} {tokens : List Token} → IsModule items tokens →
+    IsModule other tokens → items ≡ other
 IsModule-once h g = unambiguous (within 0) (some_within 0) h g

@@ -46,7 +46,8 @@ begins_with_kind _ = refl
 module _ (limits : Limits) where
   -- where no further word of a kind stands, the kind is whole
 
-  pub ends_signed : (c : Option ℕ) (st : List Frame) (r : List Token) → next_is begins_kind r ≡ false → run limits r (Signed c) st ≡ run limits r (HaveKind c I32) st
+  pub ends_signed : (c : Option ℕ) (st : List Frame) (r : List Token) → next_is begins_kind r ≡ false →
+      run limits r (Signed c) st ≡ run limits r (HaveKind c I32) st
   ends_signed c st r h = alike limits begins_kind false (Signed c) (HaveKind c I32) st st refl by_kind r h
     where
       by_kind : (near leaves : Bool) (place : Place) (kind : TokenKind) → begins_kind kind ≡ false
@@ -56,7 +57,8 @@ module _ (limits : Limits) where
       by_kind near leaves place (k.Word w.Int) h = cc
       by_kind near leaves place _ h = refl
 
-  pub ends_unsigned : (c : Option ℕ) (st : List Frame) (r : List Token) → next_is begins_kind r ≡ false → run limits r (Unsigned c) st ≡ run limits r (HaveKind c U32) st
+  pub ends_unsigned : (c : Option ℕ) (st : List Frame) (r : List Token) → next_is begins_kind r ≡ false →
+      run limits r (Unsigned c) st ≡ run limits r (HaveKind c U32) st
   ends_unsigned c st r h = alike limits begins_kind false (Unsigned c) (HaveKind c U32) st st refl by_kind r h
     where
       by_kind : (near leaves : Bool) (place : Place) (kind : TokenKind) → begins_kind kind ≡ false
@@ -66,7 +68,8 @@ module _ (limits : Limits) where
       by_kind near leaves place (k.Word w.Int) h = cc
       by_kind near leaves place _ h = refl
 
-  pub ends_int : (c : Option ℕ) (kd : Kind) (st : List Frame) (r : List Token) → next_is begins_kind r ≡ false → run limits r (MayEndInt c kd) st ≡ run limits r (HaveKind c kd) st
+  pub ends_int : (c : Option ℕ) (kd : Kind) (st : List Frame) (r : List Token) → next_is begins_kind r ≡ false →
+      run limits r (MayEndInt c kd) st ≡ run limits r (HaveKind c kd) st
   ends_int c kd st r h = alike limits begins_kind false (MayEndInt c kd) (HaveKind c kd) st st refl by_kind r h
     where
       by_kind : (near leaves : Bool) (place : Place) (kind : TokenKind) → begins_kind kind ≡ false
@@ -96,11 +99,13 @@ module _ (limits : Limits) where
   after_unsigned_word (without r) st ends = ends_unsigned None st r ends
   after_unsigned_word (with_it p r) st ends = refl
 
-  pub reads_kind : {kd : Kind} {s r : List Token} → SpellsKind kd s r → (st : List Frame) → next_is begins_kind r ≡ false
+  pub reads_kind : {kd : Kind} {s r : List Token} → SpellsKind kd s r → (st : List Frame) →
+      next_is begins_kind r ≡ false
       → run limits s (WantKind None) st ≡ run limits r (HaveKind None kd) st
   reads_kind (char p s r h) st ends = leading h st (run limits r (HaveKind None I8) st) refl refl
   reads_kind (unsigned_char p q r) st ends = refl
-  reads_kind (short p s t r h i) st ends = leading h st (run limits r (HaveKind None I16) st) (closing i I16 st ends) (closing i I16 st ends)
+  reads_kind (short p s t r h i) st ends = leading h st (run limits r (HaveKind None I16) st) (closing i I16 st ends)
+      (closing i I16 st ends)
   reads_kind (unsigned_short p q t r i) st ends = closing i U16 st ends
   reads_kind (int p r) st ends = refl
   reads_kind (signed p t r i) st ends = after_signed_word i st ends
@@ -108,41 +113,56 @@ module _ (limits : Limits) where
 
 -- kinds in an outermost expression, whose tokens and all behind them are `whole`, and those behind it `behind`
 module _ (limits : Limits) (whole behind : ℕ) (room : whole ≤ limits.tokens + max behind limits.cut) where
-  leading_in : {s v : List Token} → Perhaps w.Signed s v → (used : ℕ) (st : List Frame) (V : Verdict) → used + length s ≡ whole → behind ≤ length v
+  leading_in : {s v : List Token} → Perhaps w.Signed s v → (used : ℕ) (st : List Frame) (V : Verdict) →
+      used + length s ≡ whole → behind ≤ length v
       → ((one : ℕ) → one + length v ≡ whole → run limits v (WantKind (Some one)) st ≡ V)
       → ((one : ℕ) → one + length v ≡ whole → run limits v (Signed (Some one)) st ≡ V)
       → run limits s (WantKind (Some used)) st ≡ V
   leading_in (without r) used st V count inside one two = one used count
-  leading_in (with_it p r) used st V count inside one two = rw (counts limits used whole behind r (omega arith) room inside) (two (used + 1) (omega arith))
+  leading_in (with_it p r) used st V count inside one two =
+      rw (counts limits used whole behind r (omega arith) room inside) (two (used + 1) (omega arith))
 
-  closing_in : {t r : List Token} → Perhaps w.Int t r → (kd : Kind) (used used' : ℕ) (st : List Frame) → used + length t ≡ whole → used' + length r ≡ whole
-      → behind ≤ length r → next_is begins_kind r ≡ false → run limits t (MayEndInt (Some used) kd) st ≡ run limits r (HaveKind (Some used') kd) st
+  closing_in : {t r : List Token} → Perhaps w.Int t r → (kd : Kind) (used used' : ℕ) (st : List Frame) →
+      used + length t ≡ whole → used' + length r ≡ whole
+      → behind ≤ length r → next_is begins_kind r ≡ false →
+      run limits t (MayEndInt (Some used) kd) st ≡ run limits r (HaveKind (Some used') kd) st
   closing_in (without r) kd used used' st count count' inside ends =
       let same : used ≡ used' = omega arith in rw same (ends_int limits (Some used') kd st r ends)
   closing_in (with_it p r) kd used used' st count count' inside ends =
-      let same : used' ≡ used + 1 = omega arith in rw (counts limits used whole behind r (omega arith) room inside, same)
+      let same : used' ≡ used + 1 =
+      omega arith in rw (counts limits used whole behind r (omega arith) room inside, same)
 
-  after_signed_in : {t r : List Token} → Perhaps w.Int t r → (used used' : ℕ) (st : List Frame) → used + length t ≡ whole → used' + length r ≡ whole
-      → behind ≤ length r → next_is begins_kind r ≡ false → run limits t (Signed (Some used)) st ≡ run limits r (HaveKind (Some used') I32) st
+  after_signed_in : {t r : List Token} → Perhaps w.Int t r → (used used' : ℕ) (st : List Frame) →
+      used + length t ≡ whole → used' + length r ≡ whole
+      → behind ≤ length r → next_is begins_kind r ≡ false →
+      run limits t (Signed (Some used)) st ≡ run limits r (HaveKind (Some used') I32) st
   after_signed_in (without r) used used' st count count' inside ends =
       let same : used ≡ used' = omega arith in rw same (ends_signed limits (Some used') st r ends)
   after_signed_in (with_it p r) used used' st count count' inside ends =
-      let same : used' ≡ used + 1 = omega arith in rw (counts limits used whole behind r (omega arith) room inside, same)
+      let same : used' ≡ used + 1 =
+      omega arith in rw (counts limits used whole behind r (omega arith) room inside, same)
 
-  after_unsigned_in : {t r : List Token} → Perhaps w.Int t r → (used used' : ℕ) (st : List Frame) → used + length t ≡ whole → used' + length r ≡ whole
-      → behind ≤ length r → next_is begins_kind r ≡ false → run limits t (Unsigned (Some used)) st ≡ run limits r (HaveKind (Some used') U32) st
+  after_unsigned_in : {t r : List Token} → Perhaps w.Int t r → (used used' : ℕ) (st : List Frame) →
+      used + length t ≡ whole → used' + length r ≡ whole
+      → behind ≤ length r → next_is begins_kind r ≡ false →
+      run limits t (Unsigned (Some used)) st ≡ run limits r (HaveKind (Some used') U32) st
   after_unsigned_in (without r) used used' st count count' inside ends =
       let same : used ≡ used' = omega arith in rw same (ends_unsigned limits (Some used') st r ends)
   after_unsigned_in (with_it p r) used used' st count count' inside ends =
-      let same : used' ≡ used + 1 = omega arith in rw (counts limits used whole behind r (omega arith) room inside, same)
+      let same : used' ≡ used + 1 =
+      omega arith in rw (counts limits used whole behind r (omega arith) room inside, same)
 
-  char_in : (used used' : ℕ) (p : Place) (r : List Token) (st : List Frame) → used + length (word w.Char p ∷ r) ≡ whole → used' + length r ≡ whole → behind ≤ length r
+  char_in : (used used' : ℕ) (p : Place) (r : List Token) (st : List Frame) →
+      used + length (word w.Char p ∷ r) ≡ whole → used' + length r ≡ whole → behind ≤ length r
       → run limits (word w.Char p ∷ r) (WantKind (Some used)) st ≡ run limits r (HaveKind (Some used') I8) st
   char_in used used' p r st count count' inside =
-      let same : used' ≡ used + 1 = omega arith in rw (counts limits used whole behind r (omega arith) room inside, same)
+      let same : used' ≡ used + 1 =
+      omega arith in rw (counts limits used whole behind r (omega arith) room inside, same)
 
-  pub reads_kind_in : {kd : Kind} {s r : List Token} → SpellsKind kd s r → (used used' : ℕ) (st : List Frame) → used + length s ≡ whole → used' + length r ≡ whole
-      → behind ≤ length r → next_is begins_kind r ≡ false → run limits s (WantKind (Some used)) st ≡ run limits r (HaveKind (Some used') kd) st
+  pub reads_kind_in : {kd : Kind} {s r : List Token} → SpellsKind kd s r → (used used' : ℕ) (st : List Frame) →
+      used + length s ≡ whole → used' + length r ≡ whole
+      → behind ≤ length r → next_is begins_kind r ≡ false →
+      run limits s (WantKind (Some used)) st ≡ run limits r (HaveKind (Some used') kd) st
   reads_kind_in (char p s r h) used used' st count count' inside ends =
       leading_in h used st (run limits r (HaveKind (Some used') I8) st) count (omega arith)
       (λ one c. char_in one used' p r st c count' inside)
@@ -155,8 +175,10 @@ module _ (limits : Limits) (whole behind : ℕ) (room : whole ≤ limits.tokens 
   reads_kind_in (short p s t r h i) used used' st count count' inside ends =
       let some = no_longer i in
       leading_in h used st (run limits r (HaveKind (Some used') I16) st) count (omega arith)
-      (λ one c. rw (counts limits one whole behind t (omega arith) room (omega arith)) (closing_in i I16 (one + 1) used' st (omega arith) count' inside ends))
-      (λ one c. rw (counts limits one whole behind t (omega arith) room (omega arith)) (closing_in i I16 (one + 1) used' st (omega arith) count' inside ends))
+      (λ one c. rw (counts limits one whole behind t (omega arith) room (omega arith))
+      (closing_in i I16 (one + 1) used' st (omega arith) count' inside ends))
+      (λ one c. rw (counts limits one whole behind t (omega arith) room (omega arith))
+      (closing_in i I16 (one + 1) used' st (omega arith) count' inside ends))
   reads_kind_in (unsigned_short p q t r i) used used' st count count' inside ends =
       let some = no_longer i in
       let first = counts limits used whole behind (word w.Short q ∷ t) (omega arith) room (omega arith) in
@@ -167,7 +189,9 @@ module _ (limits : Limits) (whole behind : ℕ) (room : whole ≤ limits.tokens 
       rw (counts limits used whole behind r (omega arith) room inside, same)
   reads_kind_in (signed p t r i) used used' st count count' inside ends =
       let some = no_longer i in
-      rw (counts limits used whole behind t (omega arith) room (omega arith)) (after_signed_in i (used + 1) used' st (omega arith) count' inside ends)
+      rw (counts limits used whole behind t (omega arith) room (omega arith))
+      (after_signed_in i (used + 1) used' st (omega arith) count' inside ends)
   reads_kind_in (unsigned p t r i) used used' st count count' inside ends =
       let some = no_longer i in
-      rw (counts limits used whole behind t (omega arith) room (omega arith)) (after_unsigned_in i (used + 1) used' st (omega arith) count' inside ends)
+      rw (counts limits used whole behind t (omega arith) room (omega arith))
+      (after_unsigned_in i (used + 1) used' st (omega arith) count' inside ends)

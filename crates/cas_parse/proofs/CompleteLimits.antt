@@ -7,12 +7,14 @@ use Rattle.cas_parse.specs.Machine.{is_at}
 
 module _ (limits : Limits) where
   -- a token of an outermost expression, whose tokens and all behind them are `whole`, and those behind it `behind`
-  pub counts : (used whole behind : ℕ) (ts : List Token) → used + (1 + length ts) ≡ whole → whole ≤ limits.tokens + max behind limits.cut → behind ≤ length ts
+  pub counts : (used whole behind : ℕ) (ts : List Token) → used + (1 + length ts) ≡ whole →
+      whole ≤ limits.tokens + max behind limits.cut → behind ≤ length ts
       → (nat_lt used limits.tokens || nat_lt (length ts) limits.cut) ≡ true
   counts used whole behind ts count room inside = grind (arith, nat_tests)
 
   -- a statement that begins with this token
-  pub allows : (around : ℕ) (t : Token) (ts : List Token) → AllowsDepth limits around (t ∷ ts) → (nat_lt around limits.depth || nat_lt (length ts) limits.cut) ≡ true
+  pub allows : (around : ℕ) (t : Token) (ts : List Token) → AllowsDepth limits around (t ∷ ts) →
+      (nat_lt around limits.depth || nat_lt (length ts) limits.cut) ≡ true
   allows around t ts (inl h) = grind (arith, nat_tests)
   allows around t ts (inr h) = grind (arith, nat_tests)
 

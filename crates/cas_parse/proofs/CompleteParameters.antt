@@ -50,7 +50,8 @@ type_no_kind _ h = refl
 follows_no_kind : (r : List Token) → next_is follows_type r ≡ true → next_is begins_kind r ≡ false
 follows_no_kind r h = next_is-not follows_type begins_kind type_no_kind r h
 
-parameter_begins : {limits : Limits} {ty : Ty} {x : Option Ident} {s r : List Token} → SpellsParameter limits ty x s r → next_is begins_kind s ≡ true
+parameter_begins : {limits : Limits} {ty : Ty} {x : Option Ident} {s r : List Token} → SpellsParameter limits ty x s r →
+    next_is begins_kind s ≡ true
 parameter_begins (unnamed ty s r h) = type_begins h
 parameter_begins (named ty x s r h) = type_begins h
 parameter_begins (unnamed_array ty p s r out h) = type_begins h
@@ -59,87 +60,125 @@ parameter_begins (named_array ty x p s r out h) = type_begins h
 module _ (limits : Limits) where
   -- types
 
-  is_integer : (o : Opening) (tys : List Ty) (xs : List (Option Ident)) (kd : Kind) (items : List ItemTree) (st : List Frame) (r : List Token) → next_is follows_type r ≡ true
-      → run limits r (HaveKind None kd) (ParameterKind o tys xs items ∷ st) ≡ run limits r (ParameterType o tys xs (Int kd) items) st
-  is_integer o tys xs kd items st r h = alike limits follows_type true (HaveKind None kd) (ParameterType o tys xs (Int kd) items) (ParameterKind o tys xs items ∷ st) st refl by_kind r h
+  is_integer : (o : Opening) (tys : List Ty) (xs : List (Option Ident)) (kd : Kind) (items : List ItemTree)
+      (st : List Frame) (r : List Token) → next_is follows_type r ≡ true
+      → run limits r (HaveKind None kd) (ParameterKind o tys xs items ∷ st) ≡ run limits r
+      (ParameterType o tys xs (Int kd) items) st
+  is_integer o tys xs kd items st r h = alike limits follows_type true (HaveKind None kd)
+      (ParameterType o tys xs (Int kd) items) (ParameterKind o tys xs items ∷ st) st refl by_kind r h
     where
       by_kind : (near leaves : Bool) (place : Place) (kind : TokenKind) → follows_type kind ≡ true
-          → parameter_kind limits near leaves o tys xs kd items st place kind ≡ parameter_typed limits near leaves o tys xs (Int kd) items st place kind
+          → parameter_kind limits near leaves o tys xs kd items st place kind ≡ parameter_typed limits near leaves o tys
+          xs (Int kd) items st place kind
       by_kind near leaves place (k.Sign sg.Star) h = cc
       by_kind near leaves place _ h = refl
 
-  is_pointer : (o : Opening) (tys : List Ty) (xs : List (Option Ident)) (kd : Kind) (items : List ItemTree) (st : List Frame) (r : List Token) → next_is follows_type r ≡ true
+  is_pointer : (o : Opening) (tys : List Ty) (xs : List (Option Ident)) (kd : Kind) (items : List ItemTree)
+      (st : List Frame) (r : List Token) → next_is follows_type r ≡ true
       → run limits r (ParameterStar o tys xs kd items) st ≡ run limits r (ParameterType o tys xs (Ptr kd) items) st
-  is_pointer o tys xs kd items st r h = alike limits follows_type true (ParameterStar o tys xs kd items) (ParameterType o tys xs (Ptr kd) items) st st refl by_kind r h
+  is_pointer o tys xs kd items st r h = alike limits follows_type true (ParameterStar o tys xs kd items)
+      (ParameterType o tys xs (Ptr kd) items) st st refl by_kind r h
     where
       by_kind : (near leaves : Bool) (place : Place) (kind : TokenKind) → follows_type kind ≡ true
-          → parameter_star limits near leaves o tys xs kd items st place kind ≡ parameter_typed limits near leaves o tys xs (Ptr kd) items st place kind
+          → parameter_star limits near leaves o tys xs kd items st place kind ≡ parameter_typed limits near leaves o tys
+          xs (Ptr kd) items st place kind
       by_kind near leaves place (k.Sign sg.Star) h = cc
       by_kind near leaves place _ h = refl
 
-  reads_type : {ty : Ty} {s r : List Token} → SpellsType limits ty s r → (o : Opening) (tys : List Ty) (xs : List (Option Ident)) (items : List ItemTree) (st : List Frame) → next_is follows_type r ≡ true
-      → run limits s (WantKind None) (ParameterKind o tys xs items ∷ st) ≡ run limits r (ParameterType o tys xs ty items) st
-  reads_type (integer kd s r h) o tys xs items st ends = reads_kind limits h (ParameterKind o tys xs items ∷ st) (follows_no_kind r ends) ∙ is_integer o tys xs kd items st r ends
-  reads_type (pointer kd p s r h) o tys xs items st ends = reads_kind limits h (ParameterKind o tys xs items ∷ st) refl ∙ is_pointer o tys xs kd items st r ends
-  reads_type (pointer_to_pointer kd p q s r out h) o tys xs items st ends = reads_kind limits h (ParameterKind o tys xs items ∷ st) refl ∙ rw (leaves limits r out)
+  reads_type : {ty : Ty} {s r : List Token} → SpellsType limits ty s r →
+      (o : Opening) (tys : List Ty) (xs : List (Option Ident)) (items : List ItemTree) (st : List Frame) →
+      next_is follows_type r ≡ true
+      → run limits s (WantKind None) (ParameterKind o tys xs items ∷ st) ≡ run limits r
+      (ParameterType o tys xs ty items) st
+  reads_type (integer kd s r h) o tys xs items st ends =
+      reads_kind limits h (ParameterKind o tys xs items ∷ st) (follows_no_kind r ends)
+      ∙ is_integer o tys xs kd items st r ends
+  reads_type (pointer kd p s r h) o tys xs items st ends = reads_kind limits h (ParameterKind o tys xs items ∷ st) refl
+      ∙ is_pointer o tys xs kd items st r ends
+  reads_type (pointer_to_pointer kd p q s r out h) o tys xs items st ends =
+      reads_kind limits h (ParameterKind o tys xs items ∷ st) refl ∙ rw (leaves limits r out)
 
   -- a parameter
 
-  is_named : (o : Opening) (tys : List Ty) (xs : List (Option Ident)) (ty : Ty) (x : Ident) (items : List ItemTree) (st : List Frame) (r : List Token)
-      → run limits r (ParameterName o tys xs ty x items) st ≡ run limits r (HaveParameter o (tys ++ ty ∷ []) (xs ++ Some x ∷ []) items) st
+  is_named : (o : Opening) (tys : List Ty) (xs : List (Option Ident)) (ty : Ty) (x : Ident) (items : List ItemTree)
+      (st : List Frame) (r : List Token)
+      → run limits r (ParameterName o tys xs ty x items) st ≡ run limits r
+      (HaveParameter o (tys ++ ty ∷ []) (xs ++ Some x ∷ []) items) st
   is_named o tys xs ty x items st [] = refl
   is_named o tys xs ty x items st (t ∷ ts) = refl
 
-  is_unnamed : (o : Opening) (tys : List Ty) (xs : List (Option Ident)) (ty : Ty) (items : List ItemTree) (st : List Frame) (r : List Token) → next_is follows_parameter r ≡ true
-      → run limits r (ParameterType o tys xs ty items) st ≡ run limits r (HaveParameter o (tys ++ ty ∷ []) (xs ++ None ∷ []) items) st
-  is_unnamed o tys xs ty items st r h = alike limits follows_parameter true (ParameterType o tys xs ty items) (HaveParameter o (tys ++ ty ∷ []) (xs ++ None ∷ []) items) st st refl by_kind r h
+  is_unnamed : (o : Opening) (tys : List Ty) (xs : List (Option Ident)) (ty : Ty) (items : List ItemTree)
+      (st : List Frame) (r : List Token) → next_is follows_parameter r ≡ true
+      → run limits r (ParameterType o tys xs ty items) st ≡ run limits r
+      (HaveParameter o (tys ++ ty ∷ []) (xs ++ None ∷ []) items) st
+  is_unnamed o tys xs ty items st r h = alike limits follows_parameter true (ParameterType o tys xs ty items)
+      (HaveParameter o (tys ++ ty ∷ []) (xs ++ None ∷ []) items) st st refl by_kind r h
     where
       by_kind : (near leaves : Bool) (place : Place) (kind : TokenKind) → follows_parameter kind ≡ true
-          → parameter_typed limits near leaves o tys xs ty items st place kind ≡ parameter_ended limits near leaves o (tys ++ ty ∷ []) (xs ++ None ∷ []) items st kind
+          → parameter_typed limits near leaves o tys xs ty items st place kind ≡ parameter_ended limits near leaves o
+          (tys ++ ty ∷ []) (xs ++ None ∷ []) items st kind
       by_kind near leaves place (k.Name n) h = cc
       by_kind near leaves place _ h = refl
 
-  reads_parameter : {ty : Ty} {x : Option Ident} {s r : List Token} → SpellsParameter limits ty x s r → (o : Opening) (tys : List Ty) (xs : List (Option Ident)) (items : List ItemTree) (st : List Frame) → next_is follows_parameter r ≡ true
-      → run limits s (WantKind None) (ParameterKind o tys xs items ∷ st) ≡ run limits r (HaveParameter o (tys ++ ty ∷ []) (xs ++ x ∷ []) items) st
-  reads_parameter (unnamed ty s r h) o tys xs items st ends = reads_type h o tys xs items st (parts-follow r ends) ∙ is_unnamed o tys xs ty items st r ends
-  reads_parameter (named ty x s r h) o tys xs items st ends = reads_type h o tys xs items st refl ∙ is_named o tys xs ty x items st r
-  reads_parameter (unnamed_array ty p s r out h) o tys xs items st ends = reads_type h o tys xs items st refl ∙ rw (leaves limits r out)
-  reads_parameter (named_array ty x p s r out h) o tys xs items st ends = reads_type h o tys xs items st refl ∙ rw (leaves limits r out)
+  reads_parameter : {ty : Ty} {x : Option Ident} {s r : List Token} → SpellsParameter limits ty x s r →
+      (o : Opening) (tys : List Ty) (xs : List (Option Ident)) (items : List ItemTree) (st : List Frame) →
+      next_is follows_parameter r ≡ true
+      → run limits s (WantKind None) (ParameterKind o tys xs items ∷ st) ≡ run limits r
+      (HaveParameter o (tys ++ ty ∷ []) (xs ++ x ∷ []) items) st
+  reads_parameter (unnamed ty s r h) o tys xs items st ends = reads_type h o tys xs items st (parts-follow r ends)
+      ∙ is_unnamed o tys xs ty items st r ends
+  reads_parameter (named ty x s r h) o tys xs items st ends = reads_type h o tys xs items st refl
+      ∙ is_named o tys xs ty x items st r
+  reads_parameter (unnamed_array ty p s r out h) o tys xs items st ends = reads_type h o tys xs items st refl
+      ∙ rw (leaves limits r out)
+  reads_parameter (named_array ty x p s r out h) o tys xs items st ends = reads_type h o tys xs items st refl
+      ∙ rw (leaves limits r out)
 
   -- parameters
 
-  goes_on : (o : Opening) (tys : List Ty) (xs : List (Option Ident)) (items : List ItemTree) (st : List Frame) (r : List Token)
-      → run limits r (WantParameter o tys xs items) st ≡ run limits r (WantKind None) (ParameterKind o tys xs items ∷ st)
+  goes_on : (o : Opening) (tys : List Ty) (xs : List (Option Ident)) (items : List ItemTree) (st : List Frame)
+      (r : List Token)
+      → run limits r (WantParameter o tys xs items) st ≡ run limits r (WantKind None)
+      (ParameterKind o tys xs items ∷ st)
   goes_on o tys xs items st [] = refl
   goes_on o tys xs items st (t ∷ ts) = refl
 
-  reads_list : {tys : List Ty} {xs : List (Option Ident)} {q : Place} {s r : List Token} → SpellsParameterList limits tys xs s (sign sg.CloseParen q ∷ r)
+  reads_list : {tys : List Ty} {xs : List (Option Ident)} {q : Place} {s r : List Token} →
+      SpellsParameterList limits tys xs s (sign sg.CloseParen q ∷ r)
       → (o : Opening) (before : List Ty) (names : List (Option Ident)) (items : List ItemTree) (st : List Frame)
-      → run limits s (WantKind None) (ParameterKind o before names items ∷ st) ≡ run limits r (AfterParameters o (before ++ tys) (names ++ xs) items) st
+      → run limits s (WantKind None) (ParameterKind o before names items ∷ st) ≡ run limits r
+      (AfterParameters o (before ++ tys) (names ++ xs) items) st
   reads_list (last_parameter ty x s _ h) o before names items st = reads_parameter h o before names items st refl
   reads_list {r = r} (one_parameter ty tys x xs p s t _ h hs) o before names items st =
       reads_parameter h o before names items st refl
       ∙ goes_on o (before ++ ty ∷ []) (names ++ x ∷ []) items st t
       ∙ reads_list hs o (before ++ ty ∷ []) (names ++ x ∷ []) items st
-      ∙ ap (λ all. run limits r (AfterParameters o all ((names ++ x ∷ []) ++ xs) items) st) (append_assoc before (ty ∷ []) tys)
+      ∙ ap (λ all. run limits r (AfterParameters o all ((names ++ x ∷ []) ++ xs) items) st)
+      (append_assoc before (ty ∷ []) tys)
       ∙ ap (λ all. run limits r (AfterParameters o (before ++ ty ∷ tys) all items) st) (append_assoc names (x ∷ []) xs)
 
-  begins_list : {tys : List Ty} {xs : List (Option Ident)} {s r : List Token} → SpellsParameterList limits tys xs s r → next_is begins_kind s ≡ true
+  begins_list : {tys : List Ty} {xs : List (Option Ident)} {s r : List Token} → SpellsParameterList limits tys xs s r →
+      next_is begins_kind s ≡ true
   begins_list (last_parameter ty x s r h) = parameter_begins h
   begins_list (one_parameter ty tys x xs p s t r h hs) = parameter_begins h
 
   starts_list : (o : Opening) (items : List ItemTree) (st : List Frame) (s : List Token) → next_is begins_kind s ≡ true
       → run limits s (WantParameters o items) st ≡ run limits s (WantKind None) (ParameterKind o [] [] items ∷ st)
-  starts_list o items st s h = alike limits begins_kind true (WantParameters o items) (WantKind None) st (ParameterKind o [] [] items ∷ st) refl by_kind s h
+  starts_list o items st s h = alike limits begins_kind true (WantParameters o items) (WantKind None) st
+      (ParameterKind o [] [] items ∷ st) refl by_kind s h
     where
       by_kind : (near leaves : Bool) (place : Place) (kind : TokenKind) → begins_kind kind ≡ true
-          → want_parameters limits near leaves o items st kind ≡ want_kind limits near leaves None (ParameterKind o [] [] items ∷ st) kind
+          → want_parameters limits near leaves o items st kind ≡ want_kind limits near leaves None
+          (ParameterKind o [] [] items ∷ st) kind
       by_kind near leaves place (k.Word w.Void) h = cc
       by_kind near leaves place (k.Word _) h = refl
       by_kind near leaves place _ h = cc
 
-  pub reads_parameters : {tys : List Ty} {xs : List (Option Ident)} {q : Place} {s r : List Token} → SpellsParameters limits tys xs s (sign sg.CloseParen q ∷ r) → (o : Opening) (items : List ItemTree) (st : List Frame)
+  pub reads_parameters : {tys : List Ty} {xs : List (Option Ident)} {q : Place} {s r : List Token} →
+      SpellsParameters limits tys xs s (sign sg.CloseParen q ∷ r) →
+      (o : Opening) (items : List ItemTree) (st : List Frame)
       → run limits s (WantParameters o items) st ≡ run limits r (AfterParameters o tys xs items) st
   reads_parameters (nothing _) o items st = refl
   reads_parameters (void p _) o items st = refl
-  reads_parameters (parameters tys xs s _ h) o items st = starts_list o items st s (begins_list h) ∙ reads_list h o [] [] items st
+  reads_parameters (parameters tys xs s _ h) o items st = starts_list o items st s (begins_list h)
+      ∙ reads_list h o [] [] items st

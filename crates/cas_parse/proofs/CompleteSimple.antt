@@ -48,16 +48,19 @@ sign_no_end : (op : UnaryOperator) → is_ending (k.Sign (unary_sign op)) ≡ fa
 sign_no_end u.Neg = refl
 sign_no_end _ = refl
 
-pub begins_no_end : {limits : Limits} {m : ℕ} {a : ExprTree} {s r : List Token} → Spells limits m a s r → next_is is_ending s ≡ false
+pub begins_no_end : {limits : Limits} {m : ℕ} {a : ExprTree} {s r : List Token} → Spells limits m a s r →
+    next_is is_ending s ≡ false
 begins_no_end (two_operands l op a b p s t r le ha hb) = begins_no_end ha
 begins_no_end (a_choice l c a b p q s t u r le hc ha hb) = begins_no_end hc
 begins_no_end (an_operand_of l op a p s r h) = sign_no_end op
 begins_no_end _ = refl
 
-pub expr_no_end : {limits : Limits} {a : ExprTree} {s r : List Token} → SpellsExpr limits a s r → next_is is_ending s ≡ false
+pub expr_no_end : {limits : Limits} {a : ExprTree} {s r : List Token} → SpellsExpr limits a s r →
+    next_is is_ending s ≡ false
 expr_no_end (outermost a s r room h) = begins_no_end h
 
-exprs_no_end : {limits : Limits} {bs : List ExprTree} {s r : List Token} → SpellsExprs limits bs s r → next_is is_ending s ≡ false
+exprs_no_end : {limits : Limits} {bs : List ExprTree} {s r : List Token} → SpellsExprs limits bs s r →
+    next_is is_ending s ≡ false
 exprs_no_end (last_of a s r h) = expr_no_end h
 exprs_no_end (one_of a bs p s t r h hs) = expr_no_end h
 
@@ -66,39 +69,52 @@ module _ (limits : Limits) where
 
   starts_arguments : (caller : Caller) (st : List Frame) (s : List Token) → next_is is_ending s ≡ false
       → run limits s (WantArguments caller) st ≡ run limits s WantOutermost (Argument caller [] ∷ st)
-  starts_arguments caller st s h = alike limits is_ending false (WantArguments caller) WantOutermost st (Argument caller [] ∷ st) refl by_kind s h
+  starts_arguments caller st s h = alike limits is_ending false (WantArguments caller) WantOutermost st
+      (Argument caller [] ∷ st) refl by_kind s h
     where
       by_kind : (near leaves : Bool) (place : Place) (kind : TokenKind) → is_ending kind ≡ false
-          → arguments_started limits near leaves caller st place kind ≡ begins_outermost limits near leaves (Argument caller [] ∷ st) place kind
+          → arguments_started limits near leaves caller st place kind ≡ begins_outermost limits near leaves
+          (Argument caller [] ∷ st) place kind
       by_kind near leaves place (k.Sign sg.CloseParen) h = cc
       by_kind near leaves place _ h = refl
 
-  reads_exprs : {bs : List ExprTree} {q : Place} {s r : List Token} → SpellsExprs limits bs s (sign sg.CloseParen q ∷ r) → (caller : Caller) (before : List ExprTree) (st : List Frame)
+  reads_exprs : {bs : List ExprTree} {q : Place} {s r : List Token} →
+      SpellsExprs limits bs s (sign sg.CloseParen q ∷ r) → (caller : Caller) (before : List ExprTree) (st : List Frame)
       → run limits s WantOutermost (Argument caller before ∷ st) ≡ run limits r (resulted caller (before ++ bs)) st
-  reads_exprs {q = q} {r = r} (last_of a s _ h) caller before st = reads_outermost limits h (Argument caller before ∷ st) (run limits r (resulted caller (before ++ a ∷ [])) st) refl (λ used. refl)
+  reads_exprs {q = q} {r = r} (last_of a s _ h) caller before st =
+      reads_outermost limits h (Argument caller before ∷ st) (run limits r (resulted caller (before ++ a ∷ [])) st) refl
+      (λ used. refl)
   reads_exprs {q = q} {r = r} (one_of a bs p s t _ h hs) caller before st =
-      reads_outermost limits h (Argument caller before ∷ st) (run limits t WantOutermost (Argument caller (before ++ a ∷ []) ∷ st)) refl (λ used. refl)
+      reads_outermost limits h (Argument caller before ∷ st)
+      (run limits t WantOutermost (Argument caller (before ++ a ∷ []) ∷ st)) refl (λ used. refl)
       ∙ reads_exprs hs caller (before ++ a ∷ []) st
       ∙ ap (λ all. run limits r (resulted caller all) st) (append_assoc before (a ∷ []) bs)
 
-  pub reads_arguments : {bs : List ExprTree} {q : Place} {s r : List Token} → SpellsArguments limits bs s (sign sg.CloseParen q ∷ r) → (caller : Caller) (st : List Frame)
+  pub reads_arguments : {bs : List ExprTree} {q : Place} {s r : List Token} →
+      SpellsArguments limits bs s (sign sg.CloseParen q ∷ r) → (caller : Caller) (st : List Frame)
       → run limits s (WantArguments caller) st ≡ run limits r (resulted caller bs) st
   reads_arguments (no_arguments _) caller st = refl
-  reads_arguments (arguments bs s _ h) caller st = starts_arguments caller st s (exprs_no_end h) ∙ reads_exprs h caller [] st
+  reads_arguments (arguments bs s _ h) caller st = starts_arguments caller st s (exprs_no_end h)
+      ∙ reads_exprs h caller [] st
 
   -- values
 
-  behind_value : (receiver : Receiver) (x : Ident) (st : List Frame) (r : List Token) → begins_call (ident x ∷ r) ≡ false
+  behind_value : (receiver : Receiver) (x : Ident) (st : List Frame) (r : List Token) →
+      begins_call (ident x ∷ r) ≡ false
       → run limits r (MaybeCall 1 receiver x) st ≡ run limits r (Named 1 1 false x) (ValueOf receiver ∷ st)
-  behind_value receiver x st r h = alike limits is_opening_paren false (MaybeCall 1 receiver x) (Named 1 1 false x) st (ValueOf receiver ∷ st) refl by_kind r h
+  behind_value receiver x st r h = alike limits is_opening_paren false (MaybeCall 1 receiver x) (Named 1 1 false x) st
+      (ValueOf receiver ∷ st) refl by_kind r h
     where
       by_kind : (near leaves : Bool) (place : Place) (kind : TokenKind) → is_opening_paren kind ≡ false
-          → maybe_call limits near leaves 1 receiver x st kind ≡ after_operand_name limits near leaves 1 1 false x (ValueOf receiver ∷ st) kind
+          → maybe_call limits near leaves 1 receiver x st kind ≡ after_operand_name limits near leaves 1 1 false x
+          (ValueOf receiver ∷ st) kind
       by_kind near leaves place (k.Sign sg.OpenParen) h = cc
       by_kind near leaves place _ h = refl
 
-  goes_alike : (b : Bool) (ts : List Token) (c d : Control) (st other : List Frame) → run limits ts c st ≡ run limits ts d other
-      → go (run limits ts) (length ts) (limited b (Ok (c, st))) ≡ go (run limits ts) (length ts) (limited b (Ok (d, other)))
+  goes_alike : (b : Bool) (ts : List Token) (c d : Control) (st other : List Frame) →
+      run limits ts c st ≡ run limits ts d other
+      → go (run limits ts) (length ts) (limited b (Ok (c, st))) ≡ go (run limits ts) (length ts)
+      (limited b (Ok (d, other)))
   goes_alike true ts c d st other h = h
   goes_alike false ts c d st other h = refl
 
@@ -109,14 +125,18 @@ module _ (limits : Limits) where
   values receiver st (t ∷ ts) h = by_kind t.kind h
     where
       by_kind : (kind : TokenKind) → begins_call (record { kind = kind; place = t.place } ∷ ts) ≡ false
-          → run limits (record { kind = kind; place = t.place } ∷ ts) (WantValue receiver) st ≡ run limits (record { kind = kind; place = t.place } ∷ ts) WantOutermost (ValueOf receiver ∷ st)
-      by_kind (k.Name n) h = goes_alike _ ts _ _ _ _ (behind_value receiver (record { name = n; place = t.place }) st ts h)
+          → run limits (record { kind = kind; place = t.place } ∷ ts) (WantValue receiver) st ≡ run limits
+          (record { kind = kind; place = t.place } ∷ ts) WantOutermost (ValueOf receiver ∷ st)
+      by_kind (k.Name n) h =
+          goes_alike _ ts _ _ _ _ (behind_value receiver (record { name = n; place = t.place }) st ts h)
       by_kind _ h = refl
 
   -- what may be an assignment or a call, where these tokens stand
   abbrev pub begun : List Token → List Frame → Verdict
   begun [] st = run limits [] WantOutermost st
-  begun (t ∷ ts) st = go (run limits ts) (length ts) (simple_started limits (nat_lt (length ts) limits.cut) (is_at limits.left_out (length ts)) st t.place t.kind)
+  begun (t ∷ ts) st =
+      go (run limits ts) (length ts) (simple_started limits (nat_lt (length ts) limits.cut)
+      (is_at limits.left_out (length ts)) st t.place t.kind)
 
 -- the place of the first token
 abbrev pub first_place : List Token → Place
@@ -167,9 +187,11 @@ module _ (limits : Limits) where
       by_kind near leaves place (k.Sign sg.Equal) h = cc
       by_kind near leaves place _ h = refl
 
-  is_stepped : (q : Place) (op : BinaryOperator) (x : Ident) (st : List Frame) (r : List Token) → next_is names r ≡ false
+  is_stepped : (q : Place) (op : BinaryOperator) (x : Ident) (st : List Frame) (r : List Token) →
+      next_is names r ≡ false
       → run limits r (SteppedName q op x) st ≡ run limits r (HaveSimple (stepped q (to_name x) op)) st
-  is_stepped q op x st r h = alike limits names false (SteppedName q op x) (HaveSimple (stepped q (to_name x) op)) st st refl by_kind r h
+  is_stepped q op x st r h = alike limits names false (SteppedName q op x) (HaveSimple (stepped q (to_name x) op))
+      st st refl by_kind r h
     where
       by_kind : (near leaves : Bool) (place : Place) (kind : TokenKind) → names kind ≡ false
           → stepped_name limits near leaves q op x st kind ≡ ended (stepped q (to_name x) op) st kind
@@ -177,58 +199,75 @@ module _ (limits : Limits) where
       by_kind near leaves place _ h = refl
 
   -- a target that is written
-  reads_target : {target : TargetTree} {s r : List Token} → SpellsTarget limits target s r → (st : List Frame) → is_name_alone target && next_is names r ≡ false
+  reads_target : {target : TargetTree} {s r : List Token} → SpellsTarget limits target s r → (st : List Frame) →
+      is_name_alone target && next_is names r ≡ false
       → begun limits s st ≡ run limits r (AfterTarget (first_place s) target) st
   reads_target (a_variable x r) st h = is_target x st r h
   reads_target (an_element x a p q s r ha) st h =
-      reads_outermost limits ha (TargetIndex (Written x.place) x ∷ st) (run limits r (AfterTarget x.place (to_index x a)) st) refl (λ used. refl)
+      reads_outermost limits ha (TargetIndex (Written x.place) x ∷ st)
+      (run limits r (AfterTarget x.place (to_index x a)) st) refl (λ used. refl)
   reads_target (behind_name x p r) st h = refl
   reads_target (behind_parentheses a o p q s r ha) st h =
-      reads_outermost limits ha (TargetBehind (Written o) ∷ st) (run limits r (AfterTarget o (to_deref a)) st) refl (λ used. refl)
+      reads_outermost limits ha (TargetBehind (Written o) ∷ st) (run limits r (AfterTarget o (to_deref a)) st) refl
+      (λ used. refl)
 
   -- a target that an operator before it steps
-  reads_stepped : {target : TargetTree} {s r : List Token} → SpellsTarget limits target s r → (q : Place) (op : BinaryOperator) (st : List Frame) → next_is names r ≡ false
+  reads_stepped : {target : TargetTree} {s r : List Token} → SpellsTarget limits target s r →
+      (q : Place) (op : BinaryOperator) (st : List Frame) → next_is names r ≡ false
       → run limits s (WantTarget q op) st ≡ run limits r (HaveSimple (stepped q target op)) st
   reads_stepped (a_variable x r) q op st h = is_stepped q op x st r h
   reads_stepped (an_element x a p q' s r ha) q op st h =
-      reads_outermost limits ha (TargetIndex (Stepped q op) x ∷ st) (run limits r (HaveSimple (stepped q (to_index x a) op)) st) refl (λ used. refl)
+      reads_outermost limits ha (TargetIndex (Stepped q op) x ∷ st)
+      (run limits r (HaveSimple (stepped q (to_index x a) op)) st) refl (λ used. refl)
   reads_stepped (behind_name x p r) q op st h = refl
   reads_stepped (behind_parentheses a o p q' s r ha) q op st h =
-      reads_outermost limits ha (TargetBehind (Stepped q op) ∷ st) (run limits r (HaveSimple (stepped q (to_deref a) op)) st) refl (λ used. refl)
+      reads_outermost limits ha (TargetBehind (Stepped q op) ∷ st)
+      (run limits r (HaveSimple (stepped q (to_deref a) op)) st) refl (λ used. refl)
 
   -- a value that an assignment takes
-  takes_value : (p : Place) (target : TargetTree) (op : Option BinaryOperator) (a : ExprTree) (s r : List Token) → SpellsExpr limits a s r → (st : List Frame) → next_is is_ending r ≡ true
+  takes_value : (p : Place) (target : TargetTree) (op : Option BinaryOperator) (a : ExprTree) (s r : List Token) →
+      SpellsExpr limits a s r → (st : List Frame) → next_is is_ending r ≡ true
       → run limits s WantOutermost (AssignedTo p target op ∷ st) ≡ run limits r (HaveSimple (assign p target op a)) st
-  takes_value p target op a s r h st ends = reads_outermost limits h (AssignedTo p target op ∷ st) _ ends (λ used. by_rest used r)
+  takes_value p target op a s r h st ends = reads_outermost limits h (AssignedTo p target op ∷ st) _ ends
+      (λ used. by_rest used r)
     where
-      by_rest : (used : ℕ) (r : List Token) → run limits r (Given used a) (AssignedTo p target op ∷ st) ≡ run limits r (HaveSimple (assign p target op a)) st
+      by_rest : (used : ℕ) (r : List Token) → run limits r (Given used a) (AssignedTo p target op ∷ st) ≡ run limits r
+          (HaveSimple (assign p target op a)) st
       by_rest used [] = refl
       by_rest used (t ∷ ts) = refl
 
-  receives : (x : Ident) (a : ExprTree) (s r : List Token) → SpellsExpr limits a s r → (st : List Frame) → next_is is_ending r ≡ true
-      → run limits s WantOutermost (ValueOf (Assigned x) ∷ st) ≡ run limits r (HaveSimple (assign x.place (to_name x) None a)) st
+  receives : (x : Ident) (a : ExprTree) (s r : List Token) → SpellsExpr limits a s r → (st : List Frame) →
+      next_is is_ending r ≡ true
+      → run limits s WantOutermost (ValueOf (Assigned x) ∷ st) ≡ run limits r
+      (HaveSimple (assign x.place (to_name x) None a)) st
   receives x a s r h st ends = reads_outermost limits h (ValueOf (Assigned x) ∷ st) _ ends (λ used. by_rest used r)
     where
-      by_rest : (used : ℕ) (r : List Token) → run limits r (Given used a) (ValueOf (Assigned x) ∷ st) ≡ run limits r (HaveSimple (assign x.place (to_name x) None a)) st
+      by_rest : (used : ℕ) (r : List Token) → run limits r (Given used a) (ValueOf (Assigned x) ∷ st) ≡ run limits r
+          (HaveSimple (assign x.place (to_name x) None a)) st
       by_rest used [] = refl
       by_rest used (t ∷ ts) = refl
 
-  changes_by : (p q : Place) (target : TargetTree) (op : BinaryOperator) (by : Sign) (t : List Token) (st : List Frame) → assigning (k.Sign by) ≡ Some op
-      → run limits (sign by p ∷ t) (AfterTarget q target) st ≡ run limits t WantOutermost (AssignedTo q target (Some op) ∷ st)
+  changes_by : (p q : Place) (target : TargetTree) (op : BinaryOperator) (by : Sign) (t : List Token) (st : List Frame)
+      → assigning (k.Sign by) ≡ Some op
+      → run limits (sign by p ∷ t) (AfterTarget q target) st ≡ run limits t WantOutermost
+      (AssignedTo q target (Some op) ∷ st)
   changes_by p q target op by t st h =
       let near = nat_lt (length t) limits.cut in
       let leaves_here = is_at limits.left_out (length t) in
-      ap (go (run limits t) (length t)) (by_sign near leaves_here by h ∙ ap (changed_by limits near leaves_here q target st (k.Sign by)) h)
+      ap (go (run limits t) (length t)) (by_sign near leaves_here by h
+      ∙ ap (changed_by limits near leaves_here q target st (k.Sign by)) h)
     where
       by_sign : (near leaves : Bool) (by : Sign) → assigning (k.Sign by) ≡ Some op
-          → after_target limits near leaves q target st (k.Sign by) ≡ changed_by limits near leaves q target st (k.Sign by) (assigning (k.Sign by))
+          → after_target limits near leaves q target st (k.Sign by) ≡ changed_by limits near leaves q target st
+          (k.Sign by) (assigning (k.Sign by))
       by_sign near leaves sg.Equal h = cc
       by_sign near leaves sg.PlusPlus h = cc
       by_sign near leaves sg.MinusMinus h = cc
       by_sign near leaves _ h = refl
 
   -- the place of a statement that writes a name is the name's
-  sets_target : (target : TargetTree) (a : ExprTree) (first : Token) (p : Place) (s t r : List Token) → SpellsTarget limits target (first ∷ s) (sign sg.Equal p ∷ t)
+  sets_target : (target : TargetTree) (a : ExprTree) (first : Token) (p : Place) (s t r : List Token) →
+      SpellsTarget limits target (first ∷ s) (sign sg.Equal p ∷ t)
       → MayBeValue target t → SpellsExpr limits a t r → (st : List Frame) → next_is is_ending r ≡ true
       → begun limits (first ∷ s) st ≡ run limits r (HaveSimple (assign first.place target None a)) st
   sets_target (to_name x) a first p s t r (a_variable _ _) may h st ends =
@@ -246,12 +285,15 @@ module _ (limits : Limits) where
 module _ (limits : Limits) (some : 0 < limits.tokens) where
   -- behind `=`, a call is read as one
   pub calls_value : (receiver : Receiver) (f : Ident) (q : Place) (s : List Token) (st : List Frame)
-      → run limits (ident f ∷ sign sg.OpenParen q ∷ s) (WantValue receiver) st ≡ run limits s (WantArguments (Keeps receiver f)) st
+      → run limits (ident f ∷ sign sg.OpenParen q ∷ s) (WantValue receiver) st ≡ run limits s
+      (WantArguments (Keeps receiver f)) st
   calls_value receiver f q s st = let first : nat_lt 0 limits.tokens ≡ true = grind (arith, nat_tests) in rw first
 
-  pub reads_simple : {a : StmtTree} {s r : List Token} → SpellsSimple limits a s r → (st : List Frame) → next_is is_ending r ≡ true
+  pub reads_simple : {a : StmtTree} {s r : List Token} → SpellsSimple limits a s r → (st : List Frame) →
+      next_is is_ending r ≡ true
       → begun limits s st ≡ run limits r (HaveSimple a) st
-  reads_simple (sets target a first p s t r ht may h) st ends = sets_target limits target a first p s t r ht may h st ends
+  reads_simple (sets target a first p s t r ht may h) st ends =
+      sets_target limits target a first p s t r ht may h st ends
   reads_simple (changes target op by a first p s t r is ht h) st ends =
       let same = assigning_by op by is in
       reads_target limits ht st (no_name target (names (k.Sign by)) (assigning_names by op same))

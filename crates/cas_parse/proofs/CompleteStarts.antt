@@ -39,11 +39,13 @@ by_beginning (k.Sign sg.PlusPlus) h = an_increment
 by_beginning (k.Sign sg.MinusMinus) h = a_decrement
 by_beginning _ h = cc
 
-pub target_begins : {limits : Limits} {target : _} {s r : List Token} → SpellsTarget limits target s r → next_is begins_simple s ≡ true
+pub target_begins : {limits : Limits} {target : _} {s r : List Token} → SpellsTarget limits target s r →
+    next_is begins_simple s ≡ true
 target_begins (a_variable x r) = refl
 target_begins _ = refl
 
-pub simple_begins : {limits : Limits} {a : StmtTree} {s r : List Token} → SpellsSimple limits a s r → next_is begins_simple s ≡ true
+pub simple_begins : {limits : Limits} {a : StmtTree} {s r : List Token} → SpellsSimple limits a s r →
+    next_is begins_simple s ≡ true
 simple_begins (sets target a first p s t r ht may h) = target_begins ht
 simple_begins (changes target op by a first p s t r is ht h) = target_begins ht
 simple_begins (increments target first p s r ht) = target_begins ht
@@ -62,7 +64,8 @@ simple_stmt (k.Sign sg.CloseBrace) h = cc
 simple_stmt (k.Word _) h = cc
 simple_stmt _ h = refl
 
-pub stmt_begins : {limits : Limits} {n : ℕ} {a : StmtTree} {s r : List Token} → SpellsStmt limits n a s r → next_is begins_stmt s ≡ true
+pub stmt_begins : {limits : Limits} {n : ℕ} {a : StmtTree} {s r : List Token} → SpellsStmt limits n a s r →
+    next_is begins_stmt s ≡ true
 stmt_begins (simple n a p s r al h) = next_is-so begins_simple begins_stmt simple_stmt s (simple_begins h)
 stmt_begins _ = refl
 
@@ -70,7 +73,8 @@ abbrev pub an_else : TokenKind → Bool
 an_else (k.Word w.Else) = true
 an_else kind = false
 
-pub is_else-same : (limits : Limits) (near leaves : Bool) (kind : TokenKind) → is_else limits near leaves kind ≡ an_else kind
+pub is_else-same : (limits : Limits) (near leaves : Bool) (kind : TokenKind) →
+    is_else limits near leaves kind ≡ an_else kind
 is_else-same limits near leaves (k.Word w.Else) = refl
 is_else-same limits near leaves _ = refl
 
@@ -83,10 +87,12 @@ kind_no_else (k.Word w.Else) h = cc
 kind_no_else _ h = refl
 
 -- where an `else` doesn't follow statements, none follows a statement before them
-pub stmts_no_else : {limits : Limits} {n : ℕ} {bs : StmtList} {s r : List Token} → SpellsStmts limits n bs s r → next_is an_else r ≡ false → next_is an_else s ≡ false
+pub stmts_no_else : {limits : Limits} {n : ℕ} {bs : StmtList} {s r : List Token} → SpellsStmts limits n bs s r →
+    next_is an_else r ≡ false → next_is an_else s ≡ false
 stmts_no_else (ended n r) h = h
 stmts_no_else (a_stmt n a bs s t r ha hbs) h = next_is-not begins_stmt an_else stmt_no_else s (stmt_begins ha)
-stmts_no_else (locals n kd bs rest p s t v r al hk hl hrest) h = next_is-not begins_kind an_else kind_no_else s (begins_with_kind hk)
+stmts_no_else (locals n kd bs rest p s t v r al hk hl hrest) h =
+    next_is-not begins_kind an_else kind_no_else s (begins_with_kind hk)
 
 -- the second statements behind the first, one after another
 abbrev pub adds : StmtList → StmtList → StmtList
@@ -115,16 +121,21 @@ adds_all bs = adds_join bs no_more
 module _ (limits : Limits) where
   -- a statement that is allowed here begins
   pub enters : (n : ℕ) (st : List Frame) (t : Token) (ts : List Token) → AllowsDepth limits n (t ∷ ts)
-      → run limits (t ∷ ts) (WantStmt n) st ≡ go (run limits ts) (length ts) (started limits (nat_lt (length ts) limits.cut) (is_at limits.left_out (length ts)) n st t.place t.kind)
+      → run limits (t ∷ ts) (WantStmt n) st ≡ go (run limits ts) (length ts)
+      (started limits (nat_lt (length ts) limits.cut) (is_at limits.left_out (length ts)) n st t.place t.kind)
   enters n st t ts h = rw (allows limits n t ts h)
 
-  pub enters_simple : (n : ℕ) (st : List Frame) (s : List Token) → AllowsDepth limits n s → next_is begins_simple s ≡ true
+  pub enters_simple : (n : ℕ) (st : List Frame) (s : List Token) → AllowsDepth limits n s →
+      next_is begins_simple s ≡ true
       → run limits s (WantStmt n) st ≡ begun limits s (SimpleStmt ∷ st)
   enters_simple n st [] al h = refl
-  enters_simple n st (t ∷ ts) al h = enters n st t ts al ∙ ap (go (run limits ts) (length ts)) (by_kind (nat_lt (length ts) limits.cut) (is_at limits.left_out (length ts)) t.kind h)
+  enters_simple n st (t ∷ ts) al h = enters n st t ts al
+      ∙ ap (go (run limits ts) (length ts)) (by_kind (nat_lt (length ts) limits.cut) (is_at limits.left_out (length ts))
+      t.kind h)
     where
       by_kind : (near leaves : Bool) (kind : TokenKind) → begins_simple kind ≡ true
-          → started limits near leaves n st t.place kind ≡ simple_started limits near leaves (SimpleStmt ∷ st) t.place kind
+          → started limits near leaves n st t.place kind ≡ simple_started limits near leaves (SimpleStmt ∷ st)
+          t.place kind
       by_kind near leaves (k.Word one) h = cc
       by_kind near leaves (k.Sign sg.Semicolon) h = cc
       by_kind near leaves (k.Sign sg.OpenBrace) h = cc
@@ -133,10 +144,12 @@ module _ (limits : Limits) where
   -- in a list, a statement begins, or a kind
   pub starts_stmt : (n : ℕ) (before : StmtList) (st : List Frame) (s : List Token) → next_is begins_stmt s ≡ true
       → run limits s (InList n before) st ≡ run limits s (WantStmt n) (NextStmt n before ∷ st)
-  starts_stmt n before st s h = alike limits begins_stmt true (InList n before) (WantStmt n) st (NextStmt n before ∷ st) refl by_kind s h
+  starts_stmt n before st s h = alike limits begins_stmt true (InList n before) (WantStmt n) st (NextStmt n before ∷ st)
+      refl by_kind s h
     where
       by_kind : (near leaves : Bool) (place : Place) (kind : TokenKind) → begins_stmt kind ≡ true
-          → in_list limits near leaves n before st place kind ≡ nested limits near leaves n (started limits near leaves n (NextStmt n before ∷ st) place kind)
+          → in_list limits near leaves n before st place kind ≡ nested limits near leaves n
+          (started limits near leaves n (NextStmt n before ∷ st) place kind)
       by_kind near leaves place (k.Word w.Char) h = cc
       by_kind near leaves place (k.Word w.Short) h = cc
       by_kind near leaves place (k.Word w.Int) h = cc
@@ -145,7 +158,8 @@ module _ (limits : Limits) where
       by_kind near leaves place (k.Sign sg.CloseBrace) h = cc
       by_kind near leaves place _ h = refl
 
-  pub starts_locals : (n : ℕ) (before : StmtList) (st : List Frame) (s : List Token) → AllowsDepth limits n s → next_is begins_kind s ≡ true
+  pub starts_locals : (n : ℕ) (before : StmtList) (st : List Frame) (s : List Token) → AllowsDepth limits n s →
+      next_is begins_kind s ≡ true
       → run limits s (InList n before) st ≡ run limits s (WantKind None) (LocalsKind n before ∷ st)
   starts_locals n before st [] al h = cc
   starts_locals n before st (t ∷ ts) al h = by_kind t.kind h
@@ -154,7 +168,8 @@ module _ (limits : Limits) where
       fits = allows limits n t ts al
 
       by_kind : (kind : TokenKind) → begins_kind kind ≡ true
-          → run limits (record { kind = kind; place = t.place } ∷ ts) (InList n before) st ≡ run limits (record { kind = kind; place = t.place } ∷ ts) (WantKind None) (LocalsKind n before ∷ st)
+          → run limits (record { kind = kind; place = t.place } ∷ ts) (InList n before) st ≡ run limits
+          (record { kind = kind; place = t.place } ∷ ts) (WantKind None) (LocalsKind n before ∷ st)
       by_kind (k.Word w.Char) h = rw fits
       by_kind (k.Word w.Short) h = rw fits
       by_kind (k.Word w.Int) h = rw fits
@@ -164,7 +179,8 @@ module _ (limits : Limits) where
 
   -- the parts of a `for`, and what stands behind `return`
 
-  pub first_simple : (n : ℕ) (p : Place) (st : List Frame) (s : List Token) → AllowsDepth limits (n + 1) s → next_is begins_simple s ≡ true
+  pub first_simple : (n : ℕ) (p : Place) (st : List Frame) (s : List Token) → AllowsDepth limits (n + 1) s →
+      next_is begins_simple s ≡ true
       → run limits s (ForFirst n p) st ≡ begun limits s (FirstSimple n p ∷ st)
   first_simple n p st [] al h = refl
   first_simple n p st (t ∷ ts) al h = by_kind t.kind (by_beginning t.kind h)
@@ -173,13 +189,15 @@ module _ (limits : Limits) where
       fits = allows limits (n + 1) t ts al
 
       by_kind : (kind : TokenKind) → BeginsSimple kind
-          → run limits (record { kind = kind; place = t.place } ∷ ts) (ForFirst n p) st ≡ begun limits (record { kind = kind; place = t.place } ∷ ts) (FirstSimple n p ∷ st)
+          → run limits (record { kind = kind; place = t.place } ∷ ts) (ForFirst n p) st ≡ begun limits
+          (record { kind = kind; place = t.place } ∷ ts) (FirstSimple n p ∷ st)
       by_kind kind (a_name n) = rw fits
       by_kind kind a_star = rw fits
       by_kind kind an_increment = rw fits
       by_kind kind a_decrement = rw fits
 
-  pub first_kind : (n : ℕ) (p : Place) (st : List Frame) (s : List Token) → AllowsDepth limits (n + 1) s → next_is begins_kind s ≡ true
+  pub first_kind : (n : ℕ) (p : Place) (st : List Frame) (s : List Token) → AllowsDepth limits (n + 1) s →
+      next_is begins_kind s ≡ true
       → run limits s (ForFirst n p) st ≡ run limits s (WantKind None) (FirstKind n p ∷ st)
   first_kind n p st [] al h = refl
   first_kind n p st (t ∷ ts) al h = by_kind t.kind h
@@ -188,7 +206,8 @@ module _ (limits : Limits) where
       fits = allows limits (n + 1) t ts al
 
       by_kind : (kind : TokenKind) → begins_kind kind ≡ true
-          → run limits (record { kind = kind; place = t.place } ∷ ts) (ForFirst n p) st ≡ run limits (record { kind = kind; place = t.place } ∷ ts) (WantKind None) (FirstKind n p ∷ st)
+          → run limits (record { kind = kind; place = t.place } ∷ ts) (ForFirst n p) st ≡ run limits
+          (record { kind = kind; place = t.place } ∷ ts) (WantKind None) (FirstKind n p ∷ st)
       by_kind (k.Word w.Char) h = rw fits
       by_kind (k.Word w.Short) h = rw fits
       by_kind (k.Word w.Int) h = rw fits
@@ -196,16 +215,20 @@ module _ (limits : Limits) where
       by_kind (k.Word w.Signed) h = rw fits
       by_kind _ h = cc
 
-  pub second_expr : (n : ℕ) (p : Place) (i : StmtOption) (st : List Frame) (s : List Token) → next_is is_ending s ≡ false
+  pub second_expr : (n : ℕ) (p : Place) (i : StmtOption) (st : List Frame) (s : List Token) →
+      next_is is_ending s ≡ false
       → run limits s (ForSecond n p i) st ≡ run limits s WantOutermost (ForCondition n p i ∷ st)
-  second_expr n p i st s h = alike limits is_ending false (ForSecond n p i) WantOutermost st (ForCondition n p i ∷ st) refl by_kind s h
+  second_expr n p i st s h = alike limits is_ending false (ForSecond n p i) WantOutermost st (ForCondition n p i ∷ st)
+      refl by_kind s h
     where
       by_kind : (near leaves : Bool) (place : Place) (kind : TokenKind) → is_ending kind ≡ false
-          → for_second limits near leaves n p i st place kind ≡ begins_outermost limits near leaves (ForCondition n p i ∷ st) place kind
+          → for_second limits near leaves n p i st place kind ≡ begins_outermost limits near leaves
+          (ForCondition n p i ∷ st) place kind
       by_kind near leaves place (k.Sign sg.Semicolon) h = cc
       by_kind near leaves place _ h = refl
 
-  pub third_simple : (n : ℕ) (p : Place) (i : StmtOption) (c : Option ExprTree) (st : List Frame) (s : List Token) → AllowsDepth limits (n + 1) s → next_is begins_simple s ≡ true
+  pub third_simple : (n : ℕ) (p : Place) (i : StmtOption) (c : Option ExprTree) (st : List Frame) (s : List Token) →
+      AllowsDepth limits (n + 1) s → next_is begins_simple s ≡ true
       → run limits s (ForThird n p i c) st ≡ begun limits s (AfterSimple n p i c ∷ st)
   third_simple n p i c st [] al h = refl
   third_simple n p i c st (t ∷ ts) al h = by_kind t.kind (by_beginning t.kind h)
@@ -214,7 +237,8 @@ module _ (limits : Limits) where
       fits = allows limits (n + 1) t ts al
 
       by_kind : (kind : TokenKind) → BeginsSimple kind
-          → run limits (record { kind = kind; place = t.place } ∷ ts) (ForThird n p i c) st ≡ begun limits (record { kind = kind; place = t.place } ∷ ts) (AfterSimple n p i c ∷ st)
+          → run limits (record { kind = kind; place = t.place } ∷ ts) (ForThird n p i c) st ≡ begun limits
+          (record { kind = kind; place = t.place } ∷ ts) (AfterSimple n p i c ∷ st)
       by_kind kind (a_name n) = rw fits
       by_kind kind a_star = rw fits
       by_kind kind an_increment = rw fits
@@ -222,9 +246,11 @@ module _ (limits : Limits) where
 
   pub returned_expr : (q : Place) (st : List Frame) (s : List Token) → next_is is_ending s ≡ false
       → run limits s (AfterReturn q) st ≡ run limits s WantOutermost (ReturnValue q ∷ st)
-  returned_expr q st s h = alike limits is_ending false (AfterReturn q) WantOutermost st (ReturnValue q ∷ st) refl by_kind s h
+  returned_expr q st s h = alike limits is_ending false (AfterReturn q) WantOutermost st (ReturnValue q ∷ st)
+      refl by_kind s h
     where
       by_kind : (near leaves : Bool) (place : Place) (kind : TokenKind) → is_ending kind ≡ false
-          → after_return limits near leaves q st place kind ≡ begins_outermost limits near leaves (ReturnValue q ∷ st) place kind
+          → after_return limits near leaves q st place kind ≡ begins_outermost limits near leaves (ReturnValue q ∷ st)
+          place kind
       by_kind near leaves place (k.Sign sg.Semicolon) h = cc
       by_kind near leaves place _ h = refl

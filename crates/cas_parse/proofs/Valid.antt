@@ -44,41 +44,55 @@ calls (Keeps r f) = receives r
 -- a stack that awaits this
 pub data Stands : Hole → List Frame → Type 0 where
   on_before : (l : ℕ) (f : Prefix) (st : List Frame) → 0 < l → Stands AnExpr st → Stands AnExpr (Before l f ∷ st)
-  on_right : (l : ℕ) (op : Infix) (a : ExprTree) (st : List Frame) → 0 < l → Stands AnExpr st → Stands AnExpr (Right l op a ∷ st)
+  on_right : (l : ℕ) (op : Infix) (a : ExprTree) (st : List Frame) → 0 < l → Stands AnExpr st →
+      Stands AnExpr (Right l op a ∷ st)
   on_parens : (l : ℕ) (st : List Frame) → 0 < l → Stands AnExpr st → Stands AnExpr (InParens l ∷ st)
-  on_brackets : (l : ℕ) (taken : Bool) (x : Ident) (st : List Frame) → 0 < l → Stands AnExpr st → Stands AnExpr (InBrackets l taken x ∷ st)
+  on_brackets : (l : ℕ) (taken : Bool) (x : Ident) (st : List Frame) → 0 < l → Stands AnExpr st →
+      Stands AnExpr (InBrackets l taken x ∷ st)
   on_then : (l : ℕ) (c : ExprTree) (st : List Frame) → 0 < l → Stands AnExpr st → Stands AnExpr (Then l c ∷ st)
-  on_otherwise : (l : ℕ) (c a : ExprTree) (st : List Frame) → 0 < l → Stands AnExpr st → Stands AnExpr (Otherwise l c a ∷ st)
-  on_target_index : (usage : Use) (x : Ident) (st : List Frame) → Stands ASimple st → Stands AnExpr (TargetIndex usage x ∷ st)
+  on_otherwise : (l : ℕ) (c a : ExprTree) (st : List Frame) → 0 < l → Stands AnExpr st →
+      Stands AnExpr (Otherwise l c a ∷ st)
+  on_target_index : (usage : Use) (x : Ident) (st : List Frame) → Stands ASimple st →
+      Stands AnExpr (TargetIndex usage x ∷ st)
   on_target_behind : (usage : Use) (st : List Frame) → Stands ASimple st → Stands AnExpr (TargetBehind usage ∷ st)
   on_value : (r : Receiver) (st : List Frame) → Stands (receives r) st → Stands AnExpr (ValueOf r ∷ st)
-  on_assigned : (p : Place) (t : TargetTree) (op : Option BinaryOperator) (st : List Frame) → Stands ASimple st → Stands AnExpr (AssignedTo p t op ∷ st)
-  on_argument : (caller : Caller) (xs : List ExprTree) (st : List Frame) → Stands (calls caller) st → Stands AnExpr (Argument caller xs ∷ st)
+  on_assigned : (p : Place) (t : TargetTree) (op : Option BinaryOperator) (st : List Frame) → Stands ASimple st →
+      Stands AnExpr (AssignedTo p t op ∷ st)
+  on_argument : (caller : Caller) (xs : List ExprTree) (st : List Frame) → Stands (calls caller) st →
+      Stands AnExpr (Argument caller xs ∷ st)
   on_if : (n : ℕ) (p : Place) (st : List Frame) → Stands AStmt st → Stands AnExpr (IfCondition n p ∷ st)
   on_while : (n : ℕ) (p : Place) (st : List Frame) → Stands AStmt st → Stands AnExpr (WhileCondition n p ∷ st)
   on_do : (p : Place) (a : StmtTree) (st : List Frame) → Stands AStmt st → Stands AnExpr (DoCondition p a ∷ st)
-  on_for : (n : ℕ) (p : Place) (i : StmtOption) (st : List Frame) → Stands AStmt st → Stands AnExpr (ForCondition n p i ∷ st)
+  on_for : (n : ℕ) (p : Place) (i : StmtOption) (st : List Frame) → Stands AStmt st →
+      Stands AnExpr (ForCondition n p i ∷ st)
   on_return : (p : Place) (st : List Frame) → Stands AStmt st → Stands AnExpr (ReturnValue p ∷ st)
   on_print : (p : Place) (st : List Frame) → Stands AStmt st → Stands AnExpr (PrintValue p ∷ st)
   on_cast : (l : ℕ) (st : List Frame) → 0 < l → Stands AnExpr st → Stands CastWords (CastKind l ∷ st)
-  on_locals_kind : (n : ℕ) (bs : StmtList) (st : List Frame) → Stands AnEnd st → Stands LocalWords (LocalsKind n bs ∷ st)
+  on_locals_kind : (n : ℕ) (bs : StmtList) (st : List Frame) → Stands AnEnd st →
+      Stands LocalWords (LocalsKind n bs ∷ st)
   on_first_kind : (n : ℕ) (p : Place) (st : List Frame) → Stands AStmt st → Stands LocalWords (FirstKind n p ∷ st)
   on_return_kind : (d : Bool) (items : List ItemTree) → Stands ItemWords (ReturnKind d items ∷ [])
-  on_parameter_kind : (o : Opening) (tys : List Ty) (xs : List (Option Ident)) (items : List ItemTree) → Stands ItemWords (ParameterKind o tys xs items ∷ [])
+  on_parameter_kind : (o : Opening) (tys : List Ty) (xs : List (Option Ident)) (items : List ItemTree) →
+      Stands ItemWords (ParameterKind o tys xs items ∷ [])
   on_cells_kind : (s : Sort) (d : Bool) (items : List ItemTree) → Stands ItemWords (CellsKind s d items ∷ [])
   on_simple : (st : List Frame) → Stands AStmt st → Stands ASimple (SimpleStmt ∷ st)
   on_first_simple : (n : ℕ) (p : Place) (st : List Frame) → Stands AStmt st → Stands ASimple (FirstSimple n p ∷ st)
-  on_after_simple : (n : ℕ) (p : Place) (i : StmtOption) (c : Option ExprTree) (st : List Frame) → Stands AStmt st → Stands ASimple (AfterSimple n p i c ∷ st)
-  on_locals : (n : ℕ) (kd : Kind) (bs : StmtList) (st : List Frame) → Stands AnEnd st → Stands ALocal (Locals n kd bs ∷ st)
+  on_after_simple : (n : ℕ) (p : Place) (i : StmtOption) (c : Option ExprTree) (st : List Frame) → Stands AStmt st →
+      Stands ASimple (AfterSimple n p i c ∷ st)
+  on_locals : (n : ℕ) (kd : Kind) (bs : StmtList) (st : List Frame) → Stands AnEnd st →
+      Stands ALocal (Locals n kd bs ∷ st)
   on_first_local : (n : ℕ) (p : Place) (st : List Frame) → Stands AStmt st → Stands ALocal (FirstLocal n p ∷ st)
   on_if_then : (n : ℕ) (p : Place) (c : ExprTree) (st : List Frame) → Stands AStmt st → Stands AStmt (IfThen n p c ∷ st)
-  on_if_else : (p : Place) (c : ExprTree) (a : StmtTree) (st : List Frame) → Stands AStmt st → Stands AStmt (IfElse p c a ∷ st)
+  on_if_else : (p : Place) (c : ExprTree) (a : StmtTree) (st : List Frame) → Stands AStmt st →
+      Stands AStmt (IfElse p c a ∷ st)
   on_while_body : (p : Place) (c : ExprTree) (st : List Frame) → Stands AStmt st → Stands AStmt (WhileBody p c ∷ st)
   on_do_body : (p : Place) (st : List Frame) → Stands AStmt st → Stands AStmt (DoBody p ∷ st)
-  on_for_body : (p : Place) (i : StmtOption) (c : Option ExprTree) (u : StmtOption) (st : List Frame) → Stands AStmt st → Stands AStmt (ForBody p i c u ∷ st)
+  on_for_body : (p : Place) (i : StmtOption) (c : Option ExprTree) (u : StmtOption) (st : List Frame) →
+      Stands AStmt st → Stands AStmt (ForBody p i c u ∷ st)
   on_next : (n : ℕ) (bs : StmtList) (st : List Frame) → Stands AnEnd st → Stands AStmt (NextStmt n bs ∷ st)
   on_block : (p : Place) (st : List Frame) → Stands AStmt st → Stands AnEnd (BlockOf p ∷ st)
-  on_body : (x : Ident) (f : Form) (xs : List Ident) (held : List Place) (items : List ItemTree) → Stands AnEnd (BodyOf x f xs held items ∷ [])
+  on_body : (x : Ident) (f : Form) (xs : List Ident) (held : List Place) (items : List ItemTree) →
+      Stands AnEnd (BodyOf x f xs held items ∷ [])
 
 -- whether the words of a kind stand inside a function's body
 abbrev pub kind_inside : List Frame → Bool
@@ -203,10 +217,13 @@ pub record Comes (inside : Bool) (kind : TokenKind) (next : Control × List Fram
   pub valid : Valid next.0 next.1
   pub stays : Stays inside kind next.0 next.1
 
--- What a token leads to: where limits are asked, where they aren't, and where besides a form that is left out may stand.
+-- What a token leads to: where limits are asked, where they aren't, and where besides a form that is left out may
+-- stand.
 pub data Judged (inside : Bool) (kind : TokenKind) : Outcome → Outcome → Outcome → Type 0 where
   goes_on : (next : Control × List Frame) → Comes inside kind next → Judged inside kind (Ok next) (Ok next) (Ok next)
-  limited_here : (next : Control × List Frame) → Comes inside kind next → Judged inside kind (Err R8) (Ok next) (Ok next)
-  left_out_here : (next : Control × List Frame) → Comes inside kind next → Judged inside kind (Err R7) (Err R7) (Ok next)
+  limited_here : (next : Control × List Frame) → Comes inside kind next →
+      Judged inside kind (Err R8) (Ok next) (Ok next)
+  left_out_here : (next : Control × List Frame) → Comes inside kind next →
+      Judged inside kind (Err R7) (Err R7) (Ok next)
   const_inside : inside ≡ true → kind ≡ k.Word w.Const → Judged inside kind (Err R7) (Err R7) (Err R7)
   refused : (inside ≡ true → kind ≡ k.Word w.Const → ⊥) → Judged inside kind (Err R5) (Err R5) (Err R5)

@@ -21,29 +21,41 @@ finishes : (c : Control) (items : List ItemTree) → finish c ≡ Ok items → i
 finishes (InItems items) found e = refl
 finishes c found e = cc
 
-stays_out : (kind : TokenKind) (c : Control) (st : List Frame) → Stays false kind c st → is_opening_brace kind ≡ false → is_inside c st ≡ false
+stays_out : (kind : TokenKind) (c : Control) (st : List Frame) → Stays false kind c st → is_opening_brace kind ≡ false →
+    is_inside c st ≡ false
 stays_out (k.Sign sg.OpenBrace) c st s e = cc
 stays_out (k.Sign sg.CloseBrace) c st s e = s.0
 stays_out kind c st s e = s
 
 -- from outside a function's body no closing brace ends a module, unless an opening one comes before it
-pub outside_never : (cut : ℕ) (others : List Token) (p : Place) (c : Control) (st : List Frame) (items : List ItemTree) → Valid c st → is_inside c st ≡ false → OpensNothing others →
-    length (others ++ sign sg.CloseBrace p ∷ []) ≤ cut → run (without cut None) (others ++ sign sg.CloseBrace p ∷ []) c st ≡ Ok items → ⊥
+pub outside_never : (cut : ℕ) (others : List Token) (p : Place) (c : Control) (st : List Frame) (items : List ItemTree)
+    → Valid c st → is_inside c st ≡ false → OpensNothing others →
+    length (others ++ sign sg.CloseBrace p ∷ []) ≤ cut →
+    run (without cut None) (others ++ sign sg.CloseBrace p ∷ []) c st ≡ Ok items → ⊥
 outside_never cut [] p c st items v out opens le h =
-    by_step (taken_by true false (sign sg.CloseBrace p) c st) refl (sym (run_step cut None (sign sg.CloseBrace p) [] c st true false (grind arith) refl) ∙ h)
+    by_step (taken_by true false (sign sg.CloseBrace p) c st) refl
+    (sym (run_step cut None (sign sg.CloseBrace p) [] c st true false (grind arith) refl) ∙ h)
   where
-    by_step : (o : Outcome) → taken_by true false (sign sg.CloseBrace p) c st ≡ o → go (run (without cut None) []) 0 o ≡ Ok items → ⊥
+    by_step : (o : Outcome) → taken_by true false (sign sg.CloseBrace p) c st ≡ o →
+        go (run (without cut None) []) 0 o ≡ Ok items → ⊥
     by_step (Ok m) e h =
-        let came : Comes false (k.Sign sg.CloseBrace) m = subst (λ (i : Bool). Comes i (k.Sign sg.CloseBrace) m) out (comes_near (judged (sign sg.CloseBrace p) c st v) e) in
+        let came : Comes false (k.Sign sg.CloseBrace) m =
+        subst (λ (i : Bool). Comes i (k.Sign sg.CloseBrace) m) out
+        (comes_near (judged (sign sg.CloseBrace p) c st v) e) in
         let last : is_items m.0 ≡ true = finishes m.0 items h in
         let none : is_items m.0 ≡ false = came.stays.1 in
         cc
     by_step (Err code) e h = cc
 outside_never cut (t ∷ ts) p c st items v out opens le h =
-    by_step (taken_by true false t c st) refl (sym (run_step cut None t (ts ++ sign sg.CloseBrace p ∷ []) c st true false (grind arith) refl) ∙ h) (outside_never cut ts p)
+    by_step (taken_by true false t c st) refl
+    (sym (run_step cut None t (ts ++ sign sg.CloseBrace p ∷ []) c st true false (grind arith) refl) ∙ h)
+    (outside_never cut ts p)
   where
-    by_step : (o : Outcome) → taken_by true false t c st ≡ o → go (run (without cut None) (ts ++ sign sg.CloseBrace p ∷ [])) (length (ts ++ sign sg.CloseBrace p ∷ [])) o ≡ Ok items →
-        ((c : Control) (st : List Frame) (items : List ItemTree) → Valid c st → is_inside c st ≡ false → OpensNothing ts → length (ts ++ sign sg.CloseBrace p ∷ []) ≤ cut →
+    by_step : (o : Outcome) → taken_by true false t c st ≡ o →
+        go (run (without cut None) (ts ++ sign sg.CloseBrace p ∷ [])) (length (ts ++ sign sg.CloseBrace p ∷ []))
+        o ≡ Ok items →
+        ((c : Control) (st : List Frame) (items : List ItemTree) → Valid c st → is_inside c st ≡ false →
+        OpensNothing ts → length (ts ++ sign sg.CloseBrace p ∷ []) ≤ cut →
         run (without cut None) (ts ++ sign sg.CloseBrace p ∷ []) c st ≡ Ok items → ⊥) → ⊥
     by_step (Ok m) e h recur =
         let came : Comes false t.kind m = subst (λ (i : Bool). Comes i t.kind m) out (comes_near (judged t c st v) e) in

@@ -27,116 +27,147 @@ use Rattle.cas_parse.proofs.ViableKinds.{goes, local_started_fits, parameter_end
 use Rattle.cas_parse.proofs.ViableStatements.{after_target_fits, after_name_fits, after_star_fits, want_target_fits, stepped_name_fits, local_name_fits, local_star_fits, local_pointer_fits, local_length_fits, local_array_fits, started_fits, in_list_fits, down_stmt_fits, for_first_fits, for_second_fits, for_third_fits, after_return_fits, lock_name_fits}
 
 module _ (limits : Limits) where
-  item_started_fits : (d : Bool) (items : List ItemTree) (kind : TokenKind) → Fits false kind (λ near leaves. item_started limits near leaves d items [] kind)
+  item_started_fits : (d : Bool) (items : List ItemTree) (kind : TokenKind) →
+      Fits false kind (λ near leaves. item_started limits near leaves d items [] kind)
   item_started_fits d items (k.Word w.Lock) = goes refl refl
   item_started_fits d items (k.Word w.Shared) = goes (refl, refl, refl) refl
   item_started_fits d items (k.Word w.Const) = goes (on_cells_kind Constant d items) refl
   item_started_fits d items (k.Word w.Void) = goes refl refl
-  item_started_fits d items kind = want_kind_fits limits None (ReturnKind d items ∷ []) kind (inr (on_return_kind d items)) (λ e. refl)
+  item_started_fits d items kind = want_kind_fits limits None (ReturnKind d items ∷ []) kind
+      (inr (on_return_kind d items)) (λ e. refl)
 
-  in_items_fits : (items : List ItemTree) (kind : TokenKind) → Fits false kind (λ near leaves. in_items limits near leaves items [] kind)
+  in_items_fits : (items : List ItemTree) (kind : TokenKind) →
+      Fits false kind (λ near leaves. in_items limits near leaves items [] kind)
   in_items_fits items (k.Word w.Extern) = goes refl refl
   in_items_fits items kind = item_started_fits true items kind
 
-  global_lock_fits : (d : Bool) (items : List ItemTree) (p : Place) (kind : TokenKind) → Fits false kind (λ near leaves. global_lock limits near leaves d items [] p kind)
+  global_lock_fits : (d : Bool) (items : List ItemTree) (p : Place) (kind : TokenKind) →
+      Fits false kind (λ near leaves. global_lock limits near leaves d items [] p kind)
   global_lock_fits d items p (k.Name n) = goes (refl, refl, refl) refl
   global_lock_fits d items p kind = outside_fits kind
 
-  global_guard_fits : (d : Bool) (items : List ItemTree) (p : Place) (kind : TokenKind) → Fits false kind (λ near leaves. global_guard limits near leaves d items [] p kind)
+  global_guard_fits : (d : Bool) (items : List ItemTree) (p : Place) (kind : TokenKind) →
+      Fits false kind (λ near leaves. global_guard limits near leaves d items [] p kind)
   global_guard_fits d items p (k.Name n) = goes (refl, refl, on_cells_kind _ d items) refl
   global_guard_fits d items p kind = outside_fits kind
 
-  cells_ended_fits : (d : Data) (x : Ident) (ty : Ty) (vs : List ℕ) (items : List ItemTree) (kind : TokenKind) → Fits false kind (λ near leaves. cells_ended limits near leaves d x ty vs items [] kind)
+  cells_ended_fits : (d : Data) (x : Ident) (ty : Ty) (vs : List ℕ) (items : List ItemTree) (kind : TokenKind) →
+      Fits false kind (λ near leaves. cells_ended limits near leaves d x ty vs items [] kind)
   cells_ended_fits d x ty vs items (k.Sign sg.Semicolon) = goes refl refl
   cells_ended_fits d x ty vs items kind = outside_fits kind
 
-  if_defined_fits : (kind : TokenKind) (d : Bool) (c : Control) → Valid c [] → Stays false kind c [] → Fits false kind (λ near leaves. if_defined limits near leaves d c [])
+  if_defined_fits : (kind : TokenKind) (d : Bool) (c : Control) → Valid c [] → Stays false kind c [] →
+      Fits false kind (λ near leaves. if_defined limits near leaves d c [])
   if_defined_fits kind true c v s = goes v s
   if_defined_fits kind false c v s = outside_fits kind
 
-  cell_name_fits : (d : Data) (x : Ident) (items : List ItemTree) (kind : TokenKind) → Fits false kind (λ near leaves. cell_name limits near leaves d x items [] kind)
+  cell_name_fits : (d : Data) (x : Ident) (items : List ItemTree) (kind : TokenKind) →
+      Fits false kind (λ near leaves. cell_name limits near leaves d x items [] kind)
   cell_name_fits d x items (k.Sign sg.OpenBracket) = goes refl refl
-  cell_name_fits d x items (k.Sign sg.Equal) = if_defined_fits (k.Sign sg.Equal) d.defined (CellValue d x items) refl refl
+  cell_name_fits d x items (k.Sign sg.Equal) = if_defined_fits (k.Sign sg.Equal) d.defined (CellValue d x items)
+      refl refl
   cell_name_fits d x items kind = cells_ended_fits d x (Int d.kind) [] items kind
 
-  cell_length_fits : (d : Data) (x : Ident) (items : List ItemTree) (kind : TokenKind) → Fits false kind (λ near leaves. cell_length limits near leaves d x items [] kind)
+  cell_length_fits : (d : Data) (x : Ident) (items : List ItemTree) (kind : TokenKind) →
+      Fits false kind (λ near leaves. cell_length limits near leaves d x items [] kind)
   cell_length_fits d x items (k.Literal n j) = goes (refl, refl, refl) refl
   cell_length_fits d x items kind = outside_fits kind
 
-  cell_array_fits : (d : Data) (x : Ident) (n : ℕ) (items : List ItemTree) (kind : TokenKind) → Fits false kind (λ near leaves. cell_array limits near leaves d x n items [] kind)
-  cell_array_fits d x n items (k.Sign sg.OpenBracket) = leave_fits limits (CellsEnd d x (Array d.kind n) [] items) [] refl refl
-  cell_array_fits d x n items (k.Sign sg.Equal) = if_defined_fits (k.Sign sg.Equal) d.defined (Expect false sg.OpenBrace (WantCells d x n [] items)) (refl, refl, refl) refl
+  cell_array_fits : (d : Data) (x : Ident) (n : ℕ) (items : List ItemTree) (kind : TokenKind) →
+      Fits false kind (λ near leaves. cell_array limits near leaves d x n items [] kind)
+  cell_array_fits d x n items (k.Sign sg.OpenBracket) =
+      leave_fits limits (CellsEnd d x (Array d.kind n) [] items) [] refl refl
+  cell_array_fits d x n items (k.Sign sg.Equal) = if_defined_fits (k.Sign sg.Equal) d.defined
+      (Expect false sg.OpenBrace (WantCells d x n [] items)) (refl, refl, refl) refl
   cell_array_fits d x n items kind = cells_ended_fits d x (Array d.kind n) [] items kind
 
-  cell_value_fits : (d : Data) (x : Ident) (items : List ItemTree) (kind : TokenKind) → Fits false kind (λ near leaves. cell_value limits near leaves d x items [] kind)
+  cell_value_fits : (d : Data) (x : Ident) (items : List ItemTree) (kind : TokenKind) →
+      Fits false kind (λ near leaves. cell_value limits near leaves d x items [] kind)
   cell_value_fits d x items (k.Literal n j) = goes refl refl
   cell_value_fits d x items (k.Sign sg.Minus) = goes refl refl
   cell_value_fits d x items kind = outside_fits kind
 
-  cell_negative_fits : (d : Data) (x : Ident) (items : List ItemTree) (kind : TokenKind) → Fits false kind (λ near leaves. cell_negative limits near leaves d x items [] kind)
+  cell_negative_fits : (d : Data) (x : Ident) (items : List ItemTree) (kind : TokenKind) →
+      Fits false kind (λ near leaves. cell_negative limits near leaves d x items [] kind)
   cell_negative_fits d x items (k.Literal n j) = goes refl refl
   cell_negative_fits d x items kind = outside_fits kind
 
-  want_cells_fits : (d : Data) (x : Ident) (n : ℕ) (vs : List ℕ) (items : List ItemTree) (kind : TokenKind) → Fits false kind (λ near leaves. want_cells limits near leaves d x n vs items [] kind)
+  want_cells_fits : (d : Data) (x : Ident) (n : ℕ) (vs : List ℕ) (items : List ItemTree) (kind : TokenKind) →
+      Fits false kind (λ near leaves. want_cells limits near leaves d x n vs items [] kind)
   want_cells_fits d x n vs items (k.Literal v j) = goes refl refl
   want_cells_fits d x n vs items (k.Sign sg.Minus) = goes refl refl
   want_cells_fits d x n vs items kind = outside_fits kind
 
-  negative_cells_fits : (d : Data) (x : Ident) (n : ℕ) (vs : List ℕ) (items : List ItemTree) (kind : TokenKind) → Fits false kind (λ near leaves. negative_cells limits near leaves d x n vs items [] kind)
+  negative_cells_fits : (d : Data) (x : Ident) (n : ℕ) (vs : List ℕ) (items : List ItemTree) (kind : TokenKind) →
+      Fits false kind (λ near leaves. negative_cells limits near leaves d x n vs items [] kind)
   negative_cells_fits d x n vs items (k.Literal v j) = goes refl refl
   negative_cells_fits d x n vs items kind = outside_fits kind
 
-  have_cells_fits : (d : Data) (x : Ident) (n : ℕ) (vs : List ℕ) (items : List ItemTree) (kind : TokenKind) → Fits false kind (λ near leaves. have_cells limits near leaves d x n vs items [] kind)
+  have_cells_fits : (d : Data) (x : Ident) (n : ℕ) (vs : List ℕ) (items : List ItemTree) (kind : TokenKind) →
+      Fits false kind (λ near leaves. have_cells limits near leaves d x n vs items [] kind)
   have_cells_fits d x n vs items (k.Sign sg.Comma) = goes refl refl
   have_cells_fits d x n vs items (k.Sign sg.CloseBrace) = goes refl (refl, refl)
   have_cells_fits d x n vs items kind = outside_fits kind
 
-  more_cells_fits : (d : Data) (x : Ident) (n : ℕ) (vs : List ℕ) (items : List ItemTree) (kind : TokenKind) → Fits false kind (λ near leaves. more_cells limits near leaves d x n vs items [] kind)
+  more_cells_fits : (d : Data) (x : Ident) (n : ℕ) (vs : List ℕ) (items : List ItemTree) (kind : TokenKind) →
+      Fits false kind (λ near leaves. more_cells limits near leaves d x n vs items [] kind)
   more_cells_fits d x n vs items (k.Sign sg.CloseBrace) = goes refl (refl, refl)
   more_cells_fits d x n vs items kind = want_cells_fits d x n vs items kind
 
-  return_star_fits : (d : Bool) (kd : Kind) (items : List ItemTree) (p : Place) (kind : TokenKind) → Fits false kind (λ near leaves. return_star limits near leaves d kd items [] p kind)
+  return_star_fits : (d : Bool) (kd : Kind) (items : List ItemTree) (p : Place) (kind : TokenKind) →
+      Fits false kind (λ near leaves. return_star limits near leaves d kd items [] p kind)
   return_star_fits d kd items p (k.Sign sg.Star) = leave_fits limits (WantFunction d (Ptr kd) items) [] refl refl
   return_star_fits d kd items p kind = function_named_fits limits d (Ptr kd) items p kind
 
-  function_name_fits : (o : Opening) (items : List ItemTree) (kind : TokenKind) → Fits false kind (λ near leaves. function_name limits near leaves o items [] kind)
+  function_name_fits : (o : Opening) (items : List ItemTree) (kind : TokenKind) →
+      Fits false kind (λ near leaves. function_name limits near leaves o items [] kind)
   function_name_fits o items (k.Sign sg.OpenParen) = goes refl refl
   function_name_fits o items (k.Sign sg.OpenBracket) = leave_fits limits _ [] refl refl
   function_name_fits o items (k.Sign sg.Equal) = leave_fits limits _ [] refl refl
   function_name_fits o items (k.Sign sg.Semicolon) = leave_fits limits _ [] refl refl
   function_name_fits o items kind = outside_fits kind
 
-  want_parameters_fits : (o : Opening) (items : List ItemTree) (kind : TokenKind) → Fits false kind (λ near leaves. want_parameters limits near leaves o items [] kind)
+  want_parameters_fits : (o : Opening) (items : List ItemTree) (kind : TokenKind) →
+      Fits false kind (λ near leaves. want_parameters limits near leaves o items [] kind)
   want_parameters_fits o items (k.Sign sg.CloseParen) = goes refl refl
   want_parameters_fits o items (k.Word w.Void) = goes (refl, refl, refl) refl
-  want_parameters_fits o items kind = want_kind_fits limits None (ParameterKind o [] [] items ∷ []) kind (inr (on_parameter_kind o [] [] items)) (λ e. refl)
+  want_parameters_fits o items kind = want_kind_fits limits None (ParameterKind o [] [] items ∷ []) kind
+      (inr (on_parameter_kind o [] [] items)) (λ e. refl)
 
-  parameter_star_fits : (o : Opening) (tys : List Ty) (xs : List (Option Ident)) (kd : Kind) (items : List ItemTree) (p : Place) (kind : TokenKind) →
+  parameter_star_fits : (o : Opening) (tys : List Ty) (xs : List (Option Ident)) (kd : Kind) (items : List ItemTree)
+      (p : Place) (kind : TokenKind) →
       Fits false kind (λ near leaves. parameter_star limits near leaves o tys xs kd items [] p kind)
-  parameter_star_fits o tys xs kd items p (k.Sign sg.Star) = leave_fits limits (ParameterType o tys xs (Ptr kd) items) [] refl refl
+  parameter_star_fits o tys xs kd items p (k.Sign sg.Star) =
+      leave_fits limits (ParameterType o tys xs (Ptr kd) items) [] refl refl
   parameter_star_fits o tys xs kd items p kind = parameter_typed_fits limits o tys xs (Ptr kd) items p kind
 
-  body_started_fits : (x : Ident) (f : Form) (held : List Place) (items : List ItemTree) (d : Bool) (names : Option (List Ident)) →
+  body_started_fits : (x : Ident) (f : Form) (held : List Place) (items : List ItemTree) (d : Bool)
+      (names : Option (List Ident)) →
       Fits false (k.Sign sg.OpenBrace) (λ near leaves. body_started limits near leaves x f held items [] d names)
   body_started_fits x f held items true (Some xs) = goes (on_body x f xs held items) tt
   body_started_fits x f held items d names = outside_fits (k.Sign sg.OpenBrace)
 
-  after_head_fits : (x : Ident) (f : Form) (d : Bool) (xs : List (Option Ident)) (held : List Place) (items : List ItemTree) (kind : TokenKind) →
+  after_head_fits : (x : Ident) (f : Form) (d : Bool) (xs : List (Option Ident)) (held : List Place)
+      (items : List ItemTree) (kind : TokenKind) →
       Fits false kind (λ near leaves. after_head limits near leaves x f d xs held items [] kind)
   after_head_fits x f d xs held items (k.Sign sg.Semicolon) = goes refl refl
   after_head_fits x f d xs held items (k.Sign sg.OpenBrace) = body_started_fits x f held items d (all_named xs)
   after_head_fits x f d xs held items kind = outside_fits kind
 
-  after_parameters_fits : (o : Opening) (tys : List Ty) (xs : List (Option Ident)) (items : List ItemTree) (kind : TokenKind) → Fits false kind (λ near leaves. after_parameters limits near leaves o tys xs items [] kind)
+  after_parameters_fits : (o : Opening) (tys : List Ty) (xs : List (Option Ident)) (items : List ItemTree)
+      (kind : TokenKind) → Fits false kind (λ near leaves. after_parameters limits near leaves o tys xs items [] kind)
   after_parameters_fits o tys xs items (k.Word w.Holds) = goes (refl, refl, refl) refl
-  after_parameters_fits o tys xs items kind = after_head_fits o.name (form.Function o.ret tys []) o.defined xs [] items kind
+  after_parameters_fits o tys xs items kind = after_head_fits o.name (form.Function o.ret tys [])
+      o.defined xs [] items kind
 
-  want_held_fits : (o : Opening) (tys : List Ty) (xs : List (Option Ident)) (held : List Ident) (items : List ItemTree) (p : Place) (kind : TokenKind) →
+  want_held_fits : (o : Opening) (tys : List Ty) (xs : List (Option Ident)) (held : List Ident) (items : List ItemTree)
+      (p : Place) (kind : TokenKind) →
       Fits false kind (λ near leaves. want_held limits near leaves o tys xs held items [] p kind)
   want_held_fits o tys xs held items p (k.Name n) = goes refl refl
   want_held_fits o tys xs held items p kind = outside_fits kind
 
-  have_held_fits : (o : Opening) (tys : List Ty) (xs : List (Option Ident)) (held : List Ident) (items : List ItemTree) (kind : TokenKind) →
+  have_held_fits : (o : Opening) (tys : List Ty) (xs : List (Option Ident)) (held : List Ident) (items : List ItemTree)
+      (kind : TokenKind) →
       Fits false kind (λ near leaves. have_held limits near leaves o tys xs held items [] kind)
   have_held_fits o tys xs held items (k.Sign sg.Comma) = goes refl refl
   have_held_fits o tys xs held items (k.Sign sg.CloseParen) = goes refl refl
@@ -148,7 +179,8 @@ module _ (limits : Limits) where
   no_closing_brace sg.Semicolon e = cc
   no_closing_brace s e = cc
 
-  stays_expected : (s : Sign) (c : Control) (st : List Frame) (kind : TokenKind) → is s kind ≡ true → is_inside c st ≡ false → Stays false kind c st
+  stays_expected : (s : Sign) (c : Control) (st : List Frame) (kind : TokenKind) → is s kind ≡ true →
+      is_inside c st ≡ false → Stays false kind c st
   stays_expected s c st (k.Sign sg.OpenBrace) e i = tt
   stays_expected s c st (k.Sign sg.CloseBrace) e i = absurd (no_closing_brace s e)
   stays_expected s c st _ e i = i
@@ -167,8 +199,11 @@ module _ (limits : Limits) where
       by_test false e = outside_fits t.kind
 
   -- over no frames
-  over_none : (t : Token) (c : Control) (st : List Frame) → st ≡ [] → Fits false t.kind (λ near leaves. shift limits near leaves t c []) → Fits false t.kind (λ near leaves. shift limits near leaves t c st)
-  over_none t c st e h = subst (λ (s : List Frame). Fits false t.kind (λ near leaves. shift limits near leaves t c s)) (sym e) h
+  over_none : (t : Token) (c : Control) (st : List Frame) → st ≡ [] →
+      Fits false t.kind (λ near leaves. shift limits near leaves t c []) →
+      Fits false t.kind (λ near leaves. shift limits near leaves t c st)
+  over_none t c st e h = subst (λ (s : List Frame). Fits false t.kind (λ near leaves. shift limits near leaves t c s))
+      (sym e) h
 
   -- the words of an item's kind are outside
   item_words_outside : {st : List Frame} → Stands ItemWords st → kind_inside st ≡ false
@@ -176,7 +211,8 @@ module _ (limits : Limits) where
   item_words_outside (on_parameter_kind o tys xs items) = refl
   item_words_outside (on_cells_kind s d items) = refl
 
-  pub shift_fits : (t : Token) (c : Control) (st : List Frame) → Valid c st → Fits (is_inside c st) t.kind (λ near leaves. shift limits near leaves t c st)
+  pub shift_fits : (t : Token) (c : Control) (st : List Frame) → Valid c st →
+      Fits (is_inside c st) t.kind (λ near leaves. shift limits near leaves t c st)
   shift_fits t (WantExpr b l) st h = counted_fits limits b (operand_fits limits b l st t.place t.kind h.0 h.1)
   shift_fits t (HaveExpr b l x) st h = have_fits limits b l x st t.kind h.0 h.1
   shift_fits t (Given b x) st h = absurd h
@@ -218,29 +254,51 @@ module _ (limits : Limits) where
   shift_fits t (UnlockName q) st h = lock_name_fits limits (unlock q) st t.place t.kind h
   shift_fits t (InItems items) st h = over_none t (InItems items) st h (in_items_fits items t.kind)
   shift_fits t (AfterExtern items) st h = over_none t (AfterExtern items) st h (item_started_fits false items t.kind)
-  shift_fits t (GlobalLock d items) st h = over_none t (GlobalLock d items) st h (global_lock_fits d items t.place t.kind)
-  shift_fits t (GlobalGuard d items) st h = over_none t (GlobalGuard d items) st h (global_guard_fits d items t.place t.kind)
+  shift_fits t (GlobalLock d items) st h = over_none t (GlobalLock d items) st h
+      (global_lock_fits d items t.place t.kind)
+  shift_fits t (GlobalGuard d items) st h = over_none t (GlobalGuard d items) st h
+      (global_guard_fits d items t.place t.kind)
   shift_fits t (CellName d x items) st h = over_none t (CellName d x items) st h (cell_name_fits d x items t.kind)
   shift_fits t (CellLength d x items) st h = over_none t (CellLength d x items) st h (cell_length_fits d x items t.kind)
-  shift_fits t (CellArray d x n items) st h = over_none t (CellArray d x n items) st h (cell_array_fits d x n items t.kind)
+  shift_fits t (CellArray d x n items) st h = over_none t (CellArray d x n items) st h
+      (cell_array_fits d x n items t.kind)
   shift_fits t (CellValue d x items) st h = over_none t (CellValue d x items) st h (cell_value_fits d x items t.kind)
-  shift_fits t (CellNegative d x items) st h = over_none t (CellNegative d x items) st h (cell_negative_fits d x items t.kind)
-  shift_fits t (WantCells d x n vs items) st h = over_none t (WantCells d x n vs items) st h (want_cells_fits d x n vs items t.kind)
-  shift_fits t (NegativeCells d x n vs items) st h = over_none t (NegativeCells d x n vs items) st h (negative_cells_fits d x n vs items t.kind)
-  shift_fits t (HaveCells d x n vs items) st h = over_none t (HaveCells d x n vs items) st h (have_cells_fits d x n vs items t.kind)
-  shift_fits t (MoreCells d x n vs items) st h = over_none t (MoreCells d x n vs items) st h (more_cells_fits d x n vs items t.kind)
-  shift_fits t (CellsEnd d x ty vs items) st h = over_none t (CellsEnd d x ty vs items) st h (cells_ended_fits d x ty vs items t.kind)
-  shift_fits t (WantFunction d ty items) st h = over_none t (WantFunction d ty items) st h (function_named_fits limits d ty items t.place t.kind)
-  shift_fits t (ReturnStar d kd items) st h = over_none t (ReturnStar d kd items) st h (return_star_fits d kd items t.place t.kind)
+  shift_fits t (CellNegative d x items) st h = over_none t (CellNegative d x items) st h
+      (cell_negative_fits d x items t.kind)
+  shift_fits t (WantCells d x n vs items) st h = over_none t (WantCells d x n vs items) st h
+      (want_cells_fits d x n vs items t.kind)
+  shift_fits t (NegativeCells d x n vs items) st h = over_none t (NegativeCells d x n vs items) st h
+      (negative_cells_fits d x n vs items t.kind)
+  shift_fits t (HaveCells d x n vs items) st h = over_none t (HaveCells d x n vs items) st h
+      (have_cells_fits d x n vs items t.kind)
+  shift_fits t (MoreCells d x n vs items) st h = over_none t (MoreCells d x n vs items) st h
+      (more_cells_fits d x n vs items t.kind)
+  shift_fits t (CellsEnd d x ty vs items) st h = over_none t (CellsEnd d x ty vs items) st h
+      (cells_ended_fits d x ty vs items t.kind)
+  shift_fits t (WantFunction d ty items) st h = over_none t (WantFunction d ty items) st h
+      (function_named_fits limits d ty items t.place t.kind)
+  shift_fits t (ReturnStar d kd items) st h = over_none t (ReturnStar d kd items) st h
+      (return_star_fits d kd items t.place t.kind)
   shift_fits t (FunctionName o items) st h = over_none t (FunctionName o items) st h (function_name_fits o items t.kind)
-  shift_fits t (WantParameters o items) st h = over_none t (WantParameters o items) st h (want_parameters_fits o items t.kind)
+  shift_fits t (WantParameters o items) st h = over_none t (WantParameters o items) st h
+      (want_parameters_fits o items t.kind)
   shift_fits t (WantParameter o tys xs items) st h =
-      over_none t (WantParameter o tys xs items) st h (want_kind_fits limits None (ParameterKind o tys xs items ∷ []) t.kind (inr (on_parameter_kind o tys xs items)) (λ e. refl))
-  shift_fits t (ParameterStar o tys xs kd items) st h = over_none t (ParameterStar o tys xs kd items) st h (parameter_star_fits o tys xs kd items t.place t.kind)
-  shift_fits t (ParameterType o tys xs ty items) st h = over_none t (ParameterType o tys xs ty items) st h (parameter_typed_fits limits o tys xs ty items t.place t.kind)
-  shift_fits t (ParameterName o tys xs ty x items) st h = over_none t (ParameterName o tys xs ty x items) st h (parameter_ended_fits limits o (tys ++ ty ∷ []) (xs ++ Some x ∷ []) items t.kind)
-  shift_fits t (HaveParameter o tys xs items) st h = over_none t (HaveParameter o tys xs items) st h (parameter_ended_fits limits o tys xs items t.kind)
-  shift_fits t (AfterParameters o tys xs items) st h = over_none t (AfterParameters o tys xs items) st h (after_parameters_fits o tys xs items t.kind)
-  shift_fits t (WantHeld o tys xs held items) st h = over_none t (WantHeld o tys xs held items) st h (want_held_fits o tys xs held items t.place t.kind)
-  shift_fits t (HaveHeld o tys xs held items) st h = over_none t (HaveHeld o tys xs held items) st h (have_held_fits o tys xs held items t.kind)
-  shift_fits t (AfterHead x f d xs held items) st h = over_none t (AfterHead x f d xs held items) st h (after_head_fits x f d xs held items t.kind)
+      over_none t (WantParameter o tys xs items) st h (want_kind_fits limits None (ParameterKind o tys xs items ∷ [])
+      t.kind (inr (on_parameter_kind o tys xs items)) (λ e. refl))
+  shift_fits t (ParameterStar o tys xs kd items) st h =
+      over_none t (ParameterStar o tys xs kd items) st h (parameter_star_fits o tys xs kd items t.place t.kind)
+  shift_fits t (ParameterType o tys xs ty items) st h =
+      over_none t (ParameterType o tys xs ty items) st h (parameter_typed_fits limits o tys xs ty items t.place t.kind)
+  shift_fits t (ParameterName o tys xs ty x items) st h =
+      over_none t (ParameterName o tys xs ty x items) st h
+      (parameter_ended_fits limits o (tys ++ ty ∷ []) (xs ++ Some x ∷ []) items t.kind)
+  shift_fits t (HaveParameter o tys xs items) st h = over_none t (HaveParameter o tys xs items) st h
+      (parameter_ended_fits limits o tys xs items t.kind)
+  shift_fits t (AfterParameters o tys xs items) st h =
+      over_none t (AfterParameters o tys xs items) st h (after_parameters_fits o tys xs items t.kind)
+  shift_fits t (WantHeld o tys xs held items) st h = over_none t (WantHeld o tys xs held items) st h
+      (want_held_fits o tys xs held items t.place t.kind)
+  shift_fits t (HaveHeld o tys xs held items) st h = over_none t (HaveHeld o tys xs held items) st h
+      (have_held_fits o tys xs held items t.kind)
+  shift_fits t (AfterHead x f d xs held items) st h = over_none t (AfterHead x f d xs held items) st h
+      (after_head_fits x f d xs held items t.kind)

@@ -33,7 +33,8 @@ pub data Use : Type 0 where
   Written : Place → Use
   Stepped : Place → BinaryOperator → Use
 
--- the beginning of a function: whether `extern` stands before it or not (a definition may follow), its type and its name
+-- the beginning of a function: whether `extern` stands before it or not (a definition may follow), its type and its
+-- name
 pub record Opening : Type 0 where
   pub defined : Bool
   pub ret : Ty

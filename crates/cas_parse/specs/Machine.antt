@@ -148,7 +148,8 @@ require s kind next = if is s kind then next else Err (wrong kind)
 abbrev pub ended : StmtTree → List Frame → TokenKind → Outcome
 ended a (SimpleStmt ∷ st) kind = require sg.Semicolon kind (Ok (HaveStmt a, st))
 ended a (FirstSimple n p ∷ st) kind = require sg.Semicolon kind (Ok (ForSecond n p (present a), st))
-ended a (AfterSimple n p i c ∷ st) kind = require sg.CloseParen kind (Ok (WantStmt (n + 1), ForBody p i c (present a) ∷ st))
+ended a (AfterSimple n p i c ∷ st) kind = require sg.CloseParen kind
+    (Ok (WantStmt (n + 1), ForBody p i c (present a) ∷ st))
 ended a st kind = Err (wrong kind)
 
 -- a token behind a local of a list
@@ -189,7 +190,16 @@ abbrev pub cells : Data → Ident → Ty → List ℕ → ItemTree
 cells d x ty vs = global (declared x.name (sort_of d.sort ty) d.defined) vs x.place
 
 abbrev pub closing_of_function : Ident → Form → List Ident → (held : List Place) → StmtList → Place → ItemTree
-closing_of_function x f xs held body closing = define (record { decl = declared x.name f true; params = xs; held = held; body = body; place = x.place; closing = closing })
+closing_of_function x f xs held body closing =
+    define (record {
+      decl = declared x.name f true;
+      params = xs;
+      held = held;
+      body = body;
+      place = x.place;
+      closing =
+          closing;
+    })
 
 -- the names of parameters, where all have one
 abbrev pub all_named : List (Option Ident) → Option (List Ident)
@@ -266,7 +276,8 @@ module _ (limits : Limits) (near leaves : Bool) where
   down b kind x (Right l op y ∷ st) = operated b l (joined op y x) st kind (down b kind (joined op y x) st)
   down b kind x (Otherwise l c y ∷ st) = operated b l (conditional c y x) st kind (down b kind (conditional c y x) st)
   down b kind x (InParens l ∷ st) = require sg.CloseParen kind (counted b (Ok (HaveExpr (b + 1) l x, st)))
-  down b kind x (InBrackets l taken i ∷ st) = require sg.CloseBracket kind (counted b (Ok (HaveExpr (b + 1) l (bracketed taken i x), st)))
+  down b kind x (InBrackets l taken i ∷ st) = require sg.CloseBracket kind
+      (counted b (Ok (HaveExpr (b + 1) l (bracketed taken i x), st)))
   down b kind x (Then l c ∷ st) = require sg.Colon kind (counted b (Ok (WantExpr (b + 1) 1, Otherwise l c x ∷ st)))
   down b kind x (TargetIndex usage i ∷ st) = require sg.CloseBracket kind (Ok (reached usage (to_index i x) st))
   down b kind x (TargetBehind usage ∷ st) = require sg.CloseParen kind (Ok (reached usage (to_deref x) st))
@@ -275,10 +286,12 @@ module _ (limits : Limits) (near leaves : Bool) where
   down b kind x (Argument caller xs ∷ st) = argued caller (xs ++ x ∷ []) st kind
   down b kind x (IfCondition n p ∷ st) = require sg.CloseParen kind (Ok (WantStmt (n + 1), IfThen n p x ∷ st))
   down b kind x (WhileCondition n p ∷ st) = require sg.CloseParen kind (Ok (WantStmt (n + 1), WhileBody p x ∷ st))
-  down b kind x (DoCondition p a ∷ st) = require sg.CloseParen kind (Ok (Expect true sg.Semicolon (HaveStmt (do_ p a x)), st))
+  down b kind x (DoCondition p a ∷ st) = require sg.CloseParen kind
+      (Ok (Expect true sg.Semicolon (HaveStmt (do_ p a x)), st))
   down b kind x (ForCondition n p i ∷ st) = require sg.Semicolon kind (Ok (ForThird n p i (Some x), st))
   down b kind x (ReturnValue p ∷ st) = require sg.Semicolon kind (Ok (HaveStmt (return_ p (Some x)), st))
-  down b kind x (PrintValue p ∷ st) = require sg.CloseParen kind (Ok (Expect true sg.Semicolon (HaveStmt (print p x)), st))
+  down b kind x (PrintValue p ∷ st) = require sg.CloseParen kind
+      (Ok (Expect true sg.Semicolon (HaveStmt (print p x)), st))
   down b kind x (_ ∷ st) = Err (wrong kind)
 
   abbrev pub have : ℕ → ℕ → ExprTree → List Frame → TokenKind → Outcome
@@ -286,8 +299,10 @@ module _ (limits : Limits) (near leaves : Bool) where
 
   -- a token behind a name, or behind `&` and a name
   abbrev pub after_operand_name : ℕ → ℕ → Bool → Ident → List Frame → TokenKind → Outcome
-  after_operand_name b l taken x st (k.Sign sg.OpenBracket) = counted b (Ok (WantExpr (b + 1) 1, InBrackets l taken x ∷ st))
-  after_operand_name b l taken x st (k.Sign sg.OpenParen) = if leaves then counted b (Ok (HaveExpr (b + 1) l (named taken x), st)) else Err R7
+  after_operand_name b l taken x st (k.Sign sg.OpenBracket) =
+      counted b (Ok (WantExpr (b + 1) 1, InBrackets l taken x ∷ st))
+  after_operand_name b l taken x st (k.Sign sg.OpenParen) =
+      if leaves then counted b (Ok (HaveExpr (b + 1) l (named taken x), st)) else Err R7
   after_operand_name b l taken x st kind = have b l (named taken x) st kind
 
   abbrev pub taking : ℕ → ℕ → List Frame → Place → TokenKind → Outcome
@@ -296,25 +311,29 @@ module _ (limits : Limits) (near leaves : Bool) where
 
   -- kinds
 
-  abbrev pub parameter_ended : Opening → List Ty → List (Option Ident) → List ItemTree → List Frame → TokenKind → Outcome
+  abbrev pub parameter_ended : Opening → List Ty → List (Option Ident) → List ItemTree → List Frame → TokenKind →
+      Outcome
   parameter_ended o tys xs items st (k.Sign sg.Comma) = Ok (WantParameter o tys xs items, st)
   parameter_ended o tys xs items st (k.Sign sg.CloseParen) = Ok (AfterParameters o tys xs items, st)
   parameter_ended o tys xs items st (k.Sign sg.OpenBracket) = leave (HaveParameter o tys xs items) st
   parameter_ended o tys xs items st kind = Err R5
 
-  abbrev pub parameter_typed : Opening → List Ty → List (Option Ident) → Ty → List ItemTree → List Frame → Place → TokenKind → Outcome
+  abbrev pub parameter_typed : Opening → List Ty → List (Option Ident) → Ty → List ItemTree → List Frame → Place →
+      TokenKind → Outcome
   parameter_typed o tys xs ty items st p (k.Name n) = Ok (ParameterName o tys xs ty (at n p) items, st)
   parameter_typed o tys xs ty items st p kind = parameter_ended o (tys ++ ty ∷ []) (xs ++ None ∷ []) items st kind
 
   abbrev pub function_named : Bool → Ty → List ItemTree → List Frame → Place → TokenKind → Outcome
-  function_named d ty items st p (k.Name n) = Ok (FunctionName (record { defined = d; ret = ty; name = at n p }) items, st)
+  function_named d ty items st p (k.Name n) =
+      Ok (FunctionName (record { defined = d; ret = ty; name = at n p }) items, st)
   function_named d ty items st p kind = Err R5
 
   abbrev pub return_kind : Bool → Kind → List ItemTree → List Frame → Place → TokenKind → Outcome
   return_kind d kd items st p (k.Sign sg.Star) = Ok (ReturnStar d kd items, st)
   return_kind d kd items st p kind = function_named d (Int kd) items st p kind
 
-  abbrev pub parameter_kind : Opening → List Ty → List (Option Ident) → Kind → List ItemTree → List Frame → Place → TokenKind → Outcome
+  abbrev pub parameter_kind : Opening → List Ty → List (Option Ident) → Kind → List ItemTree → List Frame → Place →
+      TokenKind → Outcome
   parameter_kind o tys xs kd items st p (k.Sign sg.Star) = Ok (ParameterStar o tys xs kd items, st)
   parameter_kind o tys xs kd items st p kind = parameter_typed o tys xs (Int kd) items st p kind
 
@@ -334,7 +353,8 @@ module _ (limits : Limits) (near leaves : Bool) where
   down_kind b kd (FirstKind n q ∷ st) p kind = local_started kd (FirstLocal n q ∷ st) p kind
   down_kind b kd (ReturnKind d items ∷ st) p kind = return_kind d kd items st p kind
   down_kind b kd (ParameterKind o tys xs items ∷ st) p kind = parameter_kind o tys xs kd items st p kind
-  down_kind b kd (CellsKind s d items ∷ st) p kind = cells_kind (record { sort = s; defined = d; kind = kd }) items st p kind
+  down_kind b kd (CellsKind s d items ∷ st) p kind = cells_kind (record { sort = s; defined = d; kind = kd })
+      items st p kind
   down_kind b kd st p kind = Err R5
 
   abbrev pub want_kind : Option ℕ → List Frame → TokenKind → Outcome
@@ -363,7 +383,8 @@ module _ (limits : Limits) (near leaves : Bool) where
 
   -- a token behind `(` in an expression
   abbrev pub opened : ℕ → ℕ → List Frame → Place → TokenKind → Outcome
-  opened b l st p kind = if begins_kind kind then want_kind (Some b) (CastKind l ∷ st) kind else counted b (operand b 1 (InParens l ∷ st) p kind)
+  opened b l st p kind = if begins_kind kind then want_kind (Some b) (CastKind l ∷ st) kind else counted b
+      (operand b 1 (InParens l ∷ st) p kind)
 
   -- assignments and calls
 
@@ -461,7 +482,8 @@ module _ (limits : Limits) (near leaves : Bool) where
 
   abbrev pub list_closed : StmtList → List Frame → Place → Outcome
   list_closed bs (BlockOf q ∷ st) p = Ok (HaveStmt (block q bs), st)
-  list_closed bs (BodyOf x f xs held items ∷ st) p = Ok (InItems (items ++ closing_of_function x f xs held bs p ∷ []), st)
+  list_closed bs (BodyOf x f xs held items ∷ st) p = Ok
+      (InItems (items ++ closing_of_function x f xs held bs p ∷ []), st)
   list_closed bs st p = Err R5
 
   abbrev pub list_continued : (around : ℕ) → StmtList → List Frame → Place → TokenKind → Bool → Outcome
@@ -482,11 +504,13 @@ module _ (limits : Limits) (near leaves : Bool) where
 
   -- a token behind a statement
   abbrev pub down_stmt : StmtTree → List Frame → Place → TokenKind → Outcome
-  down_stmt a (IfThen n q c ∷ st) p kind = if is_else kind then Ok (WantStmt (n + 1), IfElse q c a ∷ st) else down_stmt (if_ q c a absent) st p kind
+  down_stmt a (IfThen n q c ∷ st) p kind = if is_else kind then Ok (WantStmt (n + 1), IfElse q c a ∷ st) else down_stmt
+      (if_ q c a absent) st p kind
   down_stmt a (IfElse q c b ∷ st) p kind = down_stmt (if_ q c b (present a)) st p kind
   down_stmt a (WhileBody q c ∷ st) p kind = down_stmt (while_ q c a) st p kind
   down_stmt a (ForBody q i c x ∷ st) p kind = down_stmt (for_ q i c x a) st p kind
-  down_stmt a (DoBody q ∷ st) p kind = if is_while kind then Ok (Expect true sg.OpenParen WantOutermost, DoCondition q a ∷ st) else Err (wrong kind)
+  down_stmt a (DoBody q ∷ st) p kind = if is_while kind then Ok
+      (Expect true sg.OpenParen WantOutermost, DoCondition q a ∷ st) else Err (wrong kind)
   down_stmt a (NextStmt n bs ∷ st) p kind = in_list n (snoc bs a) st p kind
   down_stmt a st p kind = Err (wrong kind)
 
@@ -511,7 +535,8 @@ module _ (limits : Limits) (near leaves : Bool) where
   after_return q st p kind = outermost (ReturnValue q ∷ st) p kind
 
   abbrev pub lock_name : (Ident → StmtTree) → List Frame → Place → TokenKind → Outcome
-  lock_name form st p (k.Name n) = Ok (Expect true sg.CloseParen (Expect true sg.Semicolon (HaveStmt (form (at n p)))), st)
+  lock_name form st p (k.Name n) =
+      Ok (Expect true sg.CloseParen (Expect true sg.Semicolon (HaveStmt (form (at n p)))), st)
   lock_name form st p kind = Err (wrong kind)
 
   -- items
@@ -528,11 +553,13 @@ module _ (limits : Limits) (near leaves : Bool) where
   in_items items st kind = item_started true items st kind
 
   abbrev pub global_lock : (defined : Bool) → List ItemTree → List Frame → Place → TokenKind → Outcome
-  global_lock d items st p (k.Name n) = Ok (Expect false sg.Semicolon (InItems (items ++ global (declared n form.Lock d) [] p ∷ [])), st)
+  global_lock d items st p (k.Name n) =
+      Ok (Expect false sg.Semicolon (InItems (items ++ global (declared n form.Lock d) [] p ∷ [])), st)
   global_lock d items st p kind = Err R5
 
   abbrev pub global_guard : (defined : Bool) → List ItemTree → List Frame → Place → TokenKind → Outcome
-  global_guard d items st p (k.Name n) = Ok (Expect false sg.CloseParen (WantKind None), CellsKind (Guarded (at n p)) d items ∷ st)
+  global_guard d items st p (k.Name n) =
+      Ok (Expect false sg.CloseParen (WantKind None), CellsKind (Guarded (at n p)) d items ∷ st)
   global_guard d items st p kind = Err R5
 
   abbrev pub cells_ended : Data → Ident → Ty → List ℕ → List ItemTree → List Frame → TokenKind → Outcome
@@ -554,7 +581,8 @@ module _ (limits : Limits) (near leaves : Bool) where
 
   abbrev pub cell_array : Data → Ident → ℕ → List ItemTree → List Frame → TokenKind → Outcome
   cell_array d x n items st (k.Sign sg.OpenBracket) = leave (CellsEnd d x (Array d.kind n) [] items) st
-  cell_array d x n items st (k.Sign sg.Equal) = if_defined d.defined (Expect false sg.OpenBrace (WantCells d x n [] items)) st
+  cell_array d x n items st (k.Sign sg.Equal) = if_defined d.defined
+      (Expect false sg.OpenBrace (WantCells d x n [] items)) st
   cell_array d x n items st kind = cells_ended d x (Array d.kind n) [] items st kind
 
   abbrev pub cell_value : Data → Ident → List ItemTree → List Frame → TokenKind → Outcome
@@ -563,7 +591,8 @@ module _ (limits : Limits) (near leaves : Bool) where
   cell_value d x items st kind = Err R5
 
   abbrev pub cell_negative : Data → Ident → List ItemTree → List Frame → TokenKind → Outcome
-  cell_negative d x items st (k.Literal n j) = Ok (CellsEnd d x (Int d.kind) (narrowed (word_sub 0 n) d.kind ∷ []) items, st)
+  cell_negative d x items st (k.Literal n j) =
+      Ok (CellsEnd d x (Int d.kind) (narrowed (word_sub 0 n) d.kind ∷ []) items, st)
   cell_negative d x items st kind = Err R5
 
   abbrev pub want_cells : Data → Ident → ℕ → List ℕ → List ItemTree → List Frame → TokenKind → Outcome
@@ -572,7 +601,8 @@ module _ (limits : Limits) (near leaves : Bool) where
   want_cells d x n vs items st kind = Err R5
 
   abbrev pub negative_cells : Data → Ident → ℕ → List ℕ → List ItemTree → List Frame → TokenKind → Outcome
-  negative_cells d x n vs items st (k.Literal v j) = Ok (HaveCells d x n (vs ++ narrowed (word_sub 0 v) d.kind ∷ []) items, st)
+  negative_cells d x n vs items st (k.Literal v j) = Ok
+      (HaveCells d x n (vs ++ narrowed (word_sub 0 v) d.kind ∷ []) items, st)
   negative_cells d x n vs items st kind = Err R5
 
   abbrev pub have_cells : Data → Ident → ℕ → List ℕ → List ItemTree → List Frame → TokenKind → Outcome
@@ -589,7 +619,8 @@ module _ (limits : Limits) (near leaves : Bool) where
   return_star d kd items st p kind = function_named d (Ptr kd) items st p kind
 
   abbrev pub plain_global : Opening → List ItemTree → List Frame → Outcome
-  plain_global o items st = leave (InItems (items ++ global (declared o.name.name (form.Table o.ret) o.defined) [] o.name.place ∷ [])) st
+  plain_global o items st =
+      leave (InItems (items ++ global (declared o.name.name (form.Table o.ret) o.defined) [] o.name.place ∷ [])) st
 
   abbrev pub function_name : Opening → List ItemTree → List Frame → TokenKind → Outcome
   function_name o items st (k.Sign sg.OpenParen) = Ok (WantParameters o items, st)
@@ -603,31 +634,39 @@ module _ (limits : Limits) (near leaves : Bool) where
   want_parameters o items st (k.Word w.Void) = Ok (Expect false sg.CloseParen (AfterParameters o [] [] items), st)
   want_parameters o items st kind = want_kind None (ParameterKind o [] [] items ∷ st) kind
 
-  abbrev pub parameter_star : Opening → List Ty → List (Option Ident) → Kind → List ItemTree → List Frame → Place → TokenKind → Outcome
+  abbrev pub parameter_star : Opening → List Ty → List (Option Ident) → Kind → List ItemTree → List Frame → Place →
+      TokenKind → Outcome
   parameter_star o tys xs kd items st p (k.Sign sg.Star) = leave (ParameterType o tys xs (Ptr kd) items) st
   parameter_star o tys xs kd items st p kind = parameter_typed o tys xs (Ptr kd) items st p kind
 
   -- a token behind a function's parameters and locks
-  abbrev pub body_started : Ident → Form → List Place → List ItemTree → List Frame → Bool → Option (List Ident) → Outcome
+  abbrev pub body_started : Ident → Form → List Place → List ItemTree → List Frame → Bool → Option (List Ident) →
+      Outcome
   body_started x f held items st true (Some xs) = Ok (InList 0 no_more, BodyOf x f xs held items ∷ st)
   body_started x f held items st d names = Err R5
 
-  abbrev pub after_head : Ident → Form → (defined : Bool) → List (Option Ident) → List Place → List ItemTree → List Frame → TokenKind → Outcome
-  after_head x f d xs held items st (k.Sign sg.Semicolon) = Ok (InItems (items ++ prototype (declared x.name f false) held x.place ∷ []), st)
+  abbrev pub after_head : Ident → Form → (defined : Bool) → List (Option Ident) → List Place → List ItemTree →
+      List Frame → TokenKind → Outcome
+  after_head x f d xs held items st (k.Sign sg.Semicolon) =
+      Ok (InItems (items ++ prototype (declared x.name f false) held x.place ∷ []), st)
   after_head x f d xs held items st (k.Sign sg.OpenBrace) = body_started x f held items st d (all_named xs)
   after_head x f d xs held items st kind = Err R5
 
-  abbrev pub after_parameters : Opening → List Ty → List (Option Ident) → List ItemTree → List Frame → TokenKind → Outcome
+  abbrev pub after_parameters : Opening → List Ty → List (Option Ident) → List ItemTree → List Frame → TokenKind →
+      Outcome
   after_parameters o tys xs items st (k.Word w.Holds) = Ok (Expect false sg.OpenParen (WantHeld o tys xs [] items), st)
   after_parameters o tys xs items st kind = after_head o.name (form.Function o.ret tys []) o.defined xs [] items st kind
 
-  abbrev pub want_held : Opening → List Ty → List (Option Ident) → List Ident → List ItemTree → List Frame → Place → TokenKind → Outcome
+  abbrev pub want_held : Opening → List Ty → List (Option Ident) → List Ident → List ItemTree → List Frame → Place →
+      TokenKind → Outcome
   want_held o tys xs held items st p (k.Name n) = Ok (HaveHeld o tys xs (held ++ at n p ∷ []) items, st)
   want_held o tys xs held items st p kind = Err R5
 
-  abbrev pub have_held : Opening → List Ty → List (Option Ident) → List Ident → List ItemTree → List Frame → TokenKind → Outcome
+  abbrev pub have_held : Opening → List Ty → List (Option Ident) → List Ident → List ItemTree → List Frame → TokenKind →
+      Outcome
   have_held o tys xs held items st (k.Sign sg.Comma) = Ok (WantHeld o tys xs held items, st)
-  have_held o tys xs held items st (k.Sign sg.CloseParen) = Ok (AfterHead o.name (form.Function o.ret tys (names_alone held)) o.defined xs (places_alone held) items, st)
+  have_held o tys xs held items st (k.Sign sg.CloseParen) =
+      Ok (AfterHead o.name (form.Function o.ret tys (names_alone held)) o.defined xs (places_alone held) items, st)
   have_held o tys xs held items st kind = Err R5
 
   abbrev pub shift : Token → Control → List Frame → Outcome
@@ -690,7 +729,8 @@ module _ (limits : Limits) (near leaves : Bool) where
   shift t (WantParameter o tys xs items) st = want_kind None (ParameterKind o tys xs items ∷ st) t.kind
   shift t (ParameterStar o tys xs kd items) st = parameter_star o tys xs kd items st t.place t.kind
   shift t (ParameterType o tys xs ty items) st = parameter_typed o tys xs ty items st t.place t.kind
-  shift t (ParameterName o tys xs ty x items) st = parameter_ended o (tys ++ ty ∷ []) (xs ++ Some x ∷ []) items st t.kind
+  shift t (ParameterName o tys xs ty x items) st = parameter_ended o (tys ++ ty ∷ []) (xs ++ Some x ∷ [])
+      items st t.kind
   shift t (HaveParameter o tys xs items) st = parameter_ended o tys xs items st t.kind
   shift t (AfterParameters o tys xs items) st = after_parameters o tys xs items st t.kind
   shift t (WantHeld o tys xs held items) st = want_held o tys xs held items st t.place t.kind
@@ -718,4 +758,5 @@ go on behind (Err code) = Err (record { code = code; left = behind + 1 })
 module _ (limits : Limits) where
   abbrev pub run : List Token → Control → List Frame → Verdict
   run [] c st = finish c
-  run (t ∷ ts) c st = go (run ts) (length ts) (shift limits (nat_lt (length ts) limits.cut) (is_at limits.left_out (length ts)) t c st)
+  run (t ∷ ts) c st =
+      go (run ts) (length ts) (shift limits (nat_lt (length ts) limits.cut) (is_at limits.left_out (length ts)) t c st)

@@ -60,7 +60,8 @@ printed_expr-bare (or_else a b) =
 printed_expr-bare (conditional c a b) =
     fun_ext (λ rest. rw (outermost-bare c, printed_expr-bare c, printed_expr-bare a, printed_expr-bare b) refl)
 
-behind_commas-bare : (bs : List ExprTree) → behind_commas printed_expr (map bare_expr bs) ≡ behind_commas printed_expr bs
+behind_commas-bare : (bs : List ExprTree) → behind_commas printed_expr (map bare_expr bs)
+    ≡ behind_commas printed_expr bs
 behind_commas-bare [] = fun_ext (λ rest. refl)
 behind_commas-bare (b ∷ bs) = fun_ext (λ rest. rw (printed_expr-bare b, behind_commas-bare bs) refl)
 
@@ -114,11 +115,17 @@ mutual
   printed_stmt-bare (assign p t op a) = fun_ext (λ rest. rw (printed_target-bare t, printed_expr-bare a) refl)
   printed_stmt-bare (call p x f bs) = fun_ext (λ rest. rw (printed_result-bare x, listed-bare bs) refl)
   printed_stmt-bare (block p bs) = fun_ext (λ rest. rw (printed_stmts-bare bs) refl)
-  printed_stmt-bare (if_ p c a b) = fun_ext (λ rest. rw (printed_expr-bare c, printed_stmt-bare a, printed_else-bare b) refl)
+  printed_stmt-bare (if_ p c a b) =
+      fun_ext (λ rest. rw (printed_expr-bare c, printed_stmt-bare a, printed_else-bare b) refl)
   printed_stmt-bare (while_ p c a) = fun_ext (λ rest. rw (printed_expr-bare c, printed_stmt-bare a) refl)
   printed_stmt-bare (do_ p a c) = fun_ext (λ rest. rw (printed_expr-bare c, printed_stmt-bare a) refl)
   printed_stmt-bare (for_ p i c u a) =
-      fun_ext (λ rest. rw (printed_part_option-bare i, printed_optional-bare c, printed_part_option-bare u, printed_stmt-bare a) refl)
+      fun_ext (λ rest. rw (
+        printed_part_option-bare i,
+        printed_optional-bare c,
+        printed_part_option-bare u,
+        printed_stmt-bare a,
+      ) refl)
   printed_stmt-bare (break_ p) = fun_ext (λ rest. refl)
   printed_stmt-bare (continue_ p) = fun_ext (λ rest. refl)
   printed_stmt-bare (return_ p a) = fun_ext (λ rest. rw (printed_optional-bare a) refl)
@@ -134,12 +141,14 @@ mutual
   printed_stmts-bare no_more = fun_ext (λ rest. refl)
   printed_stmts-bare (one_more a bs) = fun_ext (λ rest. rw (printed_stmt-bare a, printed_stmts-bare bs) refl)
 
-more_parameters-bare : (tys : List Ty) (xs : List Ident) → more_parameters tys (map bare_ident xs) ≡ more_parameters tys xs
+more_parameters-bare : (tys : List Ty) (xs : List Ident) →
+    more_parameters tys (map bare_ident xs) ≡ more_parameters tys xs
 more_parameters-bare [] xs = fun_ext (λ rest. refl)
 more_parameters-bare (ty ∷ tys) [] = fun_ext (λ rest. refl)
 more_parameters-bare (ty ∷ tys) (x ∷ xs) = fun_ext (λ rest. rw (more_parameters-bare tys xs) refl)
 
-printed_head-bare : (form : Form) (x : List ℕ) (xs : List Ident) → printed_head form x (map bare_ident xs) ≡ printed_head form x xs
+printed_head-bare : (form : Form) (x : List ℕ) (xs : List Ident) →
+    printed_head form x (map bare_ident xs) ≡ printed_head form x xs
 printed_head-bare Lock x xs = fun_ext (λ rest. refl)
 printed_head-bare (Shared ty guard) x xs = fun_ext (λ rest. refl)
 printed_head-bare (Table ty) x xs = fun_ext (λ rest. refl)
@@ -150,7 +159,8 @@ printed_head-bare (Function ret (ty ∷ tys) holds) x (y ∷ ys) = fun_ext (λ r
 printed_item-bare : (a : ItemTree) → printed_item (bare_item a) ≡ printed_item a
 printed_item-bare (global d vs p) = fun_ext (λ rest. refl)
 printed_item-bare (prototype d hs p) = fun_ext (λ rest. refl)
-printed_item-bare (define f) = fun_ext (λ rest. rw (printed_head-bare f.decl.form f.decl.name f.params, printed_stmts-bare f.body) refl)
+printed_item-bare (define f) =
+    fun_ext (λ rest. rw (printed_head-bare f.decl.form f.decl.name f.params, printed_stmts-bare f.body) refl)
 
 printed_items-bare : (bs : List ItemTree) → printed_items (map bare_item bs) ≡ printed_items bs
 printed_items-bare [] = fun_ext (λ rest. refl)
@@ -166,5 +176,9 @@ canonical-alike m other alike = sym (canonical-bare m) ∙ ap canonical alike �
 pub alike_is_read : (bytes : List ℕ) (m alike : ModuleTree) → IsReadAs bytes m → IsAlike m alike →
     (other : ModuleTree) × IsReadAs (canonical alike) other × IsAlike other alike
 alike_is_read bytes m alike read same =
-    let again = canonical_is_read bytes m read in
-    (again.0, subst (λ (printed : List ℕ). IsReadAs printed again.0) (canonical-alike m alike same) again.1, again.2 ∙ same)
+    let again = canonical_is_read bytes m read in (
+      again.0,
+      subst (λ (printed : List ℕ). IsReadAs printed again.0) (canonical-alike m alike same) again.1,
+      again.2
+          ∙ same,
+    )

@@ -21,7 +21,8 @@ tested : (bs : List ℕ) → list_all (λ b. nat_lt b 128) bs ≡ true → IsAsc
 tested [] h = IsAscii-nil
 tested (b ∷ bs) h = step (nat_lt b 128) refl h (tested bs)
   where
-    step : (t : Bool) → nat_lt b 128 ≡ t → (t && list_all (λ b. nat_lt b 128) bs) ≡ true → (list_all (λ b. nat_lt b 128) bs ≡ true → IsAscii bs) → IsAscii (b ∷ bs)
+    step : (t : Bool) → nat_lt b 128 ≡ t → (t && list_all (λ b. nat_lt b 128) bs) ≡ true →
+        (list_all (λ b. nat_lt b 128) bs ≡ true → IsAscii bs) → IsAscii (b ∷ bs)
     step true e all more = IsAscii-cons b bs (grind (arith, nat_tests)) (more all)
     step false e all more = cc
 
@@ -43,7 +44,8 @@ bytes_ascii : (bs : List ℕ) → list_all is_name_byte bs ≡ true → IsAscii 
 bytes_ascii [] h = IsAscii-nil
 bytes_ascii (b ∷ bs) h = step (is_name_byte b) refl h (bytes_ascii bs)
   where
-    step : (t : Bool) → is_name_byte b ≡ t → (t && list_all is_name_byte bs) ≡ true → (list_all is_name_byte bs ≡ true → IsAscii bs) → IsAscii (b ∷ bs)
+    step : (t : Bool) → is_name_byte b ≡ t → (t && list_all is_name_byte bs) ≡ true →
+        (list_all is_name_byte bs ≡ true → IsAscii bs) → IsAscii (b ∷ bs)
     step true e all more = IsAscii-cons b bs (name_byte_low b e) (more all)
     step false e all more = cc
 
@@ -66,8 +68,10 @@ spelling_ascii (word which) h = word_ascii which
 spelling_ascii (sign s) h = sign_ascii s
 spelling_ascii (end_of_line s) h = sign_ascii s
 spelling_ascii (named x) h = name_ascii x h
-spelling_ascii (number n kind) h = let small = literal_small n kind h in IsAscii-append (decimal n) (suffix kind) (IsAscii-decimal n (omega arith)) (suffix_ascii kind)
-spelling_ascii (plain_number n) h = let small = literal_small n (literal_kind false n) h in IsAscii-decimal n (omega arith)
+spelling_ascii (number n kind) h = let small = literal_small n kind h in
+    IsAscii-append (decimal n) (suffix kind) (IsAscii-decimal n (omega arith)) (suffix_ascii kind)
+spelling_ascii (plain_number n) h = let small = literal_small n (literal_kind false n) h in
+    IsAscii-decimal n (omega arith)
 
 separator_low : (p : Piece) → separator p < 128
 separator_low (end_of_line s) = omega arith
@@ -76,4 +80,5 @@ separator_low _ = omega arith
 pub text_ascii : (ps : List Piece) → SoundPieces ps → IsAscii (text ps)
 text_ascii [] h = IsAscii-nil
 text_ascii (p ∷ ps) h =
-    IsAscii-append (spelling p) (separator p ∷ text ps) (spelling_ascii p h.0) (IsAscii-cons (separator p) (text ps) (separator_low p) (text_ascii ps h.1))
+    IsAscii-append (spelling p) (separator p ∷ text ps) (spelling_ascii p h.0)
+    (IsAscii-cons (separator p) (text ps) (separator_low p) (text_ascii ps h.1))

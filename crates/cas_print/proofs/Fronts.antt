@@ -26,7 +26,8 @@ SoundFront (f.Blank n) = Unit {0}
 SoundFront (f.Token kind n) = IsSound kind
 SoundFront (f.Fault code) = Unit {0}
 
-either : (b : Bool) (x y : Front) → (b ≡ true → SoundFront x) → (b ≡ false → SoundFront y) → SoundFront (if b then x else y)
+either : (b : Bool) (x y : Front) → (b ≡ true → SoundFront x) → (b ≡ false → SoundFront y) →
+    SoundFront (if b then x else y)
 either true x y first second = first refl
 either false x y first second = second refl
 
@@ -38,24 +39,29 @@ literal_sound false n h = by_test (nat_lt 2147483647 n) refl
     by_test true e = h
     by_test false e = grind (arith, nat_tests)
 
-ended_sound : (value : ℕ) (u : Bool) (n : ℕ) (after : List ℕ) → value ≤ 4294967295 → SoundFront (ended_literal value u n after)
+ended_sound : (value : ℕ) (u : Bool) (n : ℕ) (after : List ℕ) → value ≤ 4294967295 →
+    SoundFront (ended_literal value u n after)
 ended_sound value u n after h = either (begins_with_letter after) _ _ (λ e. tt) (λ e. literal_sound u value h)
 
 before_sound : (value n : ℕ) (after : List ℕ) → SoundFront (literal_before value n after)
 before_sound value n after =
     either (nat_lt 4294967295 value) _ _ (λ e. tt) (λ e.
     let small : value ≤ 4294967295 = grind (arith, nat_tests) in
-    either (begins_with_u after) _ _ (λ d. ended_sound value true (n + 1) (drop 1 after) small) (λ d. ended_sound value false n after small))
+    either (begins_with_u after) _ _ (λ d. ended_sound value true (n + 1) (drop 1 after) small)
+    (λ d. ended_sound value false n after small))
 
 literal_front : (text : List ℕ) → SoundFront (literal_at text)
 literal_front text =
     let rest = drop 2 text in
     let digits = take_while is_ascii_hexdigit rest in
     let decimals = take_while is_ascii_digit text in
-    either (is_hexadecimal text) _ _ (λ e. before_sound (digits_value 16 digits) (2 + length digits) (drop (length digits) rest))
-    (λ e. either (is_octal decimals) _ _ (λ d. tt) (λ d. before_sound (digits_value 10 decimals) (length decimals) (drop (length decimals) text)))
+    either (is_hexadecimal text) _ _ (λ e. before_sound (digits_value 16 digits) (2 + length digits)
+    (drop (length digits) rest))
+    (λ e. either (is_octal decimals) _ _ (λ d. tt) (λ d. before_sound (digits_value 10 decimals) (length decimals)
+    (drop (length decimals) text)))
 
-word_or_name_sound : (found : Option Word) (text : List ℕ) → word_of text ≡ found → begins_with_letter text ≡ true → list_all is_name_byte text ≡ true → is_left_out text ≡ false →
+word_or_name_sound : (found : Option Word) (text : List ℕ) → word_of text ≡ found → begins_with_letter text ≡ true →
+    list_all is_name_byte text ≡ true → is_left_out text ≡ false →
     SoundFront (word_or_name found text)
 word_or_name_sound (Some w) text is begins all kept = tt
 word_or_name_sound None text is begins all kept =
@@ -66,7 +72,8 @@ name_front : (b : ℕ) (bs : List ℕ) → is_first_byte b ≡ true → SoundFro
 name_front b bs first =
     let text = take_while is_name_byte (b ∷ bs) in
     either (is_left_out text) _ _ (λ e. tt)
-    (λ e. word_or_name_sound (word_of text) text refl (begins-take_while b bs first) (list_all-take_while is_name_byte (b ∷ bs)) e)
+    (λ e. word_or_name_sound (word_of text) text refl (begins-take_while b bs first)
+    (list_all-take_while is_name_byte (b ∷ bs)) e)
 
 comment_sound : (found : Option ℕ) → SoundFront (block_comment found)
 comment_sound (Some n) = tt
@@ -93,7 +100,8 @@ front_sound (b ∷ bs) =
     either (is_ascii_digit b) _ _ (λ e. literal_front (b ∷ bs)) (λ e. mark_sound b (b ∷ bs)))
 
 -- all tokens of a text are such
-pub lexed_sound : (p : Place) (text : List ℕ) (tokens : List Token) (stop : Stop) → Lexed p text tokens stop → Sound tokens
+pub lexed_sound : (p : Place) (text : List ℕ) (tokens : List Token) (stop : Stop) → Lexed p text tokens stop →
+    Sound tokens
 lexed_sound p text _ stop (ends _) = tt
 lexed_sound p text tokens stop (skips _ _ n _ _ some is more) = lexed_sound _ _ tokens stop more
 lexed_sound p text _ stop (takes _ _ kind n tokens _ some is more) =

@@ -63,13 +63,15 @@ word_sub-negated n v sum some = omega arith
 abbrev ValueSpelling : (List Piece → Place) → Kind → ℕ → (List Piece → List Piece) → Type 0
 ValueSpelling at k v inner = Spelling at inner (g3.SpellsValue k v)
 
-by_sign : (at : List Piece → Place) (k : Kind) (v : ℕ) → v < 2 ^ 32 → narrowed v k ≡ v → (z : ℤ) → value_of v k ≡ z → ValueSpelling at k v (printed_integer z)
+by_sign : (at : List Piece → Place) (k : Kind) (v : ℕ) → v < 2 ^ 32 → narrowed v k ≡ v → (z : ℤ) → value_of v k ≡ z →
+    ValueSpelling at k v (printed_integer z)
 by_sign at k v small stays (pos m) is =
     let same : m ≡ v = value-pos k v m small is in
     let few : m ≤ 4294967295 = omega arith in
     let value : narrowed m k ≡ v = ap (λ (n : ℕ). narrowed n k) same ∙ stays in (
       (λ rest sound. (small_sound m few, sound)),
-      λ rest. subst (λ (n : ℕ). g3.SpellsValue k n (placed at (plain_number m ∷ rest)) (placed at rest)) value (g3.as_it_is m _ _ _),
+      λ rest. subst (λ (n : ℕ). g3.SpellsValue k n (placed at (plain_number m ∷ rest)) (placed at rest)) value
+          (g3.as_it_is m _ _ _),
     )
 by_sign at k v small stays (negsuc m) is =
     let sum = value-neg k v m small is in
@@ -77,16 +79,19 @@ by_sign at k v small stays (negsuc m) is =
     let same : word_sub 0 (m + 1) ≡ v = word_sub-negated (m + 1) v sum.0 (omega arith) in
     let value : narrowed (word_sub 0 (m + 1)) k ≡ v = ap (λ (n : ℕ). narrowed n k) same ∙ stays in (
       (λ rest sound. (tt, (small_sound (m + 1) few, sound))),
-      λ rest. subst (λ (n : ℕ). g3.SpellsValue k n (placed at (sign sg.Minus ∷ plain_number (m + 1) ∷ rest)) (placed at rest)) value (g3.negative (m + 1) _ _ _ _),
+      λ rest. subst (λ (n : ℕ). g3.SpellsValue k n (placed at (sign sg.Minus ∷ plain_number (m + 1) ∷ rest))
+          (placed at rest)) value (g3.negative (m + 1) _ _ _ _),
     )
 
 abbrev ValuePrintable : (List Piece → Place) → Kind → ℕ → Type 0
 ValuePrintable at k v = ValueSpelling at k v (printed_value k v)
 
 narrowed_printable : (at : List Piece → Place) (k : Kind) (n : ℕ) → n < 2 ^ 32 → ValuePrintable at k (narrowed n k)
-narrowed_printable at k n h = by_sign at k (narrowed n k) (narrowed-lt n k h) (narrowed-narrowed n k h) (value_of (narrowed n k) k) refl
+narrowed_printable at k n h = by_sign at k (narrowed n k) (narrowed-lt n k h) (narrowed-narrowed n k h)
+    (value_of (narrowed n k) k) refl
 
-value_printable : (at : List Piece → Place) (k : Kind) (v : ℕ) (s r : List Token) → g3.SpellsValue k v s r → Sound s → Sound r × ValuePrintable at k v
+value_printable : (at : List Piece → Place) (k : Kind) (v : ℕ) (s r : List Token) → g3.SpellsValue k v s r → Sound s →
+    Sound r × ValuePrintable at k v
 value_printable at k _ s r (g3.as_it_is n j p _) h =
     let small = literal_small n j h.0 in (h.1, narrowed_printable at k n (omega arith))
 value_printable at k _ s r (g3.negative n j p q _) h =
@@ -99,13 +104,16 @@ value_printable at k _ s r (g3.negative n j p q _) h =
 abbrev ValuesPrintable : (List Piece → Place) → Kind → List ℕ → Type 0
 ValuesPrintable at k vs = Spelling at (listed (printed_value k) vs) (g3.SpellsValues k vs)
 
-more_values : (at : List Piece → Place) (k : Kind) (v w : ℕ) (ws : List ℕ) → ValuePrintable at k v → ValuesPrintable at k (w ∷ ws) → ValuesPrintable at k (v ∷ w ∷ ws)
+more_values : (at : List Piece → Place) (k : Kind) (v w : ℕ) (ws : List ℕ) → ValuePrintable at k v →
+    ValuesPrintable at k (w ∷ ws) → ValuesPrintable at k (v ∷ w ∷ ws)
 more_values at k v w ws first more = (
   (λ rest sound. first.0 _ (tt, more.0 rest sound)),
-  λ rest. g3.one_value v (w ∷ ws) _ _ _ _ (first.1 (sign sg.Comma ∷ listed (printed_value k) (w ∷ ws) rest)) (more.1 rest),
+  λ rest. g3.one_value v (w ∷ ws) _ _ _ _ (first.1 (sign sg.Comma ∷ listed (printed_value k) (w ∷ ws) rest))
+      (more.1 rest),
 )
 
-join_values : (at : List Piece → Place) (k : Kind) (v : ℕ) (vs : List ℕ) (s r : List Token) → g3.SpellsValues k vs s r → ValuePrintable at k v → ValuesPrintable at k vs → ValuesPrintable at k (v ∷ vs)
+join_values : (at : List Piece → Place) (k : Kind) (v : ℕ) (vs : List ℕ) (s r : List Token) → g3.SpellsValues k vs s r →
+    ValuePrintable at k v → ValuesPrintable at k vs → ValuesPrintable at k (v ∷ vs)
 join_values at k v _ s r (g3.last_value w _ _ spelt) first more = more_values at k v w [] first more
 join_values at k v _ s r (g3.last_value_and_comma w p _ _ spelt) first more = more_values at k v w [] first more
 join_values at k v _ s r (g3.one_value w ws p _ _ _ spelt others) first more = more_values at k v w ws first more
@@ -113,7 +121,8 @@ join_values at k v _ s r (g3.one_value w ws p _ _ _ spelt others) first more = m
 last_printable : (at : List Piece → Place) (k : Kind) (v : ℕ) → ValuePrintable at k v → ValuesPrintable at k (v ∷ [])
 last_printable at k v value = (value.0, λ rest. g3.last_value v _ _ (value.1 rest))
 
-values_printable : (at : List Piece → Place) (k : Kind) (vs : List ℕ) (s r : List Token) → g3.SpellsValues k vs s r → Sound s → Sound r × ValuesPrintable at k vs
+values_printable : (at : List Piece → Place) (k : Kind) (vs : List ℕ) (s r : List Token) → g3.SpellsValues k vs s r →
+    Sound s → Sound r × ValuesPrintable at k vs
 values_printable at k _ s r (g3.last_value v _ _ spelt) h =
     let e = value_printable at k v s r spelt h in (e.0, last_printable at k v e.1)
 values_printable at k _ s r (g3.last_value_and_comma v p _ _ spelt) h =
@@ -131,7 +140,8 @@ CellsPrintable at defined ty name vs = Keeps (printed_cells ty name vs) × ((res
     × g3.SpellsCells (within 0) defined k (ident_at name p) ty vs middle (placed at rest))
 
 -- initial values in braces
-braced : (at : List Piece → Place) (k : Kind) (name : List ℕ) (n w : ℕ) (ws : List ℕ) → IsPlainName name → n ≤ 4294967295 → ValuesPrintable at k (w ∷ ws) →
+braced : (at : List Piece → Place) (k : Kind) (name : List ℕ) (n w : ℕ) (ws : List ℕ) → IsPlainName name →
+    n ≤ 4294967295 → ValuesPrintable at k (w ∷ ws) →
     CellsPrintable at true (Array k n) name (w ∷ ws)
 braced at k name n w ws good few values = (
   (λ rest sound. keeps_kind k _ (good, (tt, (small_sound n few, (tt, (tt, (tt, values.0 _ (tt, sound)))))))),
@@ -144,16 +154,25 @@ braced at k name n w ws good few values = (
   ),
 )
 
-some_braced : (at : List Piece → Place) (k : Kind) (name : List ℕ) (n : ℕ) (vs : List ℕ) (s r : List Token) → g3.SpellsValues k vs s r → IsPlainName name → n ≤ 4294967295 →
+some_braced : (at : List Piece → Place) (k : Kind) (name : List ℕ) (n : ℕ) (vs : List ℕ) (s r : List Token) →
+    g3.SpellsValues k vs s r → IsPlainName name → n ≤ 4294967295 →
     ValuesPrintable at k vs → CellsPrintable at true (Array k n) name vs
 some_braced at k name n _ s r (g3.last_value w _ _ spelt) = braced at k name n w []
 some_braced at k name n _ s r (g3.last_value_and_comma w p _ _ spelt) = braced at k name n w []
 some_braced at k name n _ s r (g3.one_value w ws p _ _ _ spelt others) = braced at k name n w ws
 
-pub cells_printable : (at : List Piece → Place) (defined : Bool) (k : Kind) (x : Ident) (ty : Ty) (vs : List ℕ) (s r : List Token) → g3.SpellsCells (within 0) defined k x ty vs s r → Sound s →
+pub cells_printable : (at : List Piece → Place) (defined : Bool) (k : Kind) (x : Ident) (ty : Ty) (vs : List ℕ)
+    (s r : List Token) → g3.SpellsCells (within 0) defined k x ty vs s r → Sound s →
     Sound r × IsPlainName x.name × CellsPrintable at defined ty x.name vs
-cells_printable at defined k x _ _ s r (g3.one_cell _ _) h =
-    (h.1, h.0, ((λ rest sound. keeps_kind k _ (h.0, sound)), λ rest. (k, _, _, respelt_kind at k _, g3.one_cell (ident_at x.name _) _)))
+cells_printable at defined k x _ _ s r (g3.one_cell _ _) h = (
+  h.1,
+  h.0,
+  (
+    (λ rest sound. keeps_kind k _ (h.0, sound)),
+    λ rest.
+        (k, _, _, respelt_kind at k _, g3.one_cell (ident_at x.name _) _),
+  ),
+)
 cells_printable at defined k x _ _ _ r (g3.one_cell_with_value _ v p s _ is spelt) h =
     let e = value_printable at k v s r spelt h.1.1 in (
       e.0,

@@ -68,48 +68,75 @@ stripped a s r kept =
     subst (λ (b : Bool). Kept s r (enclosed b (printed_expr a))) no kept
 
 -- in parentheses that a spelling has
-parenthesized : (l : ℕ) (a : ExprTree) (p q : Place) (s r : List Token) → Kept s (t.sign sg.CloseParen q ∷ r) (printed_expr a) → KeptAt l a (t.sign sg.OpenParen p ∷ s) r
+parenthesized : (l : ℕ) (a : ExprTree) (p q : Place) (s r : List Token) →
+    Kept s (t.sign sg.CloseParen q ∷ r) (printed_expr a) → KeptAt l a (t.sign sg.OpenParen p ∷ s) r
 parenthesized l a p q s r kept =
     at_level-either (Kept (t.sign sg.OpenParen p ∷ s) r) l (outermost a) (printed_expr a)
     (kept.0.1, (λ rest sound. (tt, kept.1 _ (tt, sound))), λ rest. omega (arith, kept.2 (sign sg.CloseParen ∷ rest)))
     (λ h. (kept.0.1, kept.1, λ rest. omega (arith, kept.2 rest)))
 
 -- two operands
-both : (op : Infix) (l : ℕ) (a b : ExprTree) (p : Place) (s u r : List Token) → l ≤ level op → KeptAt (level op) a s (t.sign (infix_sign op) p ∷ u) → KeptAt (level op + 1) b u r →
+both : (op : Infix) (l : ℕ) (a b : ExprTree) (p : Place) (s u r : List Token) → l ≤ level op →
+    KeptAt (level op) a s (t.sign (infix_sign op) p ∷ u) → KeptAt (level op + 1) b u r →
     KeptAt l (joined op a b) s r
 both op l a b p s u r h left right =
     printed-joined (λ (found : ℕ) (inner : List Piece → List Piece). Kept s r (at_level l found inner)) op a b
     (at_level-open (Kept s r) l (level op) (between op (outermost a) (printed_expr a) (outermost b) (printed_expr b)) h (
       right.0,
       (λ rest sound. left.1 _ (tt, right.1 _ sound)),
-      λ rest. let B = at_level (level op + 1) (outermost b) (printed_expr b) rest in omega (arith, left.2 (sign (infix_sign op) ∷ B), right.2 rest),
+      λ rest. let B = at_level (level op + 1) (outermost b) (printed_expr b) rest in
+          omega (arith, left.2 (sign (infix_sign op) ∷ B), right.2 rest),
     ))
 
-pub kept_expr : (l : ℕ) (a : ExprTree) (s r : List Token) → l ≤ 12 → g.Spells (within 0) l a s r → Sound s → KeptAt l a s r
-kept_expr l _ _ r low (g.a_literal _ n k p _) h = bare l (literal n k) (t.number n k p ∷ r) r low (h.1, (λ rest sound. (h.0, sound)), λ rest. omega arith)
-kept_expr l _ _ r low (g.a_name _ x _) h = bare l (name x) (t.ident x ∷ r) r low (h.1, (λ rest sound. (h.0, sound)), λ rest. omega arith)
+pub kept_expr : (l : ℕ) (a : ExprTree) (s r : List Token) → l ≤ 12 → g.Spells (within 0) l a s r → Sound s →
+    KeptAt l a s r
+kept_expr l _ _ r low (g.a_literal _ n k p _) h = bare l (literal n k) (t.number n k p ∷ r) r low
+    (h.1, (λ rest sound. (h.0, sound)), λ rest. omega arith)
+kept_expr l _ _ r low (g.a_name _ x _) h = bare l (name x) (t.ident x ∷ r) r low
+    (h.1, (λ rest sound. (h.0, sound)), λ rest. omega arith)
 kept_expr l _ _ r low (g.an_element _ x a p q s _ spelt) h =
-    let e = stripped a s (t.sign sg.CloseBracket q ∷ r) (kept_expr 1 a s (t.sign sg.CloseBracket q ∷ r) (omega arith) spelt h.1.1) in
-    bare l (index x a) (t.ident x ∷ t.sign sg.OpenBracket p ∷ s) r low (e.0.1, (λ rest sound. (h.0, (tt, e.1 _ (tt, sound)))), λ rest. omega (arith, e.2 (sign sg.CloseBracket ∷ rest)))
+    let e = stripped a s (t.sign sg.CloseBracket q ∷ r)
+    (kept_expr 1 a s (t.sign sg.CloseBracket q ∷ r) (omega arith) spelt h.1.1) in
+    bare l (index x a) (t.ident x ∷ t.sign sg.OpenBracket p ∷ s) r low (
+      e.0.1,
+      (λ rest sound. (h.0, (tt, e.1 _ (tt, sound)))),
+      λ rest. omega
+          (arith, e.2 (sign sg.CloseBracket ∷ rest)),
+    )
 kept_expr l a _ r low (g.in_parentheses _ _ p q s _ spelt) h =
-    parenthesized l a p q s r (stripped a s (t.sign sg.CloseParen q ∷ r) (kept_expr 1 a s (t.sign sg.CloseParen q ∷ r) (omega arith) spelt h.1))
+    parenthesized l a p q s r (stripped a s (t.sign sg.CloseParen q ∷ r)
+    (kept_expr 1 a s (t.sign sg.CloseParen q ∷ r) (omega arith) spelt h.1))
 kept_expr l _ _ r low (g.an_operand_of _ op a p s _ spelt) h =
     let e = kept_expr 12 a s r (omega arith) spelt h.1 in
-    bare l (unary op a) (t.sign (unary_sign op) p ∷ s) r low (e.0, (λ rest sound. (tt, e.1 _ sound)), λ rest. omega (arith, e.2 rest))
+    bare l (unary op a) (t.sign (unary_sign op) p ∷ s) r low
+    (e.0, (λ rest sound. (tt, e.1 _ sound)), λ rest. omega (arith, e.2 rest))
 kept_expr l _ _ r low (g.what_is_pointed_to _ a p s _ spelt) h =
     let e = kept_expr 12 a s r (omega arith) spelt h.1 in
-    bare l (deref a) (t.sign sg.Star p ∷ s) r low (e.0, (λ rest sound. (tt, e.1 _ sound)), λ rest. omega (arith, e.2 rest))
-kept_expr l _ _ r low (g.an_address _ x p _) h = bare l (address x) (t.sign sg.And p ∷ t.ident x ∷ r) r low (h.1.1, (λ rest sound. (tt, (h.1.0, sound))), λ rest. omega arith)
+    bare l (deref a) (t.sign sg.Star p ∷ s) r low (
+      e.0,
+      (λ rest sound. (tt, e.1 _ sound)),
+      λ rest. omega
+          (arith, e.2 rest),
+    )
+kept_expr l _ _ r low (g.an_address _ x p _) h = bare l (address x) (t.sign sg.And p ∷ t.ident x ∷ r) r low
+    (h.1.1, (λ rest sound. (tt, (h.1.0, sound))), λ rest. omega arith)
 kept_expr l _ _ r low (g.an_address_of_element _ x a o p q s _ spelt) h =
-    let e = stripped a s (t.sign sg.CloseBracket q ∷ r) (kept_expr 1 a s (t.sign sg.CloseBracket q ∷ r) (omega arith) spelt h.1.1.1) in
-    bare l (address_index x a) (t.sign sg.And o ∷ t.ident x ∷ t.sign sg.OpenBracket p ∷ s) r low (e.0.1, (λ rest sound. (tt, (h.1.0, (tt, e.1 _ (tt, sound))))), λ rest. omega (arith, e.2 (sign sg.CloseBracket ∷ rest)))
+    let e = stripped a s (t.sign sg.CloseBracket q ∷ r)
+    (kept_expr 1 a s (t.sign sg.CloseBracket q ∷ r) (omega arith) spelt h.1.1.1) in
+    bare l (address_index x a) (t.sign sg.And o ∷ t.ident x ∷ t.sign sg.OpenBracket p ∷ s) r low (
+      e.0.1,
+      (λ rest sound. (tt, (h.1.0, (tt, e.1 _ (tt, sound))))),
+      λ rest. omega
+          (arith, e.2 (sign sg.CloseBracket ∷ rest)),
+    )
 kept_expr l _ _ r low (g.a_cast _ k a p q s u _ words spelt) h =
     let f = kept_kind k s (t.sign sg.CloseParen q ∷ u) words h.1 in
     let e = kept_expr 12 a u r (omega arith) spelt f.0.1 in
     bare l (cast k a) (t.sign sg.OpenParen p ∷ s) r low (
       e.0,
       (λ rest sound. (tt, f.1 _ (tt, e.1 _ sound))),
-      λ rest. let B = at_level 12 (outermost a) (printed_expr a) rest in omega (arith, f.2 (sign sg.CloseParen ∷ B), e.2 rest),
+      λ rest. let B = at_level 12 (outermost a) (printed_expr a) rest in
+          omega (arith, f.2 (sign sg.CloseParen ∷ B), e.2 rest),
     )
 kept_expr l _ s r low (g.two_operands _ op a b p _ u _ above left right) h =
     let most = level-high op in
@@ -122,7 +149,8 @@ kept_expr l _ s r low (g.a_choice _ c a b p q _ u v _ above first second third) 
     let i = stripped b v r (kept_expr 1 b v r (omega arith) third f.0.1) in
     bare l (conditional c a b) s r above (
       i.0,
-      (λ rest sound. e.1 (sign sg.Question ∷ printed_expr a (sign sg.Colon ∷ printed_expr b rest)) (tt, f.1 _ (tt, i.1 _ sound))),
+      (λ rest sound. e.1 (sign sg.Question ∷ printed_expr a (sign sg.Colon ∷ printed_expr b rest))
+          (tt, f.1 _ (tt, i.1 _ sound))),
       λ rest. let B = printed_expr b rest in let A = printed_expr a (sign sg.Colon ∷ B) in
           omega (arith, e.2 (sign sg.Question ∷ A), f.2 (sign sg.Colon ∷ B), i.2 rest),
     )

@@ -14,7 +14,8 @@ use Rattle.cas_print.proofs.Modules.{items_printable}
 use Rattle.cas_print.proofs.Placed.{placed}
 use Rattle.cas_print.proofs.Relexed.{by_count, lexed_again}
 
-pub canonical_is_read : (bytes : List ℕ) (m : ModuleTree) → IsReadAs bytes m → (other : ModuleTree) × IsReadAs (canonical m) other × IsAlike other m
+pub canonical_is_read : (bytes : List ℕ) (m : ModuleTree) → IsReadAs bytes m → (other : ModuleTree)
+    × IsReadAs (canonical m) other × IsAlike other m
 canonical_is_read bytes m read =
     let tokens = read.0 in
     let sound = lexed_sound start bytes tokens at_end read.1.1 in

@@ -21,19 +21,22 @@ outermost-low _ = omega arith
 
 -- the expression of two operands is printed as its operator asks
 pub printed-joined : (P : ℕ → (List Piece → List Piece) → Type 0) (op : Infix) (a b : ExprTree) →
-    P (level op) (between op (outermost a) (printed_expr a) (outermost b) (printed_expr b)) → P (outermost (joined op a b)) (printed_expr (joined op a b))
+    P (level op) (between op (outermost a) (printed_expr a) (outermost b) (printed_expr b)) →
+    P (outermost (joined op a b)) (printed_expr (joined op a b))
 printed-joined P (always_both op) a b h = h
 printed-joined P logical_and a b h = h
 printed-joined P logical_or a b h = h
 
 -- where the operator binds as tightly as its place asks no parentheses stand
-pub at_level-open : (P : (List Piece → List Piece) → Type 0) (asked found : ℕ) (inner : List Piece → List Piece) → asked ≤ found → P inner → P (at_level asked found inner)
+pub at_level-open : (P : (List Piece → List Piece) → Type 0) (asked found : ℕ) (inner : List Piece → List Piece) →
+    asked ≤ found → P inner → P (at_level asked found inner)
 at_level-open P asked found inner h p =
     let no : nat_lt found asked ≡ false = grind (arith, nat_tests) in
     subst (λ (b : Bool). P (enclosed b inner)) (sym no) p
 
 -- a fact of both
-pub at_level-either : (P : (List Piece → List Piece) → Type 0) (asked found : ℕ) (inner : List Piece → List Piece) → P (enclosed true inner) → (asked ≤ found → P inner) → P (at_level asked found inner)
+pub at_level-either : (P : (List Piece → List Piece) → Type 0) (asked found : ℕ) (inner : List Piece → List Piece) →
+    P (enclosed true inner) → (asked ≤ found → P inner) → P (at_level asked found inner)
 at_level-either P asked found inner closed open_ = by_test (nat_lt found asked) refl
   where
     by_test : (b : Bool) → nat_lt found asked ≡ b → P (enclosed b inner)

@@ -33,20 +33,23 @@ keeps_extern : (d : Bool) → Keeps (printed_extern d)
 keeps_extern true rest sound = sound
 keeps_extern false rest sound = (tt, sound)
 
-extern_again : (at : List Piece → Place) (d : Bool) (rest : List Piece) → g3.SpellsExtern d (placed at (printed_extern d rest)) (placed at rest)
+extern_again : (at : List Piece → Place) (d : Bool) (rest : List Piece) →
+    g3.SpellsExtern d (placed at (printed_extern d rest)) (placed at rest)
 extern_again at true rest = g3.here _
 extern_again at false rest = g3.elsewhere _ _
 
 abbrev ItemPrintable : (List Piece → Place) → ItemTree → Type 0
 ItemPrintable at a = Printable bare_item (g3.SpellsItem (within 0)) at a (printed_item a)
 
-lock_printable : (at : List Piece → Place) (x : Ident) (d : Bool) → IsPlainName x.name → ItemPrintable at (global (declared x.name Lock d) [] x.place)
+lock_printable : (at : List Piece → Place) (x : Ident) (d : Bool) → IsPlainName x.name →
+    ItemPrintable at (global (declared x.name Lock d) [] x.place)
 lock_printable at x d good = (
   (λ rest sound. keeps_extern d _ (tt, (good, (tt, sound)))),
   λ rest. (global (declared x.name Lock d) [] _, g3.a_lock (ident_at x.name _) d _ _ _ _ (extern_again at d _), refl),
 )
 
-shared_printable : (at : List Piece → Place) (x guard : Ident) (ty : Ty) (vs : List ℕ) (d : Bool) → IsPlainName guard.name → CellsPrintable at d ty x.name vs →
+shared_printable : (at : List Piece → Place) (x guard : Ident) (ty : Ty) (vs : List ℕ) (d : Bool) →
+    IsPlainName guard.name → CellsPrintable at d ty x.name vs →
     ItemPrintable at (global (declared x.name (Shared ty guard.name) d) vs x.place)
 shared_printable at x guard ty vs d good cells = (
   (λ rest sound. keeps_extern d _ (tt, (tt, (good, (tt, cells.0 _ (tt, sound)))))),
@@ -54,12 +57,15 @@ shared_printable at x guard ty vs d good cells = (
       let e = cells.1 (end_of_line sg.Semicolon ∷ rest) in (
         global (declared x.name (Shared ty guard.name) d) vs e.2,
         g3.a_shared (ident_at x.name e.2) (ident_at guard.name _) e.0 ty vs d _ _ _ _ _ _ e.1 _
-            (extern_again at d (word w.Shared ∷ sign sg.OpenParen ∷ named guard.name ∷ sign sg.CloseParen ∷ printed_cells ty x.name vs (end_of_line sg.Semicolon ∷ rest))) e.3 e.4,
+            (extern_again at d
+            (word w.Shared ∷ sign sg.OpenParen ∷ named guard.name ∷ sign sg.CloseParen ∷ printed_cells ty x.name vs
+            (end_of_line sg.Semicolon ∷ rest))) e.3 e.4,
         refl,
       ),
 )
 
-table_printable : (at : List Piece → Place) (x : Ident) (ty : Ty) (vs : List ℕ) (d : Bool) → CellsPrintable at d ty x.name vs →
+table_printable : (at : List Piece → Place) (x : Ident) (ty : Ty) (vs : List ℕ) (d : Bool) →
+    CellsPrintable at d ty x.name vs →
     ItemPrintable at (global (declared x.name (Table ty) d) vs x.place)
 table_printable at x ty vs d cells = (
   (λ rest sound. keeps_extern d _ (tt, cells.0 _ (tt, sound))),
@@ -72,9 +78,11 @@ table_printable at x ty vs d cells = (
       ),
 )
 
-prototype_printable : (at : List Piece → Place) (x : Ident) (ret : Ty) (tys : List Ty) (xs : List (Option Ident)) (holds : List Ident) → IsPlainName x.name →
+prototype_printable : (at : List Piece → Place) (x : Ident) (ret : Ty) (tys : List Ty) (xs : List (Option Ident))
+    (holds : List Ident) → IsPlainName x.name →
     ReturnPrintable at ret → ParametersPrintable at tys xs → HoldsPrintable at holds →
-    ItemPrintable at (prototype (declared x.name (Function ret tys (g3.names_alone holds)) false) (g3.places_alone holds) x.place)
+    ItemPrintable at (prototype (declared x.name (Function ret tys (g3.names_alone holds)) false)
+    (g3.places_alone holds) x.place)
 prototype_printable at x ret tys xs holds good returns parameters locks =
     let names = unnamed_printable at tys xs parameters in (
       (λ rest sound. returns.0 _ (good, (tt, names.0 _ (tt, locks.0 _ (tt, sound))))),
@@ -83,16 +91,28 @@ prototype_printable at x ret tys xs holds good returns parameters locks =
           let inner = printed_parameters tys [] (sign sg.CloseParen ∷ behind) in
           let h = locks.1 (end_of_line sg.Semicolon ∷ rest) in (
             prototype (declared x.name (Function ret tys (g3.names_alone h.0)) false) (g3.places_alone h.0) _,
-            g3.a_prototype (ident_at x.name _) (Function ret tys (g3.names_alone h.0)) (no_names tys) (g3.places_alone h.0) true _ _ _ _ (g3.here _)
+            g3.a_prototype (ident_at x.name _) (Function ret tys (g3.names_alone h.0)) (no_names tys)
+                (g3.places_alone h.0) true _ _ _ _ (g3.here _)
                 (g3.head (ident_at x.name _) ret tys (no_names tys) h.0 _ _ _ _ _ _
                 (returns.1 (named x.name ∷ sign sg.OpenParen ∷ inner)) (names.1 (sign sg.CloseParen ∷ behind)) h.1),
             rw (h.2, nowhere-places holds h.0 h.3) refl,
           ),
     )
 
-function_printable : (at : List Piece → Place) (x : Ident) (ret : Ty) (tys : List Ty) (xs : List Ident) (holds : List Ident) (body : StmtList) (closing : Place) → IsPlainName x.name →
-    ReturnPrintable at ret → ParametersPrintable at tys (map Some xs) → HoldsPrintable at holds → StmtsPrintable at 0 body →
-    ItemPrintable at (define (record { decl = declared x.name (Function ret tys (g3.names_alone holds)) true; params = xs; held = g3.places_alone holds; body = body; place = x.place; closing = closing }))
+function_printable : (at : List Piece → Place) (x : Ident) (ret : Ty) (tys : List Ty) (xs : List Ident)
+    (holds : List Ident) (body : StmtList) (closing : Place) → IsPlainName x.name →
+    ReturnPrintable at ret → ParametersPrintable at tys (map Some xs) → HoldsPrintable at holds →
+    StmtsPrintable at 0 body →
+    ItemPrintable at
+    (define (record {
+      decl = declared x.name (Function ret tys (g3.names_alone holds)) true;
+      params = xs;
+      held =
+          g3.places_alone holds;
+      body = body;
+      place = x.place;
+      closing = closing;
+    }))
 function_printable at x ret tys xs holds body closing good returns parameters locks statements =
     let names = named_printable at tys xs parameters in (
       (λ rest sound. returns.0 _ (good, (tt, names.0 _ (tt, locks.0 _ (tt, statements.0 _ (tt, sound)))))),
@@ -103,19 +123,31 @@ function_printable at x ret tys xs holds body closing good returns parameters lo
           let inner = printed_parameters tys xs (sign sg.CloseParen ∷ behind) in
           let e = names.1 (sign sg.CloseParen ∷ behind) in
           let h = locks.1 opened in (
-            define (record { decl = declared x.name (Function ret tys (g3.names_alone h.0)) true; params = e.0; held = g3.places_alone h.0; body = d.0; place = _; closing = _ }),
-            g3.a_function (ident_at x.name _) (Function ret tys (g3.names_alone h.0)) e.0 (g3.places_alone h.0) d.0 _ _ _ _ _
-                (g3.head (ident_at x.name _) ret tys (map Some e.0) h.0 _ _ _ _ _ _ (returns.1 (named x.name ∷ sign sg.OpenParen ∷ inner)) e.1 h.1) d.1,
+            define (record {
+              decl = declared x.name (Function ret tys (g3.names_alone h.0)) true;
+              params = e.0;
+              held =
+                  g3.places_alone h.0;
+              body = d.0;
+              place = _;
+              closing = _;
+            }),
+            g3.a_function (ident_at x.name _) (Function ret tys (g3.names_alone h.0)) e.0 (g3.places_alone h.0)
+                d.0 _ _ _ _ _
+                (g3.head (ident_at x.name _) ret tys (map Some e.0) h.0 _ _ _ _ _ _
+                (returns.1 (named x.name ∷ sign sg.OpenParen ∷ inner)) e.1 h.1) d.1,
             rw (e.2, d.2, h.2, nowhere-places holds h.0 h.3) refl,
           ),
     )
 
-item_printable : (at : List Piece → Place) (a : ItemTree) (s r : List Token) → g3.SpellsItem (within 0) a s r → Sound s → Sound r × ItemPrintable at a
+item_printable : (at : List Piece → Place) (a : ItemTree) (s r : List Token) → g3.SpellsItem (within 0) a s r →
+    Sound s → Sound r × ItemPrintable at a
 item_printable at _ s r (g3.a_lock x d p q _ _ outside) h =
     let e = extern_left d s (t.word w.Lock p ∷ t.ident x ∷ t.sign sg.Semicolon q ∷ r) outside h in
     (e.1.1.1, lock_printable at x d e.1.0)
 item_printable at _ s r (g3.a_shared x guard k ty vs d p q q' o _ u v _ outside words spelt) h =
-    let e = extern_left d s (t.word w.Shared p ∷ t.sign sg.OpenParen q ∷ t.ident guard ∷ t.sign sg.CloseParen q' ∷ u) outside h in
+    let e = extern_left d s (t.word w.Shared p ∷ t.sign sg.OpenParen q ∷ t.ident guard ∷ t.sign sg.CloseParen q' ∷ u)
+    outside h in
     let f = kept_kind k u v words e.1.1.1.1 in
     let i = cells_printable at d k x ty vs v (t.sign sg.Semicolon o ∷ r) spelt f.0 in
     (i.0.1, shared_printable at x guard ty vs d e.1.1.0 i.2)
@@ -124,13 +156,15 @@ item_printable at _ s r (g3.a_table x k ty vs d p o _ u v _ outside words spelt)
     let f = kept_kind k u v words e.1 in
     let i = cells_printable at d k x ty vs v (t.sign sg.Semicolon o ∷ r) spelt f.0 in
     (i.0.1, table_printable at x ty vs d i.2)
-item_printable at _ s r (g3.a_prototype _ _ _ _ d o _ u _ outside (g3.head x ret tys xs holds p q _ v z _ returns inner locks)) h =
+item_printable at _ s r (g3.a_prototype _ _ _ _ d o _ u _ outside
+    (g3.head x ret tys xs holds p q _ v z _ returns inner locks)) h =
     let e = extern_left d s u outside h in
     let f = return_printable at ret u (t.ident x ∷ t.sign sg.OpenParen p ∷ v) returns e in
     let i = parameters_printable at tys xs v (t.sign sg.CloseParen q ∷ z) inner f.0.1.1 in
     let j = holds_printable at holds z (t.sign sg.Semicolon o ∷ r) locks i.0.1 in
     (j.0.1, prototype_printable at x ret tys xs holds f.0.0 f.1 i.1 j.1)
-item_printable at _ s r (g3.a_function _ _ xs _ body o closing _ u _ (g3.head x ret tys _ holds p q _ v z _ returns inner locks) statements) h =
+item_printable at _ s r (g3.a_function _ _ xs _ body o closing _ u _
+    (g3.head x ret tys _ holds p q _ v z _ returns inner locks) statements) h =
     let f = return_printable at ret s (t.ident x ∷ t.sign sg.OpenParen p ∷ v) returns h in
     let i = parameters_printable at tys (map Some xs) v (t.sign sg.CloseParen q ∷ z) inner f.0.1.1 in
     let j = holds_printable at holds z (t.sign sg.OpenBrace o ∷ u) locks i.0.1 in
@@ -138,7 +172,8 @@ item_printable at _ s r (g3.a_function _ _ xs _ body o closing _ u _ (g3.head x 
     (l.0.1, function_printable at x ret tys xs holds body closing f.0.0 f.1 i.1 j.1 l.1)
 item_printable at _ s r (g3.a_plain_global x ty d by p _ u _ left_out follows outside returns) h = cc
 
-pub items_printable : (at : List Piece → Place) (items : List ItemTree) (s r : List Token) → g3.SpellsItems (within 0) items s r → Sound s →
+pub items_printable : (at : List Piece → Place) (items : List ItemTree) (s r : List Token) →
+    g3.SpellsItems (within 0) items s r → Sound s →
     Sound r × Printable (map bare_item) (g3.SpellsItems (within 0)) at items (printed_items items)
 items_printable at _ s r (g3.no_item _) h = (h, ((λ rest sound. sound), λ rest. ([], g3.no_item _, refl)))
 items_printable at _ s r (g3.an_item a bs _ u _ first others) h =

@@ -37,12 +37,14 @@ abbrev pub SimplePrintable : (List Piece → Place) → StmtTree → Type 0
 SimplePrintable at a = IsPart a × PrintableBefore bare_stmt (g2.SpellsSimple (within 0)) at a (printed_part a)
 
 -- each target begins with a token
-headed : (at : List Piece → Place) (target : TargetTree) (rest : List Piece) → (first : Token) × (s : List Token) × (placed at (printed_target target rest) ≡ first ∷ s)
+headed : (at : List Piece → Place) (target : TargetTree) (rest : List Piece) → (first : Token) × (s : List Token)
+    × (placed at (printed_target target rest) ≡ first ∷ s)
 headed at (to_name x) rest = (_, _, refl)
 headed at (to_index x a) rest = (_, _, refl)
 headed at (to_deref a) rest = (_, _, refl)
 
-set_printable : (at : List Piece → Place) (p : Place) (target : TargetTree) (a : ExprTree) → TargetPrintable at target → ExprPrintable at a → SimplePrintable at (assign p target None a)
+set_printable : (at : List Piece → Place) (p : Place) (target : TargetTree) (a : ExprTree) → TargetPrintable at target →
+    ExprPrintable at a → SimplePrintable at (assign p target None a)
 set_printable at p target a left right = (
   (λ rest. refl),
   (
@@ -53,7 +55,8 @@ set_printable at p target a left right = (
         let f = left.1 ahead in
         let h = headed at target ahead in (
           assign h.0.place f.0 None e.0,
-          subst (λ (ts : List Token). g2.SpellsSimple (within 0) (assign h.0.place f.0 None e.0) ts (placed at rest)) (sym h.2)
+          subst (λ (ts : List Token). g2.SpellsSimple (within 0) (assign h.0.place f.0 None e.0) ts (placed at rest))
+              (sym h.2)
               (g2.sets f.0 e.0 h.0 _ h.1 _ _
               (subst (λ (ts : List Token). g2.SpellsTarget (within 0) f.0 ts (placed at ahead)) h.2 f.1)
               (may_be_value f.0 (placed at (printed_expr a rest)) (no_call at a rest free)) e.1),
@@ -63,10 +66,12 @@ set_printable at p target a left right = (
 )
 
 -- an operator that assigns has a sign of its own
-own_sign : (op : BinaryOperator) (by : Sign) → assigning_sign op ≡ Some by → assigning_sign op ≡ Some (sign_or_equal (assigning_sign op))
+own_sign : (op : BinaryOperator) (by : Sign) → assigning_sign op ≡ Some by →
+    assigning_sign op ≡ Some (sign_or_equal (assigning_sign op))
 own_sign op by is = rw (is) refl
 
-change_printable : (at : List Piece → Place) (p : Place) (target : TargetTree) (op : BinaryOperator) (by : Sign) (a : ExprTree) → assigning_sign op ≡ Some by →
+change_printable : (at : List Piece → Place) (p : Place) (target : TargetTree) (op : BinaryOperator) (by : Sign)
+    (a : ExprTree) → assigning_sign op ≡ Some by →
     TargetPrintable at target → ExprPrintable at a → SimplePrintable at (assign p target (Some op) a)
 change_printable at p target op by a is left right = (
   (λ rest. refl),
@@ -78,7 +83,8 @@ change_printable at p target op by a is left right = (
         let f = left.1 ahead in
         let h = headed at target ahead in (
           assign h.0.place f.0 (Some op) e.0,
-          subst (λ (ts : List Token). g2.SpellsSimple (within 0) (assign h.0.place f.0 (Some op) e.0) ts (placed at rest)) (sym h.2)
+          subst (λ (ts : List Token). g2.SpellsSimple (within 0) (assign h.0.place f.0 (Some op) e.0) ts
+              (placed at rest)) (sym h.2)
               (g2.changes f.0 op (sign_or_equal (assigning_sign op)) e.0 h.0 _ h.1 _ _ (own_sign op by is)
               (subst (λ (ts : List Token). g2.SpellsTarget (within 0) f.0 ts (placed at ahead)) h.2 f.1) e.1),
           rw (f.2, e.2) refl,
@@ -86,19 +92,25 @@ change_printable at p target op by a is left right = (
   ),
 )
 
-kept_call_printable : (at : List Piece → Place) (p : Place) (x f : Ident) (bs : List ExprTree) → IsPlainName x.name → IsPlainName f.name → ArgumentsPrintable at bs →
+kept_call_printable : (at : List Piece → Place) (p : Place) (x f : Ident) (bs : List ExprTree) → IsPlainName x.name →
+    IsPlainName f.name → ArgumentsPrintable at bs →
     SimplePrintable at (call p (Some x) f bs)
 kept_call_printable at p x f bs good better arguments = (
   (λ rest. refl),
   (
     (λ rest sound. (good, (tt, (better, (tt, arguments.0 _ (tt, sound)))))),
     λ rest free.
-        let e = arguments.1 (sign sg.CloseParen ∷ rest) in
-        (call _ (Some (ident_at x.name _)) (ident_at f.name _) e.0, g2.keeps_result (ident_at x.name _) (ident_at f.name _) e.0 _ _ _ _ _ e.1, rw e.2 refl),
+        let e = arguments.1 (sign sg.CloseParen ∷ rest) in (
+          call _ (Some (ident_at x.name _)) (ident_at f.name _) e.0,
+          g2.keeps_result (ident_at x.name _)
+              (ident_at f.name _) e.0 _ _ _ _ _ e.1,
+          rw e.2 refl,
+        ),
   ),
 )
 
-call_printable : (at : List Piece → Place) (p : Place) (f : Ident) (bs : List ExprTree) → IsPlainName f.name → ArgumentsPrintable at bs → SimplePrintable at (call p None f bs)
+call_printable : (at : List Piece → Place) (p : Place) (f : Ident) (bs : List ExprTree) → IsPlainName f.name →
+    ArgumentsPrintable at bs → SimplePrintable at (call p None f bs)
 call_printable at p f bs good arguments = (
   (λ rest. refl),
   (
@@ -109,7 +121,8 @@ call_printable at p f bs good arguments = (
   ),
 )
 
-pub simple_printable : (at : List Piece → Place) (a : StmtTree) (s r : List Token) → g2.SpellsSimple (within 0) a s r → Sound s → Sound r × SimplePrintable at a
+pub simple_printable : (at : List Piece → Place) (a : StmtTree) (s r : List Token) → g2.SpellsSimple (within 0) a s r →
+    Sound s → Sound r × SimplePrintable at a
 simple_printable at _ _ r (g2.sets target a first p s u _ left allowed right) h =
     let e = target_printable at target (first ∷ s) (t.sign sg.Equal p ∷ u) left h in
     let f = expr_printable at a u r right e.0.1 in
@@ -148,7 +161,8 @@ keeps_kind U8 rest sound = (tt, (tt, sound))
 keeps_kind U16 rest sound = (tt, (tt, sound))
 keeps_kind _ rest sound = (tt, sound)
 
-pub local_printable : (at : List Piece → Place) (kind : Kind) (a : StmtTree) (s r : List Token) → g2.SpellsLocal (within 0) kind a s r → Sound s → Sound r × LocalPrintable at a
+pub local_printable : (at : List Piece → Place) (kind : Kind) (a : StmtTree) (s r : List Token) →
+    g2.SpellsLocal (within 0) kind a s r → Sound s → Sound r × LocalPrintable at a
 local_printable at kind _ _ r (g2.variable x a s _ spelt) h =
     let e = init_printable at a s r spelt h.1 in (
       e.0,
@@ -156,8 +170,15 @@ local_printable at kind _ _ r (g2.variable x a s _ spelt) h =
         (λ rest. refl),
         (λ rest sound. keeps_kind kind _ (h.0, e.1.0 _ sound)),
         λ rest free.
-            let f = e.1.1 rest free in
-            (kind, declare _ (Int kind) (ident_at x.name _) f.0, _, respelt_kind at kind _, g2.variable (ident_at x.name _) f.0 _ _ f.1, rw f.2 refl),
+            let f = e.1.1 rest free in (
+              kind,
+              declare _ (Int kind) (ident_at x.name _) f.0,
+              _,
+              respelt_kind at kind _,
+              g2.variable
+                  (ident_at x.name _) f.0 _ _ f.1,
+              rw f.2 refl,
+            ),
       ),
     )
 local_printable at kind _ _ r (g2.pointer x a p s _ spelt) h =
@@ -167,8 +188,15 @@ local_printable at kind _ _ r (g2.pointer x a p s _ spelt) h =
         (λ rest. refl),
         (λ rest sound. keeps_kind kind _ (tt, (h.1.0, e.1.0 _ sound))),
         λ rest free.
-            let f = e.1.1 rest free in
-            (kind, declare _ (Ptr kind) (ident_at x.name _) f.0, _, respelt_kind at kind _, g2.pointer (ident_at x.name _) f.0 _ _ _ f.1, rw f.2 refl),
+            let f = e.1.1 rest free in (
+              kind,
+              declare _ (Ptr kind) (ident_at x.name _) f.0,
+              _,
+              respelt_kind at kind _,
+              g2.pointer
+                  (ident_at x.name _) f.0 _ _ _ f.1,
+              rw f.2 refl,
+            ),
       ),
     )
 local_printable at kind _ _ r (g2.array x n j p o q _) h = (
@@ -176,7 +204,15 @@ local_printable at kind _ _ r (g2.array x n j p o q _) h = (
   (
     (λ rest. refl),
     (λ rest sound. keeps_kind kind _ (h.0, (tt, (plain_sound n j h.1.1.0, (tt, sound))))),
-    λ rest free. (kind, declare _ (Array kind n) (ident_at x.name _) nothing, _, respelt_kind at kind _, g2.array (ident_at x.name _) n _ _ _ _ _, refl),
+    λ rest free. (
+      kind,
+      declare _ (Array kind n) (ident_at x.name _) nothing,
+      _,
+      respelt_kind at kind _,
+      g2.array
+          (ident_at x.name _) n _ _ _ _ _,
+      refl,
+    ),
   ),
 )
 local_printable at kind _ _ r (g2.pointer_to_pointer p q _ left_out) h = cc

@@ -25,35 +25,41 @@ use Rattle.cas_print.proofs.Sound.{IsSound, IsPlainName, IsLiteral, literal_smal
 
 -- words and signs
 
-word_front : (which : Word) (rest : List ℕ) → front (word_spelling which ++ 32 ∷ rest) ≡ f.Token (k.Word which) (length (word_spelling which))
+word_front : (which : Word) (rest : List ℕ) → front (word_spelling which ++ 32 ∷ rest) ≡ f.Token (k.Word which)
+    (length (word_spelling which))
 unfolding front_at
 word_front w.Void rest = refl
 word_front _ rest = refl
 
-sign_front : (s : Sign) (rest : List ℕ) → front (sign_spelling s ++ 32 ∷ rest) ≡ f.Token (k.Sign s) (length (sign_spelling s))
+sign_front : (s : Sign) (rest : List ℕ) → front (sign_spelling s ++ 32 ∷ rest) ≡ f.Token (k.Sign s)
+    (length (sign_spelling s))
 unfolding front_at mark_at
 sign_front sg.Plus rest = refl
 sign_front _ rest = refl
 
-line_front : (s : Sign) (rest : List ℕ) → front (sign_spelling s ++ 10 ∷ rest) ≡ f.Token (k.Sign s) (length (sign_spelling s))
+line_front : (s : Sign) (rest : List ℕ) → front (sign_spelling s ++ 10 ∷ rest) ≡ f.Token (k.Sign s)
+    (length (sign_spelling s))
 unfolding front_at mark_at
 line_front sg.Plus rest = refl
 line_front _ rest = refl
 
 -- names
 
-take_while-until : (p : ℕ → Bool) (xs : List ℕ) (c : ℕ) (rest : List ℕ) → list_all p xs ≡ true → p c ≡ false → take_while p (xs ++ c ∷ rest) ≡ xs
+take_while-until : (p : ℕ → Bool) (xs : List ℕ) (c : ℕ) (rest : List ℕ) → list_all p xs ≡ true → p c ≡ false →
+    take_while p (xs ++ c ∷ rest) ≡ xs
 take_while-until p [] c rest all stop = rw (take_while-cons p c rest, stop) refl
 take_while-until p (x ∷ xs) c rest all stop = step (p x) refl all (λ others. take_while-until p xs c rest others stop)
   where
-    step : (b : Bool) → p x ≡ b → (b && list_all p xs) ≡ true → (list_all p xs ≡ true → take_while p (xs ++ c ∷ rest) ≡ xs) → take_while p (x ∷ (xs ++ c ∷ rest)) ≡ x ∷ xs
+    step : (b : Bool) → p x ≡ b → (b && list_all p xs) ≡ true →
+        (list_all p xs ≡ true → take_while p (xs ++ c ∷ rest) ≡ xs) → take_while p (x ∷ (xs ++ c ∷ rest)) ≡ x ∷ xs
     step true e all more = rw (take_while-cons p x (xs ++ c ∷ rest), e) (ap (λ (ys : List ℕ). x ∷ ys) (more all))
     step false e all more = cc
 
 first_is_name_byte : (b : ℕ) → is_first_byte b ≡ true → is_name_byte b ≡ true
 first_is_name_byte b h = grind (arith, nat_tests)
 
-name_front-begun : (b : ℕ) (bs : List ℕ) (rest : List ℕ) → is_first_byte b ≡ true → list_all is_name_byte bs ≡ true → front ((b ∷ bs) ++ 32 ∷ rest) ≡ name_at (b ∷ bs)
+name_front-begun : (b : ℕ) (bs : List ℕ) (rest : List ℕ) → is_first_byte b ≡ true → list_all is_name_byte bs ≡ true →
+    front ((b ∷ bs) ++ 32 ∷ rest) ≡ name_at (b ∷ bs)
 unfolding front_at
 name_front-begun b bs rest first all =
     let whole : list_all is_name_byte (b ∷ bs) ≡ true = rw (first_is_name_byte b first) all in
@@ -99,15 +105,23 @@ no_hexadecimal z x [] h = refl
 no_hexadecimal z x (m ∷ more) h = rw h (no_second (z == 48) (is_ascii_hexdigit m))
 
 -- decimal digits without a leading 0, and a byte that is no digit
-decimal_at : (d : ℕ) (ds : List ℕ) (c : ℕ) (rest : List ℕ) → list_all is_ascii_digit (d ∷ ds) ≡ true → (d ≡ 48 → ds ≡ []) → is_ascii_digit c ≡ false → (c == 120 || c == 88) ≡ false →
+decimal_at : (d : ℕ) (ds : List ℕ) (c : ℕ) (rest : List ℕ) → list_all is_ascii_digit (d ∷ ds) ≡ true →
+    (d ≡ 48 → ds ≡ []) → is_ascii_digit c ≡ false → (c == 120 || c == 88) ≡ false →
     literal_at ((d ∷ ds) ++ c ∷ rest) ≡ literal_before (digits_value 10 (d ∷ ds)) (length (d ∷ ds)) (c ∷ rest)
 decimal_at d ds c rest all leading stop other =
-    rw (not_hexadecimal ds all, take_while-until is_ascii_digit (d ∷ ds) c rest all stop, not_octal ds leading, drop-append_seam (d ∷ ds) (c ∷ rest)) refl
+    rw (
+      not_hexadecimal ds all,
+      take_while-until is_ascii_digit (d ∷ ds) c rest all stop,
+      not_octal ds leading,
+      drop-append_seam (d ∷ ds) (c ∷ rest),
+    ) refl
   where
-    not_hexadecimal : (ds : List ℕ) → list_all is_ascii_digit (d ∷ ds) ≡ true → is_hexadecimal ((d ∷ ds) ++ c ∷ rest) ≡ false
+    not_hexadecimal : (ds : List ℕ) → list_all is_ascii_digit (d ∷ ds) ≡ true →
+        is_hexadecimal ((d ∷ ds) ++ c ∷ rest) ≡ false
     not_hexadecimal [] all = no_hexadecimal d c rest other
     not_hexadecimal (e ∷ es) all =
-        no_hexadecimal d e (es ++ c ∷ rest) (digit_is_no_x e (both (is_ascii_digit e) _ (both (is_ascii_digit d) _ all).1).0)
+        no_hexadecimal d e (es ++ c ∷ rest)
+        (digit_is_no_x e (both (is_ascii_digit e) _ (both (is_ascii_digit d) _ all).1).0)
 
     not_octal : (ds : List ℕ) → (d ≡ 48 → ds ≡ []) → is_octal (d ∷ ds) ≡ false
     not_octal [] leading = refl
@@ -137,9 +151,11 @@ zero_alone n d ds small is leading = by_test (nat_lt 0 n) refl
 
 number_at : (n c : ℕ) (rest : List ℕ) → n ≤ 4294967295 → is_ascii_digit c ≡ false → (c == 120 || c == 88) ≡ false →
     front (decimal n ++ c ∷ rest) ≡ literal_before n (length (decimal n)) (c ∷ rest)
-number_at n c rest small stop other = by_digits (decimal n) refl (decimal_is_IsNumeral n (omega arith)).0 (decimal_is_IsNumeral n (omega arith)).1
+number_at n c rest small stop other = by_digits (decimal n) refl (decimal_is_IsNumeral n (omega arith)).0
+    (decimal_is_IsNumeral n (omega arith)).1
   where
-    by_digits : (ds : List ℕ) → decimal n ≡ ds → (0 < length ds) × AllDigits 10 ds → digits_value 10 ds ≡ n → front (ds ++ c ∷ rest) ≡ literal_before n (length ds) (c ∷ rest)
+    by_digits : (ds : List ℕ) → decimal n ≡ ds → (0 < length ds) × AllDigits 10 ds → digits_value 10 ds ≡ n →
+        front (ds ++ c ∷ rest) ≡ literal_before n (length ds) (c ∷ rest)
     by_digits [] same some is = absurd (omega (arith, some.0))
     by_digits (d ∷ ds) same some is =
         digits_front d (ds ++ c ∷ rest) (digit d some.1.0)
@@ -149,20 +165,24 @@ number_at n c rest small stop other = by_digits (decimal n) refl (decimal_is_IsN
 not_above : (n : ℕ) → n ≤ 4294967295 → nat_lt 4294967295 n ≡ false
 not_above n h = grind (arith, nat_tests)
 
-plain_front : (n : ℕ) (rest : List ℕ) → n ≤ 4294967295 → front (decimal n ++ 32 ∷ rest) ≡ f.Token (k.Literal n (literal_kind false n)) (length (decimal n))
+plain_front : (n : ℕ) (rest : List ℕ) → n ≤ 4294967295 →
+    front (decimal n ++ 32 ∷ rest) ≡ f.Token (k.Literal n (literal_kind false n)) (length (decimal n))
 plain_front n rest small = number_at n 32 rest small refl refl ∙ rw (not_above n small) refl
 
-signed_front : (n : ℕ) (rest : List ℕ) → n ≤ 2147483647 → front (decimal n ++ 32 ∷ rest) ≡ f.Token (k.Literal n I32) (length (decimal n))
+signed_front : (n : ℕ) (rest : List ℕ) → n ≤ 2147483647 →
+    front (decimal n ++ 32 ∷ rest) ≡ f.Token (k.Literal n I32) (length (decimal n))
 signed_front n rest small =
     let low : nat_lt 2147483647 n ≡ false = grind (arith, nat_tests) in
     plain_front n rest (omega arith) ∙ rw (low) refl
 
-unsigned_front : (n : ℕ) (rest : List ℕ) → n ≤ 4294967295 → front ((decimal n ++ codes "u") ++ 32 ∷ rest) ≡ f.Token (k.Literal n U32) (length (decimal n ++ codes "u"))
+unsigned_front : (n : ℕ) (rest : List ℕ) → n ≤ 4294967295 →
+    front ((decimal n ++ codes "u") ++ 32 ∷ rest) ≡ f.Token (k.Literal n U32) (length (decimal n ++ codes "u"))
 unsigned_front n rest small =
     rw (append_assoc (decimal n) (codes "u") (32 ∷ rest), length-append (decimal n) (codes "u"))
     (number_at n 117 (32 ∷ rest) small refl refl ∙ rw (not_above n small) refl)
 
-number_front : (n : ℕ) (kind : Kind) (rest : List ℕ) → IsLiteral n kind → front (spelling (number n kind) ++ 32 ∷ rest) ≡ f.Token (k.Literal n kind) (length (spelling (number n kind)))
+number_front : (n : ℕ) (kind : Kind) (rest : List ℕ) → IsLiteral n kind →
+    front (spelling (number n kind) ++ 32 ∷ rest) ≡ f.Token (k.Literal n kind) (length (spelling (number n kind)))
 number_front n I32 rest h = rw (append-nil (decimal n)) (signed_front n rest h)
 number_front n U32 rest h = unsigned_front n rest h
 number_front n _ rest h = absurd h
@@ -172,7 +192,8 @@ plain_small : (n : ℕ) → IsLiteral n (literal_kind false n) → n ≤ 4294967
 plain_small n h = literal_small n (literal_kind false n) h
 
 -- each piece
-pub piece_front : (p : Piece) (rest : List ℕ) → IsSound (kind_of p) → front (spelling p ++ separator p ∷ rest) ≡ f.Token (kind_of p) (length (spelling p))
+pub piece_front : (p : Piece) (rest : List ℕ) → IsSound (kind_of p) →
+    front (spelling p ++ separator p ∷ rest) ≡ f.Token (kind_of p) (length (spelling p))
 piece_front (word which) rest h = word_front which rest
 piece_front (sign s) rest h = sign_front s rest
 piece_front (end_of_line s) rest h = line_front s rest

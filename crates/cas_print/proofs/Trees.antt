@@ -15,7 +15,8 @@ use Rattle.cas_syntax.specs.Tree.{StmtTree, one_more, block, for_, form_tree, op
 
 row_trees-items : (m : Count) (row : Row_of-Stmt m) → row_trees row ≡ stmt_trees (items-the_row-Stmt m row)
 row_trees-items _ end_of-Stmt = refl
-row_trees-items _ (more_of-Stmt {n = n} p f rest) = ap (one_more (stmt_tree (record { place = p; form = f }))) (row_trees-items n rest)
+row_trees-items _ (more_of-Stmt {n = n} p f rest) = ap (one_more (stmt_tree (record { place = p; form = f })))
+    (row_trees-items n rest)
 
 abbrev row_of : StmtForm → (m : Count) × Row_of-Stmt m
 row_of (Block' shape all) = (_, all)
@@ -34,14 +35,18 @@ pub stmt_trees-drop : (ss : List Stmt) (k : ℕ) (s : Stmt) → k < length ss �
 stmt_trees-drop ss k s h = ap stmt_trees (drop_more ss k s h)
 
 -- how a block is printed
-pub printed-block : (s : Stmt) (all : Vec Stmt Global) (items : List Stmt) (rest : List Piece) → s.form ≡ Block all → items ≡ all.items →
-    end_of_line sg.OpenBrace ∷ printed_stmts (stmt_trees items) (end_of_line sg.CloseBrace ∷ rest) ≡ printed_stmt (stmt_tree s) rest
+pub printed-block : (s : Stmt) (all : Vec Stmt Global) (items : List Stmt) (rest : List Piece) → s.form ≡ Block all →
+    items ≡ all.items →
+    end_of_line sg.OpenBrace ∷ printed_stmts (stmt_trees items) (end_of_line sg.CloseBrace ∷ rest) ≡ printed_stmt
+    (stmt_tree s) rest
 printed-block s all items rest is same =
     sym (ap (λ (a : StmtTree). printed_stmt a rest)
-    (ap (form_tree s.place) is ∙ form_tree-block s.place all ∙ ap (λ (xs : List Stmt). block s.place (stmt_trees xs)) (sym same)))
+    (ap (form_tree s.place) is ∙ form_tree-block s.place all
+    ∙ ap (λ (xs : List Stmt). block s.place (stmt_trees xs)) (sym same)))
 
 -- a `for` of its parts
-form_tree-for : (at : Place) (i : Option (Box Stmt Global)) (c : Option Expr) (u : Option (Box Stmt Global)) (b : Box Stmt Global) →
+form_tree-for : (at : Place) (i : Option (Box Stmt Global)) (c : Option Expr) (u : Option (Box Stmt Global))
+    (b : Box Stmt Global) →
     form_tree at (For i c u b) ≡ for_ at (boxed_tree i) (optional_tree c) (boxed_tree u) (stmt_tree b.value)
 form_tree-for at None c None b = refl
 form_tree-for at None c (Some u) b = refl
@@ -49,9 +54,11 @@ form_tree-for at (Some i) c None b = refl
 form_tree-for at (Some i) c (Some u) b = refl
 
 -- how a `for` is printed
-pub printed-for : (s : Stmt) (i : Option (Box Stmt Global)) (c : Option Expr) (u : Option (Box Stmt Global)) (b : Box Stmt Global) (body : Stmt) (rest : List Piece) →
+pub printed-for : (s : Stmt) (i : Option (Box Stmt Global)) (c : Option Expr) (u : Option (Box Stmt Global))
+    (b : Box Stmt Global) (body : Stmt) (rest : List Piece) →
     s.form ≡ For i c u b → body ≡ b.value →
-    for_head (boxed_tree i) (optional_tree c) (boxed_tree u) (printed_stmt (stmt_tree body) rest) ≡ printed_stmt (stmt_tree s) rest
+    for_head (boxed_tree i) (optional_tree c) (boxed_tree u) (printed_stmt (stmt_tree body) rest) ≡ printed_stmt
+    (stmt_tree s) rest
 printed-for s i c u b body rest is same =
     sym (ap (λ (a : StmtTree). printed_stmt a rest)
     (ap (form_tree s.place) is ∙ form_tree-for s.place i c u b

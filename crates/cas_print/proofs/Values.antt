@@ -9,12 +9,15 @@ use Rattle.cas_print.specs.Pieces.{Piece, word, sign, plain_number}
 use Rattle.cas_print.specs.Items.{printed_integer, printed_names, printed_holds}
 
 -- an integer below 0
-pub below_zero : (z : ℤ) (n : ℕ) (rest : List Piece) → n ≡ unsigned_abs z → int_lt z (pos 0) ≡ true → sign sg.Minus ∷ plain_number n ∷ rest ≡ printed_integer z rest
+pub below_zero : (z : ℤ) (n : ℕ) (rest : List Piece) → n ≡ unsigned_abs z → int_lt z (pos 0) ≡ true →
+    sign sg.Minus ∷ plain_number n ∷ rest ≡ printed_integer z rest
 below_zero (pos m) n rest is h = absurd (grind (arith, nat_tests))
-below_zero (negsuc m) n rest is h = let e : n ≡ m + 1 = omega (arith, ints) in ap (λ (k : ℕ). sign sg.Minus ∷ plain_number k ∷ rest) e
+below_zero (negsuc m) n rest is h = let e : n ≡ m + 1 =
+    omega (arith, ints) in ap (λ (k : ℕ). sign sg.Minus ∷ plain_number k ∷ rest) e
 
 -- any other
-pub not_below_zero : (z : ℤ) (n : ℕ) (rest : List Piece) → n ≡ unsigned_abs z → int_lt z (pos 0) ≡ false → plain_number n ∷ rest ≡ printed_integer z rest
+pub not_below_zero : (z : ℤ) (n : ℕ) (rest : List Piece) → n ≡ unsigned_abs z → int_lt z (pos 0) ≡ false →
+    plain_number n ∷ rest ≡ printed_integer z rest
 not_below_zero (pos m) n rest is h = let e : n ≡ m = omega (arith, ints) in ap (λ (k : ℕ). plain_number k ∷ rest) e
 not_below_zero (negsuc m) n rest is h = absurd (grind (arith, nat_tests))
 

@@ -48,7 +48,8 @@ abbrev pub converted : Kind → (found : ℕ) → (List Piece → List Piece) �
 converted k found operand rest = sign sg.OpenParen ∷ kind_words k (sign sg.CloseParen ∷ at_level 12 found operand rest)
 
 -- an operator between two operands; the right one binds more tightly, since all these operators go to the left
-abbrev pub between : Infix → (found_left : ℕ) → (List Piece → List Piece) → (found_right : ℕ) → (List Piece → List Piece) → List Piece → List Piece
+abbrev pub between : Infix → (found_left : ℕ) → (List Piece → List Piece) → (found_right : ℕ) →
+    (List Piece → List Piece) → List Piece → List Piece
 between op found_left left found_right right rest =
     at_level (level op) found_left left (sign (infix_sign op) ∷ at_level (level op + 1) found_right right rest)
 
@@ -62,8 +63,10 @@ printed_expr (address x) rest = sign sg.And ∷ named x.name ∷ rest
 printed_expr (address_index x a) rest = sign sg.And ∷ named x.name ∷ in_brackets (printed_expr a) rest
 printed_expr (unary op a) rest = prefixed (unary_sign op) (outermost a) (printed_expr a) rest
 printed_expr (cast k a) rest = converted k (outermost a) (printed_expr a) rest
-printed_expr (binary op a b) rest = between (always_both op) (outermost a) (printed_expr a) (outermost b) (printed_expr b) rest
-printed_expr (and_also a b) rest = between logical_and (outermost a) (printed_expr a) (outermost b) (printed_expr b) rest
+printed_expr (binary op a b) rest = between (always_both op) (outermost a) (printed_expr a) (outermost b)
+    (printed_expr b) rest
+printed_expr (and_also a b) rest = between logical_and (outermost a) (printed_expr a) (outermost b) (printed_expr b)
+    rest
 printed_expr (or_else a b) rest = between logical_or (outermost a) (printed_expr a) (outermost b) (printed_expr b) rest
 printed_expr (conditional c a b) rest =
     at_level 2 (outermost c) (printed_expr c) (sign sg.Question ∷ printed_expr a (sign sg.Colon ∷ printed_expr b rest))

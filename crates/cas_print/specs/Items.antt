@@ -63,7 +63,8 @@ first_name (x ∷ xs) rest = named x.name ∷ rest
 -- parameters with their names, as far as there are names, each behind a comma
 abbrev pub more_parameters : List Ty → List Ident → List Piece → List Piece
 more_parameters [] xs rest = rest
-more_parameters (ty ∷ tys) xs rest = sign sg.Comma ∷ before_name ty (first_name xs (more_parameters tys (drop 1 xs) rest))
+more_parameters (ty ∷ tys) xs rest = sign sg.Comma ∷ before_name ty
+    (first_name xs (more_parameters tys (drop 1 xs) rest))
 
 -- parameters with their names, as far as there are names; none are `void`
 abbrev pub printed_parameters : List Ty → List Ident → List Piece → List Piece
@@ -86,7 +87,8 @@ printed_holds (x ∷ xs) rest = word w.Holds ∷ sign sg.OpenParen ∷ printed_n
 -- a function up to its body, with its parameters' names, as far as there are names
 abbrev pub printed_head : Form → (name : List ℕ) → List Ident → List Piece → List Piece
 printed_head (Function ret tys holds) name xs rest =
-    before_name ret (named name ∷ sign sg.OpenParen ∷ printed_parameters tys xs (sign sg.CloseParen ∷ printed_holds holds rest))
+    before_name ret (named name ∷ sign sg.OpenParen ∷ printed_parameters tys xs
+    (sign sg.CloseParen ∷ printed_holds holds rest))
 printed_head _ name xs rest = rest
 
 -- a function with its body

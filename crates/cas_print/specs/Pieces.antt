@@ -1,4 +1,5 @@
--- The tokens of canonical texts, and the text that they make: each is followed by a space, but the last of a line by a line
+-- The tokens of canonical texts, and the text that they make: each is followed by a space, but the last of a line by a
+-- line
 -- feed.
 use Rattle.std.specs.Prelude.{ℕ, false, List, [], ◌∷◌, ◌++◌, codes}
 use Rattle.std.specs.Fmt.{decimal}

@@ -104,7 +104,8 @@ word_alone which rest = word which ∷ end_of_line sg.Semicolon ∷ rest
 
 -- a statement of this word on a lock
 abbrev pub of_lock : Word → Ident → List Piece → List Piece
-of_lock which x rest = word which ∷ sign sg.OpenParen ∷ named x.name ∷ sign sg.CloseParen ∷ end_of_line sg.Semicolon ∷ rest
+of_lock which x rest = word which ∷ sign sg.OpenParen ∷ named x.name ∷ sign sg.CloseParen ∷ end_of_line sg.Semicolon ∷
+    rest
 
 abbrev mutual
   -- a statement

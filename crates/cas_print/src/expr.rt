@@ -98,7 +98,8 @@ fn left_operand(page: &mut Page, asked: u8, inner: &Expr, sign: Sign) -> Result<
     ensures { (rest : List Piece)
         → IfOk result (λ _. followed_by page.new rest
         ≡ followed_by page.old
-        (spec.at_level asked (spec.outermost (expr_tree inner.now)) (spec.printed_expr (expr_tree inner.now)) (pieces.sign sign ∷ rest))) }
+        (spec.at_level asked (spec.outermost (expr_tree inner.now)) (spec.printed_expr (expr_tree inner.now))
+        (pieces.sign sign ∷ rest))) }
 {
     operand(page, asked, inner)?;
     page.sign(sign)

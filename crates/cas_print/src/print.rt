@@ -17,8 +17,10 @@ pub fn print_module(alloc: Global, module: &Module) -> Result<String, NoMemory>
     ensures canonical { IfOk result (λ printed. string_bytes printed ≡ canonical (module_tree «module».now)) }
 
     // if some text is read as the module but for places, what is printed is read as the module but for places
-    ensures read_again { (text : List ℕ) (tree : ModuleTree) → IsReadAs text tree → IsAlike tree (module_tree «module».now)
-        → IfOk result (λ printed. (other : ModuleTree) × IsReadAs (string_bytes printed) other × IsAlike other (module_tree «module».now)) }
+    ensures read_again { (text : List ℕ) (tree : ModuleTree)
+        → IsReadAs text tree → IsAlike tree (module_tree «module».now)
+        → IfOk result (λ printed. (other : ModuleTree)
+        × IsReadAs (string_bytes printed) other × IsAlike other (module_tree «module».now)) }
 {
     let mut page = Page::new(alloc);
     items(&mut page, module.items.as_slice())?;

@@ -40,7 +40,8 @@ entry_form (Table t) is = absurd (cc is)
 entry_form (AFunction ret params holds) is =
     let first = both_true (same_ty ret Void && pointwise same_ty params (Int I32 ∷ [])) (length holds == 0) is in
     let second = both_true (same_ty ret Void) (pointwise same_ty params (Int I32 ∷ [])) first.0 in
-    λ i. AFunction (same_ty_is ret Void second.0 i) (same_tys_are params (Int I32 ∷ []) second.1 i) (no_holds holds first.1 i)
+    λ i. AFunction (same_ty_is ret Void second.0 i) (same_tys_are params (Int I32 ∷ []) second.1 i)
+    (no_holds holds first.1 i)
 
 -- the function at the place of a name
 abbrev at_place : Option (ℕ × ℕ) → Option FunctionAt
@@ -49,7 +50,8 @@ at_place o = option_map (λ (p : ℕ × ℕ). record { unit = p.0; place = p.1 }
 module _ (modules : List TypedModuleTree) (names : List (List ℕ)) (program : IsProgram modules names) where
   -- the name of a function that a thread may enter
   abbrev IsEntryName : List ℕ → Type 0
-  IsEntryName name = IsSomeAnd (definition_of (meant.defined modules names program) name) (λ (d : Decl). IsTrue (is_entry d.form))
+  IsEntryName name = IsSomeAnd (definition_of (meant.defined modules names program) name)
+      (λ (d : Decl). IsTrue (is_entry d.form))
 
   -- the function that an entry is
   pub record IsEntry (name : List ℕ) (f : FunctionAt) : Type 0 where
@@ -58,24 +60,31 @@ module _ (modules : List TypedModuleTree) (names : List (List ℕ)) (program : I
     pub form : definition.form ≡ AFunction Void (Int I32 ∷ []) []
     pub is : found.f ≡ f
 
-  entry_by : (name : List ℕ) (o : Option Decl) → definition_of (meant.defined modules names program) name ≡ o → IsSomeAnd o (λ (d : Decl). IsTrue (is_entry d.form)) → (f : FunctionAt) × IsEntry name f
+  entry_by : (name : List ℕ) (o : Option Decl) → definition_of (meant.defined modules names program) name ≡ o →
+      IsSomeAnd o (λ (d : Decl). IsTrue (is_entry d.form)) → (f : FunctionAt) × IsEntry name f
   entry_by name None is h = absurd h
   entry_by name (Some d) is h =
       let form = entry_form d.form h in
       let found = found_at modules names program name d is (ap is_function form) in
       (found.f, record { definition = d; found = found; form = form; is = refl })
 
-  entry_place : (name : List ℕ) (f : FunctionAt) → IsEntry name f → place_named (units_of modules) name ≡ Some (f.unit, f.place)
+  entry_place : (name : List ℕ) (f : FunctionAt) → IsEntry name f →
+      place_named (units_of modules) name ≡ Some (f.unit, f.place)
   entry_place name f entry = entry.found.place ∙ ap (λ (g : FunctionAt). Some (g.unit, g.place)) entry.is
 
-  entries_with : (name : List ℕ) (rest : List (List ℕ)) (f : FunctionAt) → IsEntry name f → entries_of modules (name ∷ rest) ≡ f ∷ entries_of modules rest
-  entries_with name rest f entry = ap (λ o. cons_option (at_place o) (entries_of modules rest)) (entry_place name f entry)
+  entries_with : (name : List ℕ) (rest : List (List ℕ)) (f : FunctionAt) → IsEntry name f →
+      entries_of modules (name ∷ rest) ≡ f ∷ entries_of modules rest
+  entries_with name rest f entry = ap (λ o. cons_option (at_place o) (entries_of modules rest))
+      (entry_place name f entry)
 
   -- in the order of the names
 
-  first_each : (name : List ℕ) (rest : List (List ℕ)) (f : FunctionAt) → IsEntry name f → AreInOrder modules rest → (thread : ℕ) (n : List ℕ) → slice_get (name ∷ rest) thread ≡ Some n →
-      (g : FunctionAt) × (place_named (units_of modules) n ≡ Some (g.unit, g.place)) × (slice_get (f ∷ entries_of modules rest) thread ≡ Some g)
-  first_each name rest f entry ordered zero n is = let same : name ≡ n = cc is in (f, ap (place_named (units_of modules)) (sym same) ∙ entry_place name f entry, refl)
+  first_each : (name : List ℕ) (rest : List (List ℕ)) (f : FunctionAt) → IsEntry name f → AreInOrder modules rest →
+      (thread : ℕ) (n : List ℕ) → slice_get (name ∷ rest) thread ≡ Some n →
+      (g : FunctionAt) × (place_named (units_of modules) n ≡ Some (g.unit, g.place))
+      × (slice_get (f ∷ entries_of modules rest) thread ≡ Some g)
+  first_each name rest f entry ordered zero n is = let same : name ≡ n =
+      cc is in (f, ap (place_named (units_of modules)) (sym same) ∙ entry_place name f entry, refl)
   first_each name rest f entry ordered (suc thread) n is = ordered.each thread n is
 
   in_order : (xs : List (List ℕ)) → AllByRecursion IsEntryName xs → AreInOrder modules xs
@@ -86,21 +95,26 @@ module _ (modules : List TypedModuleTree) (names : List (List ℕ)) (program : I
       let entries = entries_with name rest f entry in
       record {
         count = ap length entries ∙ ap suc ordered.count;
-        each = λ thread n is. subst (λ fs. (g : FunctionAt) × (place_named (units_of modules) n ≡ Some (g.unit, g.place)) × (slice_get fs thread ≡ Some g)) (sym entries) (first_each name rest f entry ordered thread n is);
+        each = λ thread n is. subst (λ fs. (g : FunctionAt)
+            × (place_named (units_of modules) n ≡ Some (g.unit, g.place)) × (slice_get fs thread ≡ Some g))
+            (sym entries) (first_each name rest f entry ordered thread n is);
       }
 
   -- each is an entry
 
-  entry_first : (name : List ℕ) (rest : List (List ℕ)) (f g : FunctionAt) → IsEntry name f → ((thread : ℕ) → slice_get (entries_of modules rest) thread ≡ Some g → (n : List ℕ) × IsEntry n g) →
+  entry_first : (name : List ℕ) (rest : List (List ℕ)) (f g : FunctionAt) → IsEntry name f →
+      ((thread : ℕ) → slice_get (entries_of modules rest) thread ≡ Some g → (n : List ℕ) × IsEntry n g) →
       (thread : ℕ) → slice_get (f ∷ entries_of modules rest) thread ≡ Some g → (n : List ℕ) × IsEntry n g
   entry_first name rest f g entry later zero is = let same : f ≡ g = cc is in (name, subst (IsEntry name) same entry)
   entry_first name rest f g entry later (suc thread) is = later thread is
 
-  entry_of : (xs : List (List ℕ)) → AllByRecursion IsEntryName xs → (g : FunctionAt) (thread : ℕ) → slice_get (entries_of modules xs) thread ≡ Some g → (n : List ℕ) × IsEntry n g
+  entry_of : (xs : List (List ℕ)) → AllByRecursion IsEntryName xs → (g : FunctionAt) (thread : ℕ) →
+      slice_get (entries_of modules xs) thread ≡ Some g → (n : List ℕ) × IsEntry n g
   entry_of [] all g thread is = absurd (cc is)
   entry_of (name ∷ rest) all g thread is =
       let (f, entry) = entry_by name (definition_of (meant.defined modules names program) name) refl all.0 in
-      entry_first name rest f g entry (entry_of rest all.1 g) thread (ap (λ fs. slice_get fs thread) (sym (entries_with name rest f entry)) ∙ is)
+      entry_first name rest f g entry (entry_of rest all.1 g) thread
+      (ap (λ fs. slice_get fs thread) (sym (entries_with name rest f entry)) ∙ is)
 
   all_entries : AllByRecursion IsEntryName names
   all_entries = recursion_from_All IsEntryName names program.settled.entered
@@ -109,7 +123,8 @@ module _ (modules : List TypedModuleTree) (names : List (List ℕ)) (program : I
   ordered_entries = in_order names all_entries
 
   abbrev TakesNumber : FunctionAt → Type 0
-  TakesNumber f = (unit : TypedModuleTree) × (it : TypedFunTree) × IsAt modules f unit it × HasSignature ((env_of modules).function f) Void (Int I32 ∷ [])
+  TakesNumber f = (unit : TypedModuleTree) × (it : TypedFunTree) × IsAt modules f unit it
+      × HasSignature ((env_of modules).function f) Void (Int I32 ∷ [])
 
   takes_number : (name : List ℕ) (f : FunctionAt) → IsEntry name f → TakesNumber f
   takes_number name f entry =
@@ -117,7 +132,8 @@ module _ (modules : List TypedModuleTree) (names : List (List ℕ)) (program : I
         entry.found.unit,
         entry.found.defined_there.it,
         found_is_at modules names program name entry.definition entry.found,
-        subst (λ form. HasSignature ((env_of modules).function entry.found.f) (return_type form) (parameter_types form)) entry.form (found_signature modules names program name entry.definition entry.found),
+        subst (λ form. HasSignature ((env_of modules).function entry.found.f) (return_type form) (parameter_types form))
+            entry.form (found_signature modules names program name entry.definition entry.found),
       )
 
   pub entered : length names ≤ 2 ^ 32 → AreEntries modules (env_of modules) (entries_of modules names)
@@ -127,7 +143,8 @@ module _ (modules : List TypedModuleTree) (names : List (List ℕ)) (program : I
   }
 
   abbrev HoldsNone : FunctionAt → Type 0
-  HoldsNone f = (unit : TypedModuleTree) × (it : TypedFunTree) × IsAt modules f unit it × (holds_of (decls_of unit) it.item ≡ [])
+  HoldsNone f = (unit : TypedModuleTree) × (it : TypedFunTree) × IsAt modules f unit it
+      × (holds_of (decls_of unit) it.item ≡ [])
 
   holds_none : (name : List ℕ) (f : FunctionAt) → IsEntry name f → HoldsNone f
   holds_none name f entry =
@@ -137,7 +154,9 @@ module _ (modules : List TypedModuleTree) (names : List (List ℕ)) (program : I
         entry.found.unit,
         there.it,
         found_is_at modules names program name entry.definition entry.found,
-        ap (of_declared (holds_of_form decls) []) (slice_get-map decl_of entry.found.unit.module_tree.items there.it.item ∙ ap (option_map decl_of) there.is_of.item)
+        ap (of_declared (holds_of_form decls) [])
+            (slice_get-map decl_of entry.found.unit.module_tree.items there.it.item
+            ∙ ap (option_map decl_of) there.is_of.item)
             ∙ ap (λ (d : Decl). holds_of_form decls d.form) there.decl ∙ ap (holds_of_form decls) entry.form,
       )
 

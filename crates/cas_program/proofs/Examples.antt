@@ -39,12 +39,25 @@ help defined = declared (codes "help") (AFunction Void [] (codes "L" ∷ [])) de
 -- lock L; shared(L) int g = 5; const unsigned char t[2] = {1, 2}; void help(void) holds(L) { }
 abbrev first_items : List ItemTree
 first_items =
-    global (declared (codes "L") Lock true) [] (at 6) ∷ global (declared (codes "g") (Shared (Int I32) (codes "L")) true) (5 ∷ []) (at 23)
+    global (declared (codes "L") Lock true) [] (at 6) ∷ global
+    (declared (codes "g") (Shared (Int I32) (codes "L")) true) (5 ∷ []) (at 23)
     ∷ global (declared (codes "t") (Table (Array U8 2)) true) (1 ∷ 2 ∷ []) (at 50)
-    ∷ define (record { decl = help true; params = []; held = at 91 ∷ []; body = no_more; place = at 73; closing = at 97 }) ∷ []
+    ∷ define (record {
+      decl = help true;
+      params = [];
+      held = at 91 ∷ [];
+      body = no_more;
+      place = at 73;
+      closing =
+          at 97;
+    }) ∷ []
 
 abbrev first : TypedModuleTree
-first = record { module_tree = record { items = first_items }; functions = record { item = 3; locals = []; body = t.no_more } ∷ [] }
+first = record {
+  module_tree = record { items = first_items };
+  functions =
+      record { item = 3; locals = []; body = t.no_more } ∷ [];
+}
 
 -- extern lock L; lock M; extern shared(L) int g; void help(void) holds(L); void w(int me) { lock(L); help();
 -- unlock(L); }
@@ -57,7 +70,9 @@ second_items =
       decl = declared (codes "w") (AFunction Void (Int I32 ∷ []) []) true;
       params = named (codes "me") 86 ∷ [];
       held = [];
-      body = one_more (tree.lock (at 92) (named (codes "L") 97)) (one_more (tree.call (at 101) None (named (codes "help") 101) []) (one_more (tree.unlock (at 109) (named (codes "L") 116)) no_more));
+      body = one_more (tree.lock (at 92) (named (codes "L") 97))
+          (one_more (tree.call (at 101) None (named (codes "help") 101) [])
+          (one_more (tree.unlock (at 109) (named (codes "L") 116)) no_more));
       place = at 80;
       closing = at 120;
     })
@@ -69,7 +84,8 @@ second = record {
   functions = record {
     item = 4;
     locals = record { ty = Int I32; first = 0; addressed = false } ∷ [];
-    body = t.one_more (t.lock (at 92) 0) (t.one_more (t.call (at 101) None 3 (at 101) []) (t.one_more (t.unlock (at 109) 0) t.no_more));
+    body = t.one_more (t.lock (at 92) 0) (t.one_more (t.call (at 101) None 3 (at 101) [])
+        (t.one_more (t.unlock (at 109) 0) t.no_more));
   } ∷ [];
 }
 
@@ -119,13 +135,16 @@ entities n items = map ((env_of modules).entity n) items
 
 -- what the items stand for: L, g, t and help, and behind them none; L, M, g, help and w; and no third module
 entity_rows :
-    (entities 0 (0 ∷ 1 ∷ 2 ∷ 3 ∷ 4 ∷ []) ≡ Some (lock 0) ∷ Some (shared 1 1 (Some 0)) ∷ Some (table 2 2) ∷ Some (function (record { unit = 0; place = 0 })) ∷ None ∷ [])
-    × (entities 1 (0 ∷ 1 ∷ 2 ∷ 3 ∷ 4 ∷ []) ≡ Some (lock 0) ∷ Some (lock 4) ∷ Some (shared 1 1 (Some 0)) ∷ Some (function (record { unit = 0; place = 0 })) ∷ Some (function (record { unit = 1; place = 0 })) ∷ [])
+    (entities 0 (0 ∷ 1 ∷ 2 ∷ 3 ∷ 4 ∷ []) ≡ Some (lock 0) ∷ Some (shared 1 1 (Some 0)) ∷ Some (table 2 2) ∷ Some
+    (function (record { unit = 0; place = 0 })) ∷ None ∷ [])
+    × (entities 1 (0 ∷ 1 ∷ 2 ∷ 3 ∷ 4 ∷ []) ≡ Some (lock 0) ∷ Some (lock 4) ∷ Some (shared 1 1 (Some 0)) ∷ Some
+    (function (record { unit = 0; place = 0 })) ∷ Some (function (record { unit = 1; place = 0 })) ∷ [])
     × (entities 2 (0 ∷ []) ≡ None ∷ [])
 entity_rows = (refl, refl, refl)
 
 -- the kinds of the words L, g, both of t, and M, and what they are at first
-word_rows : ((env_of modules).kinds ≡ None ∷ Some I32 ∷ Some U8 ∷ Some U8 ∷ None ∷ []) × (initial_words modules ≡ 1 ∷ 5 ∷ 1 ∷ 2 ∷ 1 ∷ [])
+word_rows : ((env_of modules).kinds ≡ None ∷ Some I32 ∷ Some U8 ∷ Some U8 ∷ None ∷ [])
+    × (initial_words modules ≡ 1 ∷ 5 ∷ 1 ∷ 2 ∷ 1 ∷ [])
 word_rows = (refl, refl)
 
 -- the thread begins in w, whose parameter is its only local

@@ -60,13 +60,15 @@ begin_apart first (x ∷ ds) d e w v n (inl h) (inr k) from to over under =
 begin_apart first (x ∷ ds) d e w v n (inr h) (inl k) from to over under =
     let size : words_of_form x.form ≡ words_of_form e.form = ap (λ (y : Decl). words_of_form y.form) k.0 in
     absurd (omega (arith, begins_behind (first + words_of_form x.form) ds d w h, size, k.1, from, under))
-begin_apart first (x ∷ ds) d e w v n (inr h) (inr k) from to over under = begin_apart (first + words_of_form x.form) ds d e w v n h k from to over under
+begin_apart first (x ∷ ds) d e w v n (inr h) (inr k) from to over under =
+    begin_apart (first + words_of_form x.form) ds d e w v n h k from to over under
 
 -- the part of a place that lies behind
 split : (m n : ℕ) → m ≤ n → (k : ℕ) × (n ≡ k + m)
 split m n less = (n - m, omega (arith, less))
 
-kinds_later : (x : Decl) (ds : List Decl) (o : Option (Option Kind)) (at : ℕ) → length (kinds_of_form x.form) ≤ at → ((k : ℕ) → at ≡ k + length (kinds_of_form x.form) → slice_get (kinds_in ds) k ≡ o) →
+kinds_later : (x : Decl) (ds : List Decl) (o : Option (Option Kind)) (at : ℕ) → length (kinds_of_form x.form) ≤ at →
+    ((k : ℕ) → at ≡ k + length (kinds_of_form x.form) → slice_get (kinds_in ds) k ≡ o) →
     slice_get (kinds_in (x ∷ ds)) at ≡ o
 kinds_later x ds o at less rest =
     let (k, same) = split (length (kinds_of_form x.form)) at less in
@@ -82,25 +84,31 @@ kinds_there first (x ∷ ds) d w i (inl h) less at e =
     ∙ get_front (kinds_of_form x.form) (kinds_in ds) i (omega (arith, less, size, kinds_length x.form))
     ∙ ap (λ (y : Decl). slice_get (kinds_of_form y.form) i) h.0
 kinds_there first (x ∷ ds) d w i (inr h) less at e =
-    kinds_later x ds (slice_get (kinds_of_form d.form) i) at (omega (arith, begins_behind (first + words_of_form x.form) ds d w h, e, kinds_length x.form))
-    (λ k same. kinds_there (first + words_of_form x.form) ds d w i h less k (omega (arith, same, e, kinds_length x.form)))
+    kinds_later x ds (slice_get (kinds_of_form d.form) i) at
+    (omega (arith, begins_behind (first + words_of_form x.form) ds d w h, e, kinds_length x.form))
+    (λ k same. kinds_there (first + words_of_form x.form) ds d w i h less k
+    (omega (arith, same, e, kinds_length x.form)))
 
 -- the kinds of a definition's words stand at its words
-pub kinds_at : (ds : List Decl) (d : Decl) (w i : ℕ) → Begins 0 ds d w → i < words_of_form d.form → slice_get (kinds_in ds) (w + i) ≡ slice_get (kinds_of_form d.form) i
+pub kinds_at : (ds : List Decl) (d : Decl) (w i : ℕ) → Begins 0 ds d w → i < words_of_form d.form →
+    slice_get (kinds_in ds) (w + i) ≡ slice_get (kinds_of_form d.form) i
 kinds_at ds d w i h less = kinds_there 0 ds d w i h less (w + i) (omega arith)
 
 -- a lock's word is that of a lock
 lock_by : (first w : ℕ) (d : Decl) (ds : List Decl) (name : List ℕ) (lock named : Bool) → is_lock d.form ≡ lock →
     cond (lock && named) (Some first) (lock_word (first + words_of_form d.form) ds name) ≡ Some w →
-    (lock_word (first + words_of_form d.form) ds name ≡ Some w → (e : Decl) × Begins (first + words_of_form d.form) ds e w × (is_lock e.form ≡ true)) →
+    (lock_word (first + words_of_form d.form) ds name ≡ Some w → (e : Decl)
+    × Begins (first + words_of_form d.form) ds e w × (is_lock e.form ≡ true)) →
     (e : Decl) × Begins first (d ∷ ds) e w × (is_lock e.form ≡ true)
 lock_by first w d ds name true true is at rest = let same : first ≡ w = cc at in (d, inl (refl, same), is)
 lock_by first w d ds name true false is at rest = let (e, begins, lock) = rest at in (e, inr begins, lock)
 lock_by first w d ds name false named is at rest = let (e, begins, lock) = rest at in (e, inr begins, lock)
 
-pub lock_begins : (first : ℕ) (ds : List Decl) (name : List ℕ) (w : ℕ) → lock_word first ds name ≡ Some w → (d : Decl) × Begins first ds d w × (is_lock d.form ≡ true)
+pub lock_begins : (first : ℕ) (ds : List Decl) (name : List ℕ) (w : ℕ) → lock_word first ds name ≡ Some w → (d : Decl)
+    × Begins first ds d w × (is_lock d.form ≡ true)
 lock_begins first [] name w at = absurd (cc at)
-lock_begins first (d ∷ ds) name w at = lock_by first w d ds name (is_lock d.form) (is_named name d) refl at (lock_begins (first + words_of_form d.form) ds name w)
+lock_begins first (d ∷ ds) name w at = lock_by first w d ds name (is_lock d.form) (is_named name d) refl at
+    (lock_begins (first + words_of_form d.form) ds name w)
 
 module _ (word_of : List ℕ → Option ℕ) where
   -- the definition of this name has a cell at its word, and the word is the lock's where it is a lock
@@ -110,21 +118,29 @@ module _ (word_of : List ℕ → Option ℕ) where
     pub cell : find (has_name name) (cells_from word_of first ds) ≡ cell_of word_of word d.name d.form
     pub locked : is_lock d.form ≡ true → lock_word first ds name ≡ Some word
 
-  first_cell : (first : ℕ) (name own : List ℕ) (form : Form) (rest : List CellRow) → is_function form ≡ false → bytes_eq name own ≡ true →
+  first_cell : (first : ℕ) (name own : List ℕ) (form : Form) (rest : List CellRow) → is_function form ≡ false →
+      bytes_eq name own ≡ true →
       find (has_name name) (cons_option (cell_of word_of first own form) rest) ≡ cell_of word_of first own form
-  first_cell first name own Lock rest has same = ap (λ b. cond b (cell_of word_of first own Lock) (find (has_name name) rest)) same
-  first_cell first name own (Shared ty l) rest has same = ap (λ b. cond b (cell_of word_of first own (Shared ty l)) (find (has_name name) rest)) same
-  first_cell first name own (Table ty) rest has same = ap (λ b. cond b (cell_of word_of first own (Table ty)) (find (has_name name) rest)) same
+  first_cell first name own Lock rest has same =
+      ap (λ b. cond b (cell_of word_of first own Lock) (find (has_name name) rest)) same
+  first_cell first name own (Shared ty l) rest has same =
+      ap (λ b. cond b (cell_of word_of first own (Shared ty l)) (find (has_name name) rest)) same
+  first_cell first name own (Table ty) rest has same =
+      ap (λ b. cond b (cell_of word_of first own (Table ty)) (find (has_name name) rest)) same
   first_cell first name own (Function ret params holds) rest is same = absurd (cc is)
 
   later_cell : (first : ℕ) (name own : List ℕ) (form : Form) (rest : List CellRow) → bytes_eq name own ≡ false →
       find (has_name name) (cons_option (cell_of word_of first own form) rest) ≡ find (has_name name) rest
-  later_cell first name own Lock rest same = ap (λ b. cond b (cell_of word_of first own Lock) (find (has_name name) rest)) same
-  later_cell first name own (Shared ty l) rest same = ap (λ b. cond b (cell_of word_of first own (Shared ty l)) (find (has_name name) rest)) same
-  later_cell first name own (Table ty) rest same = ap (λ b. cond b (cell_of word_of first own (Table ty)) (find (has_name name) rest)) same
+  later_cell first name own Lock rest same =
+      ap (λ b. cond b (cell_of word_of first own Lock) (find (has_name name) rest)) same
+  later_cell first name own (Shared ty l) rest same = ap
+      (λ b. cond b (cell_of word_of first own (Shared ty l)) (find (has_name name) rest)) same
+  later_cell first name own (Table ty) rest same =
+      ap (λ b. cond b (cell_of word_of first own (Table ty)) (find (has_name name) rest)) same
   later_cell first name own (Function ret params holds) rest same = refl
 
-  laid_first : (first : ℕ) (d : Decl) (ds : List Decl) (name : List ℕ) → bytes_eq name d.name ≡ true → is_function d.form ≡ false → IsLaid first (d ∷ ds) name d
+  laid_first : (first : ℕ) (d : Decl) (ds : List Decl) (name : List ℕ) → bytes_eq name d.name ≡ true →
+      is_function d.form ≡ false → IsLaid first (d ∷ ds) name d
   laid_first first d ds name same is_data = record {
     word = first;
     begins = inl (refl, refl);
@@ -136,21 +152,28 @@ module _ (word_of : List ℕ → Option ℕ) where
   not_named true named o p is = ap (λ b. cond b o p) is
   not_named false named o p is = refl
 
-  laid_later : (first : ℕ) (y : Decl) (ds : List Decl) (name : List ℕ) (d : Decl) → bytes_eq name y.name ≡ false → IsLaid (first + words_of_form y.form) ds name d → IsLaid first (y ∷ ds) name d
+  laid_later : (first : ℕ) (y : Decl) (ds : List Decl) (name : List ℕ) (d : Decl) → bytes_eq name y.name ≡ false →
+      IsLaid (first + words_of_form y.form) ds name d → IsLaid first (y ∷ ds) name d
   laid_later first y ds name d differs laid = record {
     word = laid.word;
     begins = inr laid.begins;
-    cell = later_cell first name y.name y.form (cells_from word_of (first + words_of_form y.form) ds) differs ∙ laid.cell;
-    locked = λ is. not_named (is_lock y.form) (bytes_eq name y.name) (Some first) (lock_word (first + words_of_form y.form) ds name) differs ∙ laid.locked is;
+    cell = later_cell first name y.name y.form (cells_from word_of (first + words_of_form y.form) ds) differs
+        ∙ laid.cell;
+    locked = λ is. not_named (is_lock y.form) (bytes_eq name y.name) (Some first)
+        (lock_word (first + words_of_form y.form) ds name) differs ∙ laid.locked is;
   }
 
-  laid_by : (first : ℕ) (y : Decl) (ds : List Decl) (name : List ℕ) (d : Decl) (b : Bool) → bytes_eq name y.name ≡ b → cond b (Some y) (definition_of ds name) ≡ Some d → is_function d.form ≡ false →
+  laid_by : (first : ℕ) (y : Decl) (ds : List Decl) (name : List ℕ) (d : Decl) (b : Bool) → bytes_eq name y.name ≡ b →
+      cond b (Some y) (definition_of ds name) ≡ Some d → is_function d.form ≡ false →
       (definition_of ds name ≡ Some d → IsLaid (first + words_of_form y.form) ds name d) → IsLaid first (y ∷ ds) name d
   laid_by first y ds name d true is found is_data rest =
-      let same : y ≡ d = cc found in subst (IsLaid first (y ∷ ds) name) same (laid_first first y ds name is (subst (λ x. is_function x.form ≡ false) (sym same) is_data))
+      let same : y ≡ d = cc found in subst (IsLaid first (y ∷ ds) name) same
+      (laid_first first y ds name is (subst (λ x. is_function x.form ≡ false) (sym same) is_data))
   laid_by first y ds name d false is found is_data rest = laid_later first y ds name d is (rest found)
 
-  pub laid_out : (first : ℕ) (ds : List Decl) (name : List ℕ) (d : Decl) → definition_of ds name ≡ Some d → is_function d.form ≡ false → IsLaid first ds name d
+  pub laid_out : (first : ℕ) (ds : List Decl) (name : List ℕ) (d : Decl) → definition_of ds name ≡ Some d →
+      is_function d.form ≡ false → IsLaid first ds name d
   laid_out first [] name d found is_data = absurd (cc found)
   laid_out first (y ∷ ds) name d found is_data =
-      laid_by first y ds name d (bytes_eq name y.name) refl found is_data (λ f. laid_out (first + words_of_form y.form) ds name d f is_data)
+      laid_by first y ds name d (bytes_eq name y.name) refl found is_data
+      (λ f. laid_out (first + words_of_form y.form) ds name d f is_data)

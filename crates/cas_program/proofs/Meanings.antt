@@ -26,7 +26,8 @@ use Rattle.cas_program.proofs.Placed.{placed_at}
 pub all_at : {X : Type 0} (P : X → Type 0) (xs : List X) (k : ℕ) (x : X) → slice_get xs k ≡ Some x → All P xs → P x
 all_at P xs k x is all = subst P (get_or_from_slice_get xs k x x is) (all k x (slice_get_within xs k x is))
 
-pub unmapped : {X Y : Type 0} (f : X → Y) (xs : List X) (n : ℕ) (y : Y) → slice_get (map f xs) n ≡ Some y → (x : X) × (slice_get xs n ≡ Some x) × (f x ≡ y)
+pub unmapped : {X Y : Type 0} (f : X → Y) (xs : List X) (n : ℕ) (y : Y) → slice_get (map f xs) n ≡ Some y → (x : X)
+    × (slice_get xs n ≡ Some x) × (f x ≡ y)
 unmapped f [] n y is = absurd (cc is)
 unmapped f (x ∷ xs) zero y is = let same : f x ≡ y = cc is in (x, refl, same)
 unmapped f (x ∷ xs) (suc n) y is = unmapped f xs n y is
@@ -34,14 +35,16 @@ unmapped f (x ∷ xs) (suc n) y is = unmapped f xs n y is
 -- names
 
 -- a global or a lock stands for the cell of its name
-pub data_named : (units : List (List Decl)) (name : List ℕ) (form : Form) → is_function form ≡ false → stands_for units name form ≡ option_map entity_of_cell (cell_named units name)
+pub data_named : (units : List (List Decl)) (name : List ℕ) (form : Form) → is_function form ≡ false →
+    stands_for units name form ≡ option_map entity_of_cell (cell_named units name)
 data_named units name Lock is = refl
 data_named units name (Shared ty guard) is = refl
 data_named units name (Table ty) is = refl
 data_named units name (AFunction ret params holds) is = absurd (cc is)
 
 -- declarations that are alike stand for the same where they have one name
-pub stands_alike : (units : List (List Decl)) (name : List ℕ) (f g : Form) → AreAlike f g → stands_for units name f ≡ stands_for units name g
+pub stands_alike : (units : List (List Decl)) (name : List ℕ) (f g : Form) → AreAlike f g →
+    stands_for units name f ≡ stands_for units name g
 stands_alike units name _ _ AreAlike.locks = refl
 stands_alike units name _ _ (AreAlike.shared_ones t l) = refl
 stands_alike units name _ _ (AreAlike.tables t) = refl
@@ -65,25 +68,33 @@ module _ (modules : List TypedModuleTree) (names : List (List ℕ)) (program : I
   declared_is n g d (decls, at, is) = ap (item_entity units g) at ∙ ap (declared_entity units) is
 
   -- what stands for something is declared
-  pub is_declared : (n g : ℕ) (it : Entity) → env.entity n g ≡ Some it → (d : Decl) × Declares modules n g d × (stands_for units d.name d.form ≡ Some it)
+  pub is_declared : (n g : ℕ) (it : Entity) → env.entity n g ≡ Some it → (d : Decl) × Declares modules n g d
+      × (stands_for units d.name d.form ≡ Some it)
   is_declared n g it is = by (slice_get units n) refl is
     where
-      within : (decls : List Decl) → slice_get units n ≡ Some decls → (o : Option Decl) → slice_get decls g ≡ o → declared_entity units o ≡ Some it → (d : Decl) × Declares modules n g d × (stands_for units d.name d.form ≡ Some it)
+      within : (decls : List Decl) → slice_get units n ≡ Some decls → (o : Option Decl) → slice_get decls g ≡ o →
+          declared_entity units o ≡ Some it → (d : Decl) × Declares modules n g d
+          × (stands_for units d.name d.form ≡ Some it)
       within decls at None here is = absurd (cc is)
       within decls at (Some d) here is = (d, (decls, at, here), is)
 
-      by : (o : Option (List Decl)) → slice_get units n ≡ o → item_entity units g o ≡ Some it → (d : Decl) × Declares modules n g d × (stands_for units d.name d.form ≡ Some it)
+      by : (o : Option (List Decl)) → slice_get units n ≡ o → item_entity units g o ≡ Some it → (d : Decl)
+          × Declares modules n g d × (stands_for units d.name d.form ≡ Some it)
       by None at is = absurd (cc is)
       by (Some decls) at is = within decls at (slice_get decls g) refl is
 
   pub definition_is : (n g : ℕ) (d : Decl) → Declares modules n g d → HasDefinition units d
-  definition_is n g d (decls, at, is) = settled_defined units names d program.settled (among_all units n g decls d at is)
+  definition_is n g d (decls, at, is) = settled_defined units names d program.settled
+      (among_all units n g decls d at is)
 
   -- a global or a lock stands for the cell of its definition
-  pub cell_is : (d : Decl) (of : HasDefinition units d) → is_function d.form ≡ false → (laid : IsLaid word_of 0 defined d.name of.definition)
-      × (stands_for units d.name d.form ≡ option_map entity_of_cell (cell_of word_of laid.word of.definition.name of.definition.form))
+  pub cell_is : (d : Decl) (of : HasDefinition units d) → is_function d.form ≡ false →
+      (laid : IsLaid word_of 0 defined d.name of.definition)
+      × (stands_for units d.name d.form ≡ option_map entity_of_cell
+      (cell_of word_of laid.word of.definition.name of.definition.form))
   cell_is d of is =
-      let laid = laid_out word_of 0 defined d.name of.definition of.found (alike_functions of.definition.form d.form of.alike ∙ is) in
+      let laid = laid_out word_of 0 defined d.name of.definition of.found
+      (alike_functions of.definition.form d.form of.alike ∙ is) in
       (laid, data_named units d.name d.form is ∙ ap (option_map entity_of_cell) laid.cell)
 
   -- a module of the program
@@ -101,7 +112,8 @@ module _ (modules : List TypedModuleTree) (names : List (List ℕ)) (program : I
     pub unit_is : slice_get modules f.unit ≡ Some unit
     pub defined_there : IsDefined unit f.place d
 
-  pub found_at : (name : List ℕ) (d : Decl) → definition_of defined name ≡ Some d → is_function d.form ≡ true → IsFound name d
+  pub found_at : (name : List ℕ) (d : Decl) → definition_of defined name ≡ Some d → is_function d.form ≡ true →
+      IsFound name d
   found_at name d found is =
       let placed = placed_at 0 units name d found is in
       let (unit, unit_is, declares) = unmapped decls_of modules placed.behind placed.decls placed.unit_is in
@@ -110,10 +122,12 @@ module _ (modules : List TypedModuleTree) (names : List (List ℕ)) (program : I
         place = placed.placed ∙ ap (λ u. Some (u, placed.place)) (omega arith);
         unit = unit;
         unit_is = unit_is;
-        defined_there = IsTyped-defined unit.module_tree unit placed.place d (module_formed placed.behind unit unit_is) (module_typed placed.behind unit unit_is)
+        defined_there = IsTyped-defined unit.module_tree unit placed.place d (module_formed placed.behind unit unit_is)
+            (module_typed placed.behind unit unit_is)
             (ap (λ ds. slice_get (functions_of ds) placed.place) declares ∙ placed.function_is);
       }
 
   -- where it is
-  pub found_is_at : (name : List ℕ) (d : Decl) (found : IsFound name d) → IsAt modules found.f found.unit found.defined_there.it
+  pub found_is_at : (name : List ℕ) (d : Decl) (found : IsFound name d) →
+      IsAt modules found.f found.unit found.defined_there.it
   found_is_at name d found = record { unit_is = found.unit_is; function_is = found.defined_there.function }

@@ -30,15 +30,18 @@ all_have_names [] = refl
 all_have_names (x ∷ xs) = rw (all_have_names xs)
 
 -- where one has none
-pub one_has_none : (xs : List (Option Ident)) (n : ℕ) (x : Option Ident) → x ≡ None → n < length xs → x ≡ get_or xs n x → all_named xs ≡ None
+pub one_has_none : (xs : List (Option Ident)) (n : ℕ) (x : Option Ident) → x ≡ None → n < length xs →
+    x ≡ get_or xs n x → all_named xs ≡ None
 one_has_none [] n p q h e = absurd (omega (arith, h))
 one_has_none (None ∷ xs) n p q h e = refl
 one_has_none (Some x ∷ xs) zero p q h e = let clash : Some x ≡ None = sym e ∙ q in cc
-one_has_none (Some x ∷ xs) (suc n) p q h e = let none : all_named xs ≡ None = one_has_none xs n p q (omega (arith, h)) e in rw none
+one_has_none (Some x ∷ xs) (suc n) p q h e = let none : all_named xs ≡ None =
+    one_has_none xs n p q (omega (arith, h)) e in rw none
 
 -- states that differ in what they keep alone
 
-pub behind_extern : (ts : List Token) (items : List ItemTree) → verdict ts (AfterExtern items) [] ≡ begins_item ts false items
+pub behind_extern : (ts : List Token) (items : List ItemTree) →
+    verdict ts (AfterExtern items) [] ≡ begins_item ts false items
 behind_extern [] items = refl
 behind_extern (t ∷ ts) items = refl
 
@@ -47,7 +50,9 @@ pub wants_parameter : (ts : List Token) (o : Opening) (tys : List Ty) (xs : List
 wants_parameter [] o tys xs items = refl
 wants_parameter (t ∷ ts) o tys xs items = refl
 
-pub named_parameter : (ts : List Token) (o : Opening) (tys : List Ty) (xs : List (Option Ident)) (ty : Ty) (x : Ident) (items : List ItemTree)
-    → verdict ts (ParameterName o tys xs ty x items) [] ≡ verdict ts (HaveParameter o (tys ++ ty ∷ []) (xs ++ Some x ∷ []) items) []
+pub named_parameter : (ts : List Token) (o : Opening) (tys : List Ty) (xs : List (Option Ident)) (ty : Ty) (x : Ident)
+    (items : List ItemTree)
+    → verdict ts (ParameterName o tys xs ty x items) [] ≡ verdict ts
+    (HaveParameter o (tys ++ ty ∷ []) (xs ++ Some x ∷ []) items) []
 named_parameter [] o tys xs ty x items = refl
 named_parameter (t ∷ ts) o tys xs ty x items = refl

@@ -36,6 +36,8 @@ has_more_parameters true ts o tys xs items = verdict ts (WantParameter o tys xs 
 has_more_parameters false ts o tys xs items = verdict ts (AfterParameters o tys xs items) []
 
 -- the verdict where a further lock stands, or where none does
-abbrev pub has_more_held : Bool → List Token → Opening → List Ty → List (Option Ident) → (held : List Ident) → List ItemTree → Verdict
+abbrev pub has_more_held : Bool → List Token → Opening → List Ty → List (Option Ident) → (held : List Ident) →
+    List ItemTree → Verdict
 has_more_held true ts o tys xs held items = verdict ts (WantHeld o tys xs held items) []
-has_more_held false ts o tys xs held items = verdict ts (AfterHead o.name (form.Function o.ret tys (names_alone held)) o.defined xs (places_alone held) items) []
+has_more_held false ts o tys xs held items = verdict ts
+    (AfterHead o.name (form.Function o.ret tys (names_alone held)) o.defined xs (places_alone held) items) []

@@ -17,7 +17,8 @@ stmts_push (y ∷ ys) x = ap (one_more (stmt_tree y)) (stmts_push ys x)
 
 row_items : (m : Count) (row : Row_of-Stmt m) → row_trees row ≡ stmt_trees (items-the_row-Stmt m row)
 row_items _ end_of-Stmt = refl
-row_items _ (more_of-Stmt {n = n} p f rest) = ap (one_more (stmt_tree (record { place = p; form = f }))) (row_items n rest)
+row_items _ (more_of-Stmt {n = n} p f rest) = ap (one_more (stmt_tree (record { place = p; form = f })))
+    (row_items n rest)
 
 abbrev row_of : StmtForm → (m : Count) × Row_of-Stmt m
 row_of (Block' shape all) = (_, all)
@@ -25,15 +26,18 @@ row_of _ = (_, end_of-Stmt)
 
 -- a block of the statements in a vector
 pub block_of : (at : Place) (all : Vec Stmt Global) → form_tree at (Block all) ≡ block at (stmt_trees all.items)
-block_of at all = let row = row_of (Block all) in let same = items_hidden-the_row-Stmt-0 all in ap (block at) (row_items row.0 row.1 ∙ ap stmt_trees same)
+block_of at all = let row = row_of (Block all) in let same =
+    items_hidden-the_row-Stmt-0 all in ap (block at) (row_items row.0 row.1 ∙ ap stmt_trees same)
 
 -- an `if` of its parts
-pub if_parts : (at : Place) (c : Expr) (a : Box Stmt Global) (o : Option (Box Stmt Global)) → form_tree at (If c a o) ≡ if_ at (expr_tree c) (stmt_tree a.value) (boxed_tree o)
+pub if_parts : (at : Place) (c : Expr) (a : Box Stmt Global) (o : Option (Box Stmt Global)) →
+    form_tree at (If c a o) ≡ if_ at (expr_tree c) (stmt_tree a.value) (boxed_tree o)
 if_parts at c a None = refl
 if_parts at c a (Some b) = refl
 
 -- a `for` of its parts
-pub for_parts : (at : Place) (i : Option (Box Stmt Global)) (c : Option Expr) (u : Option (Box Stmt Global)) (b : Box Stmt Global)
+pub for_parts : (at : Place) (i : Option (Box Stmt Global)) (c : Option Expr) (u : Option (Box Stmt Global))
+    (b : Box Stmt Global)
     → form_tree at (For i c u b) ≡ for_ at (boxed_tree i) (optional_tree c) (boxed_tree u) (stmt_tree b.value)
 for_parts at None c None b = refl
 for_parts at None c (Some u) b = refl

@@ -45,17 +45,20 @@ begins_stmt (t ∷ rest) n st = taken rest (started (within 0) false false n st 
 -- the verdict where a list of statements goes on behind these, in so many others
 abbrev pub begins_listed : List Token → (around : ℕ) → StmtList → List Frame → Verdict
 begins_listed [] n bs st = Err (record { code = R6; left = 0 })
-begins_listed (t ∷ rest) n bs st = taken rest (list_continued (within 0) false false n bs st t.place t.kind (begins_kind t.kind))
+begins_listed (t ∷ rest) n bs st =
+    taken rest (list_continued (within 0) false false n bs st t.place t.kind (begins_kind t.kind))
 
 -- the verdict where an assignment or a call, or words of a kind, have to begin in so many statements
 
 abbrev pub nests_simple : List Token → (around : ℕ) → List Frame → Verdict
 nests_simple [] n st = Err (record { code = R6; left = 0 })
-nests_simple (t ∷ rest) n st = taken rest (nested (within 0) false false n (simple_started (within 0) false false st t.place t.kind))
+nests_simple (t ∷ rest) n st =
+    taken rest (nested (within 0) false false n (simple_started (within 0) false false st t.place t.kind))
 
 abbrev pub nests_kind : List Token → (around : ℕ) → List Frame → Verdict
 nests_kind [] n st = Err (record { code = R6; left = 0 })
-nests_kind (t ∷ rest) n st = taken rest (nested (within 0) false false n (want_kind (within 0) false false None st t.kind))
+nests_kind (t ∷ rest) n st =
+    taken rest (nested (within 0) false false n (want_kind (within 0) false false None st t.kind))
 
 -- a statement that has its own place in memory, or none, as a tree
 abbrev pub boxed_tree : Option (Box Stmt Global) → StmtOption

@@ -9,7 +9,8 @@ use Rattle.cas_settle.specs.Settle.{words_of, locks_of}
 use Rattle.cas_settle.specs.Located.{Located, decls_in}
 
 -- a sum over the definitions with one more
-pub sum_by-push : (f : Decl → ℕ) (found : List Located) (item : Located) → sum_by f (decls_in (found ++ item ∷ [])) ≡ sum_by f (decls_in found) + f item.decl
+pub sum_by-push : (f : Decl → ℕ) (found : List Located) (item : Located) →
+    sum_by f (decls_in (found ++ item ∷ [])) ≡ sum_by f (decls_in found) + f item.decl
 sum_by-push f found item =
     ap (sum_by f) (map_push (λ (item : Located). item.decl) found item)
     ∙ sum_by-append f (decls_in found) (item.decl ∷ [])
@@ -30,5 +31,6 @@ locks_of-push found item counted more all one =
     omega (arith, all, one, sum_by-push (λ decl. cond (is_lock decl.form) 1 0) found item)
 
 -- a count that stands still at the greatest word of 64 bits, as a word of 32 bits
-pub min_min : (count counted most word : ℕ) → counted ≡ min count (2 ^ 64 - 1) → most ≡ 2 ^ 32 - 1 → word ≡ min counted most → word ≡ min count (2 ^ 32 - 1)
+pub min_min : (count counted most word : ℕ) → counted ≡ min count (2 ^ 64 - 1) → most ≡ 2 ^ 32 - 1 →
+    word ≡ min counted most → word ≡ min count (2 ^ 32 - 1)
 min_min count counted most word all limit is = omega arith

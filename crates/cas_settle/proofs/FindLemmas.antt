@@ -12,14 +12,16 @@ use Rattle.cas_settle.proofs.OptionLemmas.{option_map-cond, is_some-cond, is_som
 
 -- a look-up in the table finds the definition of that name
 pub location_of-lookup : (name : List ℕ) (entries : List (Bor (List ℕ) × Definition)) → IsKeyed entries
-    → option_map located (lookup (λ key. bytes_eq name key.now) entries) ≡ location_of (map (λ entry. located entry.1) entries) name
+    → option_map located (lookup (λ key. bytes_eq name key.now) entries) ≡ location_of
+    (map (λ entry. located entry.1) entries) name
 location_of-lookup name [] keyed = refl
 location_of-lookup name (entry ∷ entries) keyed =
     option_map-cond located (bytes_eq name entry.0.now) entry.1 (lookup (λ key. bytes_eq name key.now) entries)
     ∙ (λ i. cond (bytes_eq name (keyed.0 i)) (Some (located entry.1)) (location_of-lookup name entries keyed.1 i))
 
 -- a name is found exactly where it is among the names
-pub is_some-location_of : (name : List ℕ) (found : List Located) → is_some (location_of found name) ≡ list_any (bytes_eq name) (names_in found)
+pub is_some-location_of : (name : List ℕ) (found : List Located) →
+    is_some (location_of found name) ≡ list_any (bytes_eq name) (names_in found)
 is_some-location_of name [] = refl
 is_some-location_of name (item ∷ found) =
     is_some-cond (bytes_eq name item.decl.name) item (location_of found name)
@@ -44,20 +46,23 @@ lookup-fresh name entries keyed fresh =
 
 -- whether the table has a name
 pub lookup-contains : (name : List ℕ) (entries : List (Bor (List ℕ) × Definition)) → IsKeyed entries
-    → is_some (lookup (λ key. bytes_eq name key.now) entries) ≡ list_any (bytes_eq name) (names_in (map (λ entry. located entry.1) entries))
+    → is_some (lookup (λ key. bytes_eq name key.now) entries) ≡ list_any (bytes_eq name)
+    (names_in (map (λ entry. located entry.1) entries))
 lookup-contains name entries keyed =
     sym (is_some-option_map located (lookup (λ key. bytes_eq name key.now) entries))
     ∙ ap is_some (location_of-lookup name entries keyed)
     ∙ is_some-location_of name (map (λ entry. located entry.1) entries)
 
 -- the definition of a name, without its places
-pub definition_of-location : (name : List ℕ) (found : List Located) → option_map (λ (item : Located). item.decl) (location_of found name) ≡ definition_of (decls_in found) name
+pub definition_of-location : (name : List ℕ) (found : List Located) →
+    option_map (λ (item : Located). item.decl) (location_of found name) ≡ definition_of (decls_in found) name
 definition_of-location name [] = refl
 definition_of-location name (item ∷ found) =
     option_map-cond (λ (item : Located). item.decl) (bytes_eq name item.decl.name) item (location_of found name)
     ∙ ap (cond (bytes_eq name item.decl.name) (Some item.decl)) (definition_of-location name found)
 
 -- the definitions of a table's entries
-pub map-located : (entries : List (Bor (List ℕ) × Definition)) → map located (map (λ entry. entry.1) entries) ≡ map (λ entry. located entry.1) entries
+pub map-located : (entries : List (Bor (List ℕ) × Definition)) →
+    map located (map (λ entry. entry.1) entries) ≡ map (λ entry. located entry.1) entries
 map-located [] = refl
 map-located (entry ∷ entries) = ap (λ more. located entry.1 ∷ more) (map-located entries)

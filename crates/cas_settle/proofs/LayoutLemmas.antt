@@ -23,11 +23,14 @@ IsLaidOut word [] = Unit {0}
 IsLaidOut word (item ∷ found) = (item.word ≡ word) × IsLaidOut (word + words_of_form item.decl.form) found
 
 -- they are the definitions of the units
-pub decls_in-located_from : (unit word : ℕ) (units : List (List Decl)) → decls_in (located_from unit word units) ≡ definitions (all_decls units)
+pub decls_in-located_from : (unit word : ℕ) (units : List (List Decl)) →
+    decls_in (located_from unit word units) ≡ definitions (all_decls units)
 decls_in-located_from unit word [] = refl
 decls_in-located_from unit word (decls ∷ units) =
-    map-append (λ (item : Located). item.decl) (located_in unit 0 word decls) (located_from (unit + 1) (word + words_of (definitions decls)) units)
-    ∙ (λ i. decls_in-located_in unit 0 word decls i ++ decls_in-located_from (unit + 1) (word + words_of (definitions decls)) units i)
+    map-append (λ (item : Located). item.decl) (located_in unit 0 word decls)
+    (located_from (unit + 1) (word + words_of (definitions decls)) units)
+    ∙ (λ i. decls_in-located_in unit 0 word decls i ++ decls_in-located_from (unit + 1)
+    (word + words_of (definitions decls)) units i)
     ∙ sym (filter-append (λ (decl : Decl). decl.defined) decls (all_decls units))
 
 words_of-cons : (decl : Decl) (decls : List Decl) → words_of (decl ∷ decls) ≡ words_of_form decl.form + words_of decls
@@ -36,7 +39,8 @@ words_of-cons decl decls = sum_by-cons (λ (decl : Decl). words_of_form decl.for
 words_of-append : (decls more : List Decl) → words_of (decls ++ more) ≡ words_of decls + words_of more
 words_of-append decls more = sum_by-append (λ (decl : Decl). words_of_form decl.form) decls more
 
-IsLaidOut-located_in : (unit place word : ℕ) (decls : List Decl) → word + words_of (definitions decls) ≤ 2 ^ 32 - 1 → IsLaidOut word (located_in unit place word decls)
+IsLaidOut-located_in : (unit place word : ℕ) (decls : List Decl) → word + words_of (definitions decls) ≤ 2 ^ 32 - 1 →
+    IsLaidOut word (located_in unit place word decls)
 IsLaidOut-located_in unit place word [] fits = tt
 IsLaidOut-located_in unit place word (decl ∷ decls) fits =
     by decl.name decl.form decl.defined fits
@@ -46,7 +50,8 @@ IsLaidOut-located_in unit place word (decl ∷ decls) fits =
     by : (name : List ℕ) (form : Form) (b : Bool)
         → word + words_of (definitions (record { name = name; form = form; defined = b } ∷ decls)) ≤ 2 ^ 32 - 1
         → ((word + words_of_form form) + words_of (definitions decls) ≤ 2 ^ 32 - 1
-        → IsLaidOut (word + words_of_form form) (located_in unit (cond (is_function form) (place + 1) place) (word + words_of_form form) decls))
+        → IsLaidOut (word + words_of_form form) (located_in unit (cond (is_function form) (place + 1) place)
+        (word + words_of_form form) decls))
         → (word + words_of (definitions decls) ≤ 2 ^ 32 - 1 → IsLaidOut word (located_in unit place word decls))
         → IsLaidOut word (located_in unit place word (record { name = name; form = form; defined = b } ∷ decls))
     by name form true fits rest other =
@@ -54,7 +59,8 @@ IsLaidOut-located_in unit place word (decl ∷ decls) fits =
         (omega (arith, sum, fits), rest (omega (arith, sum, fits)))
     by name form false fits rest other = other fits
 
-IsLaidOut-append : (word : ℕ) (found more : List Located) → IsLaidOut word found → IsLaidOut (word + words_of (decls_in found)) more → IsLaidOut word (found ++ more)
+IsLaidOut-append : (word : ℕ) (found more : List Located) → IsLaidOut word found →
+    IsLaidOut (word + words_of (decls_in found)) more → IsLaidOut word (found ++ more)
 IsLaidOut-append word [] more laid later = subst (λ w. IsLaidOut w more) (omega arith) later
 IsLaidOut-append word (item ∷ found) more laid later = (
   laid.0,
@@ -63,12 +69,16 @@ IsLaidOut-append word (item ∷ found) more laid later = (
 )
 
 -- the definitions of units are laid out
-pub IsLaidOut-located_from : (unit word : ℕ) (units : List (List Decl)) → word + words_of (definitions (all_decls units)) ≤ 2 ^ 32 - 1 → IsLaidOut word (located_from unit word units)
+pub IsLaidOut-located_from : (unit word : ℕ) (units : List (List Decl)) →
+    word + words_of (definitions (all_decls units)) ≤ 2 ^ 32 - 1 → IsLaidOut word (located_from unit word units)
 IsLaidOut-located_from unit word [] fits = tt
 IsLaidOut-located_from unit word (decls ∷ units) fits =
-    let sum : words_of (definitions (all_decls (decls ∷ units))) ≡ words_of (definitions decls) + words_of (definitions (all_decls units)) =
-    ap words_of (filter-append (λ (decl : Decl). decl.defined) decls (all_decls units)) ∙ words_of-append (definitions decls) (definitions (all_decls units)) in
-    IsLaidOut-append word (located_in unit 0 word decls) (located_from (unit + 1) (word + words_of (definitions decls)) units)
+    let sum : words_of (definitions (all_decls (decls ∷ units))) ≡ words_of (definitions decls) + words_of
+    (definitions (all_decls units)) =
+    ap words_of (filter-append (λ (decl : Decl). decl.defined) decls (all_decls units))
+    ∙ words_of-append (definitions decls) (definitions (all_decls units)) in
+    IsLaidOut-append word (located_in unit 0 word decls)
+    (located_from (unit + 1) (word + words_of (definitions decls)) units)
     (IsLaidOut-located_in unit 0 word decls (omega (arith, sum, fits)))
     (subst (λ w. IsLaidOut w (located_from (unit + 1) (word + words_of (definitions decls)) units))
     (ap (λ ds. word + words_of ds) (sym (decls_in-located_in unit 0 word decls)))
@@ -76,13 +86,16 @@ IsLaidOut-located_from unit word (decls ∷ units) fits =
 
 -- their cells
 pub cells-laid_out : (word_of : List ℕ → Option ℕ) (word : ℕ) (found : List Located) → IsLaidOut word found
-    → filter_map (λ (item : Located). cell_of word_of item.word item.decl.name item.decl.form) found ≡ cells_from word_of word (decls_in found)
+    → filter_map (λ (item : Located). cell_of word_of item.word item.decl.name item.decl.form)
+    found ≡ cells_from word_of word (decls_in found)
 cells-laid_out word_of word [] laid = refl
 cells-laid_out word_of word (item ∷ found) laid =
-    λ i. cons_option (cell_of word_of (laid.0 i) item.decl.name item.decl.form) (cells-laid_out word_of (word + words_of_form item.decl.form) found laid.1 i)
+    λ i. cons_option (cell_of word_of (laid.0 i) item.decl.name item.decl.form)
+    (cells-laid_out word_of (word + words_of_form item.decl.form) found laid.1 i)
 
 -- a name that no later definition has names no later lock
-lock_word-none : (name : List ℕ) (word : ℕ) (found : List Located) → AllByRecursion (λ other. bytes_eq name other ≡ false) (names_in found) → lock_word word (decls_in found) name ≡ None
+lock_word-none : (name : List ℕ) (word : ℕ) (found : List Located) →
+    AllByRecursion (λ other. bytes_eq name other ≡ false) (names_in found) → lock_word word (decls_in found) name ≡ None
 lock_word-none name word [] apart = refl
 lock_word-none name word (item ∷ found) apart =
     by (is_lock item.decl.form) (bytes_eq name item.decl.name) apart.0
@@ -95,7 +108,8 @@ lock_word-none name word (item ∷ found) apart =
     by true false e rest = rest
     by false same e rest = rest
 
-choose : {X : Type 0} (lock same : Bool) (here there : X) (found later : Option X) → here ≡ there → (same ≡ true → later ≡ None) → found ≡ later
+choose : {X : Type 0} (lock same : Bool) (here there : X) (found later : Option X) → here ≡ there →
+    (same ≡ true → later ≡ None) → found ≡ later
     → cond same (cond lock (Some here) None) found ≡ cond (lock && same) (Some there) later
 choose true true here there found later is none rest = ap Some is
 choose true false here there found later is none rest = rest
@@ -103,26 +117,33 @@ choose false true here there found later is none rest = sym (none refl)
 choose false false here there found later is none rest = rest
 
 -- the word of a lock, where no two definitions have one name
-pub lock_word-laid_out : (name : List ℕ) (word : ℕ) (found : List Located) → IsLaidOut word found → IsDistinct bytes_eq (names_in found)
+pub lock_word-laid_out : (name : List ℕ) (word : ℕ) (found : List Located) → IsLaidOut word found →
+    IsDistinct bytes_eq (names_in found)
     → lock_word_in found name ≡ lock_word word (decls_in found) name
 lock_word-laid_out name word [] laid distinct = refl
 lock_word-laid_out name word (item ∷ found) laid distinct =
-    option_and_then-cond (λ (item : Located). cond (is_lock item.decl.form) (Some item.word) None) (bytes_eq name item.decl.name) item (location_of found name)
-    ∙ choose (is_lock item.decl.form) (bytes_eq name item.decl.name) item.word word (lock_word_in found name) (lock_word (word + words_of_form item.decl.form) (decls_in found) name)
+    option_and_then-cond (λ (item : Located). cond (is_lock item.decl.form) (Some item.word) None)
+    (bytes_eq name item.decl.name) item (location_of found name)
+    ∙ choose (is_lock item.decl.form) (bytes_eq name item.decl.name) item.word word (lock_word_in found name)
+    (lock_word (word + words_of_form item.decl.form) (decls_in found) name)
     laid.0
     (λ same. lock_word-none name (word + words_of_form item.decl.form) found
-    (subst (λ n. AllByRecursion (λ other. bytes_eq n other ≡ false) (names_in found)) (sym ((bytes_eq-Decides name item.decl.name).0 same))
+    (subst (λ n. AllByRecursion (λ other. bytes_eq n other ≡ false) (names_in found))
+    (sym ((bytes_eq-Decides name item.decl.name).0 same))
     (IsDistinct-head bytes_eq item.decl.name (names_in found) distinct)))
-    (lock_word-laid_out name (word + words_of_form item.decl.form) found laid.1 (IsDistinct-tail bytes_eq item.decl.name (names_in found) distinct))
+    (lock_word-laid_out name (word + words_of_form item.decl.form) found laid.1
+    (IsDistinct-tail bytes_eq item.decl.name (names_in found) distinct))
 
 -- the cells of the units, where no name is defined twice
-pub cells_in-located_from : (units : List (List Decl)) → words_of (definitions (all_decls units)) ≤ 2 ^ 32 - 1 → IsDistinct bytes_eq (names_of (definitions (all_decls units)))
+pub cells_in-located_from : (units : List (List Decl)) → words_of (definitions (all_decls units)) ≤ 2 ^ 32 - 1 →
+    IsDistinct bytes_eq (names_of (definitions (all_decls units)))
     → cells_in (located_from 0 0 units) ≡ cells_of units
 cells_in-located_from units fits distinct =
     let found = located_from 0 0 units in
     let is = decls_in-located_from 0 0 units in
     let laid = IsLaidOut-located_from 0 0 units (omega (arith, fits)) in
-    let apart : IsDistinct bytes_eq (names_in found) = subst (λ ds. IsDistinct bytes_eq (names_of ds)) (sym is) distinct in
+    let apart : IsDistinct bytes_eq (names_in found) =
+    subst (λ ds. IsDistinct bytes_eq (names_of ds)) (sym is) distinct in
     cells-laid_out (lock_word_in found) 0 found laid
     ∙ (λ i. cells_from (λ name. lock_word-laid_out name 0 found laid apart i) 0 (decls_in found))
     ∙ (λ i. cells_from (lock_word 0 (is i)) 0 (is i))

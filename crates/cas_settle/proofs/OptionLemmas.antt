@@ -3,11 +3,13 @@ use Rattle.std.proofs.Common.{◌≡◌, Bool, true, false, cond, ◌||◌, Opti
 use Rattle.std.specs.Borrow.{Bor}
 use Rattle.std.specs.Option.{option_and_then, option_copied, option_map, option_or}
 
-pub option_map-copied : {X Y : Type 0} (f : X → Y) (r : Option (Bor X)) → option_map (λ (x : Bor X). f x.now) r ≡ option_map f (option_copied r)
+pub option_map-copied : {X Y : Type 0} (f : X → Y) (r : Option (Bor X)) →
+    option_map (λ (x : Bor X). f x.now) r ≡ option_map f (option_copied r)
 option_map-copied f None = refl
 option_map-copied f (Some x) = refl
 
-pub option_map-cond : {X Y : Type 0} (f : X → Y) (b : Bool) (x : X) (o : Option X) → option_map f (cond b (Some x) o) ≡ cond b (Some (f x)) (option_map f o)
+pub option_map-cond : {X Y : Type 0} (f : X → Y) (b : Bool) (x : X) (o : Option X) →
+    option_map f (cond b (Some x) o) ≡ cond b (Some (f x)) (option_map f o)
 option_map-cond f true x o = refl
 option_map-cond f false x o = refl
 
@@ -27,15 +29,18 @@ pub option_map-none : {X Y : Type 0} (f : X → Y) (o : Option X) → option_map
 option_map-none f None e = refl
 option_map-none f (Some x) e = cc
 
-pub option_map-some : {X Y : Type 0} (f : X → Y) (o p : Option X) (y : Y) → ((x : X) → o ≡ Some x → p ≡ Some x) → option_map f o ≡ Some y → option_map f p ≡ Some y
+pub option_map-some : {X Y : Type 0} (f : X → Y) (o p : Option X) (y : Y) → ((x : X) → o ≡ Some x → p ≡ Some x) →
+    option_map f o ≡ Some y → option_map f p ≡ Some y
 option_map-some f None p y go e = cc
 option_map-some f (Some x) p y go e = ap (option_map f) (go x refl) ∙ e
 
-pub option_map-option_map : {X Y Z : Type 0} (f : X → Y) (g : Y → Z) (o : Option X) → option_map g (option_map f o) ≡ option_map (λ x. g (f x)) o
+pub option_map-option_map : {X Y Z : Type 0} (f : X → Y) (g : Y → Z) (o : Option X) →
+    option_map g (option_map f o) ≡ option_map (λ x. g (f x)) o
 option_map-option_map f g None = refl
 option_map-option_map f g (Some x) = refl
 
-pub option_and_then-cond : {X Y : Type 0} (f : X → Option Y) (b : Bool) (x : X) (o : Option X) → option_and_then f (cond b (Some x) o) ≡ cond b (f x) (option_and_then f o)
+pub option_and_then-cond : {X Y : Type 0} (f : X → Option Y) (b : Bool) (x : X) (o : Option X) →
+    option_and_then f (cond b (Some x) o) ≡ cond b (f x) (option_and_then f o)
 option_and_then-cond f true x o = refl
 option_and_then-cond f false x o = refl
 

@@ -17,7 +17,8 @@ use Rattle.cas_settle.proofs.CountLemmas.{words_of-push, locks_of-push}
 abbrev pub shown : List (Bor (List ℕ) × Definition) → List Located
 shown entries = map (λ entry. located entry.1) entries
 
-module _ {S : Type 0} (table : IndexMap (Bor (List ℕ)) Definition S) (key : Bor (List ℕ)) (definition : Definition) (entries : List (Bor (List ℕ) × Definition))
+module _ {S : Type 0} (table : IndexMap (Bor (List ℕ)) Definition S) (key : Bor (List ℕ)) (definition : Definition)
+    (entries : List (Bor (List ℕ) × Definition))
     (keyed : IsKeyed table.entries) (same : key.now ≡ definition.decl.now.name)
     (found : List Located) (view_is : shown table.entries ≡ found)
     (fresh : list_any (bytes_eq definition.decl.now.name) (names_in found) ≡ false)
@@ -41,15 +42,19 @@ module _ {S : Type 0} (table : IndexMap (Bor (List ℕ)) Definition S) (key : Bo
       ∙ ap (λ shown. shown ++ located definition ∷ []) view_is
 
   -- the words are counted
-  pub words-push : (counted more : ℕ) → counted ≡ min (words_of (decls_in (shown table.entries))) (2 ^ 64 - 1) → more ≡ words_of_form definition.decl.now.form
+  pub words-push : (counted more : ℕ) → counted ≡ min (words_of (decls_in (shown table.entries))) (2 ^ 64 - 1) →
+      more ≡ words_of_form definition.decl.now.form
       → min (counted + more) (2 ^ 64 - 1) ≡ min (words_of (decls_in (shown entries))) (2 ^ 64 - 1)
   words-push counted more all one =
-      words_of-push found (located definition) counted more (all ∙ ap (λ found. min (words_of (decls_in found)) (2 ^ 64 - 1)) view_is) one
+      words_of-push found (located definition) counted more
+      (all ∙ ap (λ found. min (words_of (decls_in found)) (2 ^ 64 - 1)) view_is) one
       ∙ ap (λ found. min (words_of (decls_in found)) (2 ^ 64 - 1)) (sym shown-push)
 
   -- the locks are counted
   pub locks-push : (counted : ℕ) → counted ≡ min (locks_of (decls_in (shown table.entries))) (2 ^ 64 - 1)
-      → min (counted + cond (is_lock definition.decl.now.form) 1 0) (2 ^ 64 - 1) ≡ min (locks_of (decls_in (shown entries))) (2 ^ 64 - 1)
+      → min (counted + cond (is_lock definition.decl.now.form) 1 0) (2 ^ 64 - 1) ≡ min
+      (locks_of (decls_in (shown entries))) (2 ^ 64 - 1)
   locks-push counted all =
-      locks_of-push found (located definition) counted (cond (is_lock definition.decl.now.form) 1 0) (all ∙ ap (λ found. min (locks_of (decls_in found)) (2 ^ 64 - 1)) view_is) refl
+      locks_of-push found (located definition) counted (cond (is_lock definition.decl.now.form) 1 0)
+      (all ∙ ap (λ found. min (locks_of (decls_in found)) (2 ^ 64 - 1)) view_is) refl
       ∙ ap (λ found. min (locks_of (decls_in found)) (2 ^ 64 - 1)) (sym shown-push)

@@ -21,12 +21,15 @@ option_or-assoc (Some x) p q = refl
 
 module _ {X : Type 0} (fault_of : X → Option LinkFault) where
   -- the first fault of two lists
-  pub first_fault-append : (xs ys : List X) → first_fault fault_of (xs ++ ys) ≡ option_or (first_fault fault_of xs) (first_fault fault_of ys)
+  pub first_fault-append : (xs ys : List X) → first_fault fault_of (xs ++ ys) ≡ option_or (first_fault fault_of xs)
+      (first_fault fault_of ys)
   first_fault-append [] ys = refl
   first_fault-append (x ∷ xs) ys =
-      ap (option_or (fault_of x)) (first_fault-append xs ys) ∙ sym (option_or-assoc (fault_of x) (first_fault fault_of xs) (first_fault fault_of ys))
+      ap (option_or (fault_of x)) (first_fault-append xs ys)
+      ∙ sym (option_or-assoc (fault_of x) (first_fault fault_of xs) (first_fault fault_of ys))
 
-  module _ (all now one later : List X) (is : now ≡ one ++ later) (so_far : first_fault fault_of now ≡ first_fault fault_of all) where
+  module _ (all now one later : List X) (is : now ≡ one ++ later)
+      (so_far : first_fault fault_of now ≡ first_fault fault_of all) where
     -- no fault up to here, so the first comes later
     pub first_fault-later : first_fault fault_of one ≡ None → first_fault fault_of later ≡ first_fault fault_of all
     first_fault-later none =
@@ -34,9 +37,11 @@ module _ {X : Type 0} (fault_of : X → Option LinkFault) where
         ∙ sym (first_fault-append one later) ∙ ap (first_fault fault_of) (sym is) ∙ so_far
 
     -- a fault here is the first
-    pub first_fault-here : (given : LinkFault) → first_fault fault_of one ≡ Some given → first_fault fault_of all ≡ Some given
+    pub first_fault-here : (given : LinkFault) → first_fault fault_of one ≡ Some given →
+        first_fault fault_of all ≡ Some given
     first_fault-here given some =
-        sym so_far ∙ ap (first_fault fault_of) is ∙ first_fault-append one later ∙ ap (λ o. option_or o (first_fault fault_of later)) some
+        sym so_far ∙ ap (first_fault fault_of) is ∙ first_fault-append one later
+        ∙ ap (λ o. option_or o (first_fault fault_of later)) some
 
 -- one more answer
 pub map-step : {X Y : Type 0} (f : X → Option Y) (ys new : List Y) (x : X) (y : Y) (later : List X)
@@ -49,6 +54,7 @@ map-step f ys new x y later pushed is =
     ∙ ap (λ o. map (λ y. Some y) ys ++ o ∷ map f later) (sym is)
 
 -- an option at the end of a list, and what comes after it
-pub append-cons_option : {X : Type 0} (xs : List X) (o : Option X) (ys : List X) → (xs ++ cons_option o []) ++ ys ≡ xs ++ cons_option o ys
+pub append-cons_option : {X : Type 0} (xs : List X) (o : Option X) (ys : List X) →
+    (xs ++ cons_option o []) ++ ys ≡ xs ++ cons_option o ys
 append-cons_option xs None ys = append_assoc xs [] ys
 append-cons_option xs (Some x) ys = append_assoc xs (x ∷ []) ys

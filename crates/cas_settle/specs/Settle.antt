@@ -37,9 +37,11 @@ pub record IsSettled (units : List (List Decl)) (entries : List (List ℕ)) : Ty
   -- no name is defined twice
   pub distinct : IsDistinct bytes_eq (names_of (definitions (all_decls units)))
   -- each declaration that isn't a definition agrees with the definition of its name
-  pub agreed : All (λ decl. IsSomeAnd (definition_of (definitions (all_decls units)) decl.name) (λ defined. IsTrue (agrees defined.form decl.form))) (references (all_decls units))
+  pub agreed : All (λ decl. IsSomeAnd (definition_of (definitions (all_decls units)) decl.name)
+      (λ defined. IsTrue (agrees defined.form decl.form))) (references (all_decls units))
   -- each entry is the name of a function `void f(int)` that holds no lock
-  pub entered : All (λ name. IsSomeAnd (definition_of (definitions (all_decls units)) name) (λ defined. IsTrue (is_entry defined.form))) entries
+  pub entered : All (λ name. IsSomeAnd (definition_of (definitions (all_decls units)) name)
+      (λ defined. IsTrue (is_entry defined.form))) entries
   pub words : words_of (definitions (all_decls units)) ≤ WORD_LIMIT
   pub locks : locks_of (definitions (all_decls units)) ≤ LOCK_LIMIT
 
@@ -83,7 +85,8 @@ entries_fault defined entries = first_fault (λ name. entry_fault name (definiti
 
 -- too many words, and then too many locks
 abbrev pub limits_fault : (defined : List Decl) → Option LinkFault
-limits_fault defined = option_or (limit_fault Words WORD_LIMIT (words_of defined)) (limit_fault Locks LOCK_LIMIT (locks_of defined))
+limits_fault defined = option_or (limit_fault Words WORD_LIMIT (words_of defined))
+    (limit_fault Locks LOCK_LIMIT (locks_of defined))
 
 -- the first refusal: of the definitions, then of the other declarations, then of the entries, then by the limits
 abbrev pub first_refusal : (units : List (List Decl)) (entries : List (List ℕ)) → Option LinkFault
@@ -98,14 +101,24 @@ first_refusal units entries =
 abbrev pub lock_word : (first : ℕ) → List Decl → List ℕ → Option ℕ
 lock_word first [] name = None
 lock_word first (decl ∷ decls) name =
-    if is_lock decl.form && is_named name decl then Some first else lock_word (first + words_of_form decl.form) decls name
+    if is_lock decl.form && is_named name decl then Some first else lock_word (first + words_of_form decl.form)
+    decls name
 
--- the cell of a definition that begins at the word `first`, where `word_of` gives the words of locks; a function has none
+-- the cell of a definition that begins at the word `first`, where `word_of` gives the words of locks; a function has
+-- none
 abbrev pub cell_of : (word_of : List ℕ → Option ℕ) (first : ℕ) → List ℕ → Form → Option CellRow
 cell_of word_of first name Lock =
     Some (record { name = name; first = first; len = 1; guard = None; constant = false; lock = true })
 cell_of word_of first name (Shared ty lock) =
-    Some (record { name = name; first = first; len = words_of_ty ty; guard = word_of lock; constant = false; lock = false })
+    Some (record {
+      name = name;
+      first = first;
+      len = words_of_ty ty;
+      guard = word_of lock;
+      constant = false;
+      lock =
+          false;
+    })
 cell_of word_of first name (Table ty) =
     Some (record { name = name; first = first; len = words_of_ty ty; guard = None; constant = true; lock = false })
 cell_of word_of first name (Function ret params holds) = None
@@ -125,7 +138,8 @@ cells_of units =
 abbrev pub place_from : (unit : ℕ) → List (List Decl) → List ℕ → Option (ℕ × ℕ)
 place_from unit [] name = None
 place_from unit (decls ∷ units) name =
-    option_or (option_map (λ place. (unit, place)) (position (is_named name) (functions_of decls))) (place_from (unit + 1) units name)
+    option_or (option_map (λ place. (unit, place)) (position (is_named name) (functions_of decls)))
+    (place_from (unit + 1) units name)
 
 -- the unit that defines the function of this name, and its place among that unit's functions
 abbrev pub place_of : List (List Decl) → List ℕ → Option (ℕ × ℕ)

@@ -82,8 +82,10 @@ impl<'a> Definitions<'a> {
     // Adds the definitions of a unit.
     fn add_unit(&mut self, alloc: Global, decls: &'a [Decl], unit: u32) -> Result<(), LinkFault>
         requires { length (functions_of decls.now) < 2 ^ 32 }
-        ensures added { OnOk result (self.new ≡ self.old ++ located_in unit 0 (words_of (decls_in self.old)) decls.now) }
-        ensures refused { IsRefusedBy result (option_map Twice (first_repeated (names_in self.old) (names_of (definitions decls.now)))) }
+        ensures added { OnOk result (self.new
+            ≡ self.old ++ located_in unit 0 (words_of (decls_in self.old)) decls.now) }
+        ensures refused { IsRefusedBy result
+            (option_map Twice (first_repeated (names_in self.old) (names_of (definitions decls.now)))) }
     {
         let mut place = 0;
         for decl in decls {
@@ -102,9 +104,11 @@ impl<'a> Definitions<'a> {
         place: u32,
     ) -> Result<u32, LinkFault>
         requires { place + length (functions_of (decl.now ∷ [])) < 2 ^ 32 }
-        ensures added { OnOk result (self.new ≡ self.old ++ located_in unit place (words_of (decls_in self.old)) (decl.now ∷ [])) }
+        ensures added { OnOk result (self.new
+            ≡ self.old ++ located_in unit place (words_of (decls_in self.old)) (decl.now ∷ [])) }
         ensures next { IfOk result (λ next. next ≡ place + length (functions_of (decl.now ∷ []))) }
-        ensures refused { IsRefusedBy result (option_map Twice (first_repeated (names_in self.old) (names_of (definitions (decl.now ∷ []))))) }
+        ensures refused { IsRefusedBy result
+            (option_map Twice (first_repeated (names_in self.old) (names_of (definitions (decl.now ∷ []))))) }
     {
         if !decl.defined {
             return Ok(place);
@@ -119,8 +123,15 @@ impl<'a> Definitions<'a> {
 
     // Adds a definition.
     fn add(&mut self, alloc: Global, decl: &'a Decl, unit: u32, place: u32) -> Result<(), LinkFault>
-        ensures added { OnOk result (self.new ≡ self.old ++ record { decl = decl.now; unit = unit; place = place; word = min (words_of (decls_in self.old)) (2 ^ 32 - 1) } ∷ []) }
-        ensures refused { IsRefusedBy result (if list_any (bytes_eq decl.now.name) (names_in self.old) then Some (Twice decl.now.name) else None) }
+        ensures added { OnOk result (self.new
+            ≡ self.old ++ record {
+              decl = decl.now;
+              unit = unit;
+              place = place;
+              word = min (words_of (decls_in self.old)) (2 ^ 32 - 1);
+            } ∷ []) }
+        ensures refused { IsRefusedBy result (if list_any (bytes_eq decl.now.name) (names_in self.old)
+            then Some (Twice decl.now.name) else None) }
     {
         if self.contains(decl.name.as_str()) {
             return Err(LinkFault::Twice(decl.name.copy(alloc)?));
@@ -139,7 +150,13 @@ impl<'a> Definitions<'a> {
     // Puts a definition at the end.
     fn push(&mut self, decl: &'a Decl, unit: u32, place: u32) -> Result<(), NoMemory>
         requires { list_any (bytes_eq decl.now.name) (names_in self.old) ≡ false }
-        ensures { OnOk result (self.new ≡ self.old ++ record { decl = decl.now; unit = unit; place = place; word = min (words_of (decls_in self.old)) (2 ^ 32 - 1) } ∷ []) }
+        ensures { OnOk result (self.new
+            ≡ self.old ++ record {
+              decl = decl.now;
+              unit = unit;
+              place = place;
+              word = min (words_of (decls_in self.old)) (2 ^ 32 - 1);
+            } ∷ []) }
     {
         let definition = Definition {
             decl,
@@ -195,7 +212,9 @@ impl<'a> Definitions<'a> {
         cells: &mut Vec<CellRow>,
         definition: &Definition<'a>,
     ) -> Result<(), NoMemory>
-        ensures { OnOk result (cells.new.items ≡ cells.old.items ++ cons_option (cell_of (lock_word_in self.now) definition.now.word definition.now.decl.now.name definition.now.decl.now.form) []) }
+        ensures { OnOk result (cells.new.items ≡ cells.old.items ++ cons_option
+            (cell_of (lock_word_in self.now) definition.now.word definition.now.decl.now.name
+            definition.now.decl.now.form) []) }
     {
         let decl = definition.decl;
         if decl.form.is_function() {

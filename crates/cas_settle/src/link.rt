@@ -128,7 +128,8 @@ pub fn settle(alloc: Global, units: &Roster, entries: &[Name]) -> Result<Settled
     ensures unsettled { IfErr result (λ fault. fault ≢ LinkFault.Memory → ¬ IsSettled units.now entries.now) }
     ensures refused { IsRefusedBy result (first_refusal units.now entries.now) }
     ensures cells { IfOk result (λ settled. settled.cells ≡ cells_of units.now) }
-    ensures places { IfOk result (λ settled. map (λ place. Some place) settled.entries ≡ map (place_of units.now) entries.now) }
+    ensures places { IfOk result (λ settled.
+        map (λ place. Some place) settled.entries ≡ map (place_of units.now) entries.now) }
 {
     let definitions = Definitions::of(alloc, units)?;
     check_references(alloc, &definitions, units)?;
@@ -175,7 +176,8 @@ fn check_decl(alloc: Global, definitions: &Definitions, decl: &Decl) -> Result<(
 
 // Checks a declaration against the definition of its name.
 fn check_reference(alloc: Global, definitions: &Definitions, decl: &Decl) -> Result<(), LinkFault>
-    ensures { IsRefusedBy result (reference_fault decl.now (spec.definition_of (decls_in definitions.now) decl.now.name)) }
+    ensures { IsRefusedBy result
+        (reference_fault decl.now (spec.definition_of (decls_in definitions.now) decl.now.name)) }
 {
     let definition = definition_of(alloc, definitions, &decl.name)?;
     if definition.decl.form.agrees(&decl.form) {
@@ -195,8 +197,10 @@ fn definition_of<'a, 'b>(
     name: &Name,
 ) -> Result<&'b Definition<'a>, LinkFault>
     ensures found { IfOk result (λ found. location_of definitions.now name.now ≡ Some (located found.now)) }
-    ensures decl { IfOk result (λ found. spec.definition_of (decls_in definitions.now) name.now ≡ Some found.now.decl.now) }
-    ensures refused { IfErr result (λ fault. fault ≢ Memory → (fault ≡ NotDefined name.now) × (spec.definition_of (decls_in definitions.now) name.now ≡ None)) }
+    ensures decl { IfOk result (λ found.
+        spec.definition_of (decls_in definitions.now) name.now ≡ Some found.now.decl.now) }
+    ensures refused { IfErr result (λ fault. fault ≢ Memory → (fault ≡ NotDefined name.now)
+        × (spec.definition_of (decls_in definitions.now) name.now ≡ None)) }
 {
     match definitions.find(name.as_str()) {
         Some(definition) => Ok(definition),
@@ -211,7 +215,8 @@ fn entry_places(
     entries: &[Name],
 ) -> Result<Seq<(u32, u32)>, LinkFault>
     ensures refused { IsRefusedBy result (entries_fault (decls_in definitions.now) entries.now) }
-    ensures places { IfOk result (λ places. map (λ place. Some place) places ≡ map (place_in definitions.now) entries.now) }
+    ensures places { IfOk result (λ places.
+        map (λ place. Some place) places ≡ map (place_in definitions.now) entries.now) }
 {
     let mut places = Vec::new(alloc);
     for name in entries {
@@ -226,7 +231,8 @@ fn entry_place(
     definitions: &Definitions,
     name: &Name,
 ) -> Result<(u32, u32), LinkFault>
-    ensures refused { IsRefusedBy result (entry_fault name.now (spec.definition_of (decls_in definitions.now) name.now)) }
+    ensures refused { IsRefusedBy result
+        (entry_fault name.now (spec.definition_of (decls_in definitions.now) name.now)) }
     ensures place { IfOk result (λ place. place_in definitions.now name.now ≡ Some place) }
 {
     let definition = definition_of(alloc, definitions, name)?;

@@ -31,8 +31,10 @@ use Rattle.cas_step.proofs.Within.{Any}
 use Rattle.cas_step.proofs.Targets.{Certain, certain_then, value_certain, values_certain, AreOfTypes, IsWritable, CellFits, value_scalar, target_certain}
 
 -- what an effect needs so that the thread stays sound behind it
-module _ (modules : List TypedModuleTree) (e : Env) (well_formed : IsWellFormed modules e) (a : Activation) (older : List Activation) (memory : List Block) (fresh : ℕ) (started : a.serial < fresh)
-    (blocks : AreBlocks e (thread e a older memory fresh started) (a ∷ older) memory) (unit : TypedModuleTree) (unit_is : slice_get modules a.function.unit ≡ Some unit) (ws : List ℕ) (fits : IsWellTypedStore e ws) where
+module _ (modules : List TypedModuleTree) (e : Env) (well_formed : IsWellFormed modules e) (a : Activation)
+    (older : List Activation) (memory : List Block) (fresh : ℕ) (started : a.serial < fresh)
+    (blocks : AreBlocks e (thread e a older memory fresh started) (a ∷ older) memory) (unit : TypedModuleTree)
+    (unit_is : slice_get modules a.function.unit ≡ Some unit) (ws : List ℕ) (fits : IsWellTypedStore e ws) where
   abbrev now : Config
   now = record { activations = a ∷ older; memory = memory; fresh = fresh }
 
@@ -56,6 +58,8 @@ module _ (modules : List TypedModuleTree) (e : Env) (well_formed : IsWellFormed 
     pub f : FunctionAt
     pub gives : Ty
     pub tys : List Ty
+    pub holds : List (List ℕ)
+    pub declared : IsDeclared (decls_of unit) g (AFunction gives tys holds)
     pub unit_of : TypedModuleTree
     pub it : TypedFunTree
     pub is_function : entity g ≡ Some (function f)
@@ -69,8 +73,10 @@ module _ (modules : List TypedModuleTree) (e : Env) (well_formed : IsWellFormed 
 
   abbrev pub EffectFits : Effect Object → Type 0
   EffectFits (continues cont) = MayDo body cont
-  EffectFits (stores o i v cont) = ThereIs Any (value_at (cells_at memory o) i) × MayHold e now (a ∷ older) o v × MayDo body cont
-  EffectFits (writes g i n cont) = (k : Kind) × IsWritable modules e well_formed a older memory fresh started blocks unit unit_is ws fits g i k × IsTrue (is_of_kind n k) × MayDo body cont
+  EffectFits (stores o i v cont) = ThereIs Any (value_at (cells_at memory o) i) × MayHold e now (a ∷ older) o v
+      × MayDo body cont
+  EffectFits (writes g i n cont) = (k : Kind) × IsWritable modules e well_formed a older memory fresh started blocks
+      unit unit_is ws fits g i k × IsTrue (is_of_kind n k) × MayDo body cont
   EffectFits (calls g args kept cont) = IsCalled g args kept × MayDo body cont
   EffectFits (returns v) = IsReturned (e.function a.function).ret v
   EffectFits (locks g cont) = IsLockOf g × MayDo body cont
@@ -83,28 +89,38 @@ module _ (modules : List TypedModuleTree) (e : Env) (well_formed : IsWellFormed 
   abbrev pub in_context : EvalContext Object
   in_context = eval_context_of e (standing e a older memory fresh started ws)
 
-  surely_then : {A B : Type 0} (P : A → Type 0) (Q : B → Type 0) (x : Asks Object A) (more : A → Asks Object B) → Surely P x → ((v : A) → P v → Surely Q (more v)) → Surely Q (and_then x more)
-  surely_then P Q x more h go = certain_then modules e well_formed a older memory fresh started blocks unit unit_is ws fits P Q x more h go
+  surely_then : {A B : Type 0} (P : A → Type 0) (Q : B → Type 0) (x : Asks Object A) (more : A → Asks Object B) →
+      Surely P x → ((v : A) → P v → Surely Q (more v)) → Surely Q (and_then x more)
+  surely_then P Q x more h go = certain_then modules e well_formed a older memory fresh started blocks unit unit_is ws
+      fits P Q x more h go
 
-  into_word : (g i : ℕ) (k : Kind) (v : Value Object) (cont : List ContItem) → IsWritable modules e well_formed a older memory fresh started blocks unit unit_is ws fits g i k → IsOfType e now (Int k) v → MayDo body cont →
+  into_word : (g i : ℕ) (k : Kind) (v : Value Object) (cont : List ContItem) →
+      IsWritable modules e well_formed a older memory fresh started blocks unit unit_is ws fits g i k →
+      IsOfType e now (Int k) v → MayDo body cont →
       Surely EffectFits (into (of_global g i) v cont)
   into_word g i k (word n) cont w l may = (k, w, l, may)
   into_word g i k null cont w l may = absurd l
   into_word g i k (pointer o p) cont w l may = absurd l
 
-  into_certain : (ty : Ty) (cell : Cell Object) (v : Value Object) (cont : List ContItem) → CellFits modules e well_formed a older memory fresh started blocks unit unit_is ws fits ty cell → IsOfType e now ty v → MayDo body cont →
+  into_certain : (ty : Ty) (cell : Cell Object) (v : Value Object) (cont : List ContItem) →
+      CellFits modules e well_formed a older memory fresh started blocks unit unit_is ws fits ty cell →
+      IsOfType e now ty v → MayDo body cont →
       Surely EffectFits (into cell v cont)
   into_certain ty (of_object o p) v cont h l may = (h.0, h.1 v l, may)
-  into_certain ty (of_global g i) v cont h l may = into_word g i h.0 v cont h.2 (subst (λ x. IsOfType e now x v) h.1 l) may
+  into_certain ty (of_global g i) v cont h l may = into_word g i h.0 v cont h.2 (subst (λ x. IsOfType e now x v) h.1 l)
+      may
 
-  either_may : (is : Bool) (some others : List ContItem) → MayDo body some → MayDo body others → MayDo body (either some others is)
+  either_may : (is : Bool) (some others : List ContItem) → MayDo body some → MayDo body others →
+      MayDo body (either some others is)
   either_may true some others h l = h
   either_may false some others h l = l
 
-  chooses_certain : (x : Option TypedExprTree) (some others : List ContItem) → IsTest (types_of e a) (decls_of unit) x × OptionHasWords x → MayDo body some → MayDo body others → Surely EffectFits (chooses in_context x some others)
+  chooses_certain : (x : Option TypedExprTree) (some others : List ContItem) → IsTest (types_of e a) (decls_of unit) x
+      × OptionHasWords x → MayDo body some → MayDo body others → Surely EffectFits (chooses in_context x some others)
   chooses_certain None some others good h l = h
   chooses_certain (Some x) some others good h l = surely_then Any EffectFits (test_of in_context x) _
-      (test_sure (PointsTo e now) (types_of e a) (decls_of unit) in_context ws memory (sees e a older memory fresh started blocks modules well_formed unit unit_is ws fits) x good.0 good.1)
+      (test_sure (PointsTo e now) (types_of e a) (decls_of unit) in_context ws memory
+      (sees e a older memory fresh started blocks modules well_formed unit unit_is ws fits) x good.0 good.1)
       (λ is t. either_may is some others h l)
 
   none_returned : (ret : Ty) → no_value ret ≡ None → IsReturned ret None
@@ -141,7 +157,8 @@ module _ (modules : List TypedModuleTree) (e : Env) (well_formed : IsWellFormed 
   leaves_by l cont is h = subst (λ b. MayLeave b cont) is h
 
   lock_there : (g : ℕ) → IsDeclared (decls_of unit) g Lock → IsLockOf g
-  lock_there g declared = lock_by (entity g) refl (stands_for modules e well_formed unit a.function.unit unit_is g Lock declared)
+  lock_there g declared =
+      lock_by (entity g) refl (stands_for modules e well_formed unit a.function.unit unit_is g Lock declared)
     where
       lock_by : (x : Option Entity) → entity g ≡ x → StandsFor modules e Lock x → IsLockOf g
       lock_by None is h = absurd h
@@ -151,11 +168,17 @@ module _ (modules : List TypedModuleTree) (e : Env) (well_formed : IsWellFormed 
       lock_by (Some (table first len)) is h = absurd h
       lock_by (Some (lock n)) is h = (n, is)
 
-  called_there : (g : ℕ) (args : List (Value Object)) (kept : Option Destination) (ret : Ty) (tys : List Ty) (holds : List (List ℕ)) → IsDeclared (decls_of unit) g (AFunction ret tys holds) → MayKeep (types_of e a) kept ret →
-      AreOfTypes modules e well_formed a older memory fresh started blocks unit unit_is ws fits tys args → IsCalled g args kept
-  called_there g args kept ret tys holds declared keeps typed = called_by (entity g) refl (stands_for modules e well_formed unit a.function.unit unit_is g (AFunction ret tys holds) declared)
+  called_there : (g : ℕ) (args : List (Value Object)) (kept : Option Destination) (ret : Ty) (tys : List Ty)
+      (holds : List (List ℕ)) → IsDeclared (decls_of unit) g (AFunction ret tys holds) →
+      MayKeep (types_of e a) kept ret →
+      AreOfTypes modules e well_formed a older memory fresh started blocks unit unit_is ws fits tys args →
+      IsCalled g args kept
+  called_there g args kept ret tys holds declared keeps typed =
+      called_by (entity g) refl (stands_for modules e well_formed unit a.function.unit unit_is g
+      (AFunction ret tys holds) declared)
     where
-      called_by : (x : Option Entity) → entity g ≡ x → StandsFor modules e (AFunction ret tys holds) x → IsCalled g args kept
+      called_by : (x : Option Entity) → entity g ≡ x → StandsFor modules e (AFunction ret tys holds) x →
+          IsCalled g args kept
       called_by None is h = absurd h
       called_by (Some outside) is h = absurd h
       called_by (Some (shared first len by)) is h = absurd h
@@ -165,6 +188,8 @@ module _ (modules : List TypedModuleTree) (e : Env) (well_formed : IsWellFormed 
         f = f;
         gives = ret;
         tys = tys;
+        holds = holds;
+        declared = declared;
         unit_of = h.0;
         it = h.1;
         is_function = is;
@@ -175,61 +200,86 @@ module _ (modules : List TypedModuleTree) (e : Env) (well_formed : IsWellFormed 
       }
 
   module _ (it : TypedFunTree) (at_place : IsAt modules a.function unit it) where
-    abbrev good_of : {l : Bool} {x : TypedStmtTree} → StandsIn body l x → IsGood (types_of e a) (decls_of unit) (e.function a.function).ret l x
-    good_of s = stands_good (types_of e a) (decls_of unit) (e.function a.function).ret body (body_sorted modules e well_formed a.function unit it at_place) (body_words modules e well_formed a.function unit it at_place) s
+    abbrev good_of : {l : Bool} {x : TypedStmtTree} → StandsIn body l x →
+        IsGood (types_of e a) (decls_of unit) (e.function a.function).ret l x
+    good_of s = stands_good (types_of e a) (decls_of unit) (e.function a.function).ret body
+        (body_sorted modules e well_formed a.function unit it at_place)
+        (body_words modules e well_formed a.function unit it at_place) s
 
-    print_word : (v : Value Object) (cont : List ContItem) → IsOfType e now (Int I32) v → MayDo body cont → Surely EffectFits (and_then (word_in v) (λ n. gives (prints n cont)))
+    print_word : (v : Value Object) (cont : List ContItem) → IsOfType e now (Int I32) v → MayDo body cont →
+        Surely EffectFits (and_then (word_in v) (λ n. gives (prints n cont)))
     print_word (word n) cont h may = may
     print_word null cont h may = absurd h
     print_word (pointer o p) cont h may = absurd h
 
-    returned_certain : (x : Option TypedExprTree) → MayReturn (types_of e a) (decls_of unit) (e.function a.function).ret x → OptionHasWords x → Surely EffectFits (returned in_context x)
+    returned_certain : (x : Option TypedExprTree) → MayReturn (types_of e a) (decls_of unit)
+        (e.function a.function).ret x → OptionHasWords x → Surely EffectFits (returned in_context x)
     returned_certain None h w = none_returned (e.function a.function).ret h
-    returned_certain (Some x) h w = surely_then (IsOfType e now (e.function a.function).ret) EffectFits (value_of in_context x) _
-        (value_certain modules e well_formed a older memory fresh started blocks unit unit_is ws fits (e.function a.function).ret x h w) (some_returned (e.function a.function).ret)
+    returned_certain (Some x) h w = surely_then (IsOfType e now (e.function a.function).ret) EffectFits
+        (value_of in_context x) _
+        (value_certain modules e well_formed a older memory fresh started blocks unit unit_is ws fits
+        (e.function a.function).ret x h w) (some_returned (e.function a.function).ret)
 
-    statement_certain : (l : Bool) (x : TypedStmtTree) (cont : List ContItem) → StandsIn body l x → MayLeave l cont → MayDo body cont → Surely EffectFits (statement_effect in_context x cont)
+    statement_certain : (l : Bool) (x : TypedStmtTree) (cont : List ContItem) → StandsIn body l x → MayLeave l cont →
+        MayDo body cont → Surely EffectFits (statement_effect in_context x cont)
     statement_certain l (t.skip p) cont s leave may = may
     statement_certain l (t.assign p target x) cont s leave may =
         let g = good_of s in
-        surely_then (CellFits modules e well_formed a older memory fresh started blocks unit unit_is ws fits g.0.0) EffectFits (target_of in_context target) _
-        (target_certain modules e well_formed a older memory fresh started blocks unit unit_is ws fits target g.0.0 g.0.1 (value_scalar modules e well_formed a older memory fresh started blocks unit unit_is ws fits g.0.0 x g.0.2) g.1.0) (λ cell h.
+        surely_then (CellFits modules e well_formed a older memory fresh started blocks unit unit_is ws fits g.0.0)
+        EffectFits (target_of in_context target) _
+        (target_certain modules e well_formed a older memory fresh started blocks unit unit_is ws fits target g.0.0
+        g.0.1 (value_scalar modules e well_formed a older memory fresh started blocks unit unit_is ws fits g.0.0 x
+        g.0.2) g.1.0) (λ cell h.
         surely_then (IsOfType e now g.0.0) EffectFits (value_of in_context x) _
-        (value_certain modules e well_formed a older memory fresh started blocks unit unit_is ws fits g.0.0 x g.0.2 g.1.1) (λ v k. into_certain g.0.0 cell v cont h k may))
+        (value_certain modules e well_formed a older memory fresh started blocks unit unit_is ws fits g.0.0 x g.0.2
+        g.1.1) (λ v k. into_certain g.0.0 cell v cont h k may))
     statement_certain l (t.call p kept g at args) cont s leave may =
         let good = good_of s in
-        surely_then (AreOfTypes modules e well_formed a older memory fresh started blocks unit unit_is ws fits good.0.1) EffectFits (values_of in_context args) _
-        (values_certain modules e well_formed a older memory fresh started blocks unit unit_is ws fits good.0.1 args good.0.5 good.1)
+        surely_then (AreOfTypes modules e well_formed a older memory fresh started blocks unit unit_is ws fits good.0.1)
+        EffectFits (values_of in_context args) _
+        (values_certain modules e well_formed a older memory fresh started blocks unit unit_is ws fits good.0.1 args
+        good.0.5 good.1)
         (λ vals h. (called_there g vals kept good.0.0 good.0.1 good.0.2 good.0.3 good.0.4 h, may))
-    statement_certain l (t.block p bs) cont s leave may = all_may body l bs cont (λ b among. of_block l p bs b s among) leave may
+    statement_certain l (t.block p bs) cont s leave may =
+        all_may body l bs cont (λ b among. of_block l p bs b s among) leave may
     statement_certain l (t.if_ p x b otherwise) cont s leave may =
         let g = good_of s in
         chooses_certain (Some x) (begin b ∷ cont) (begin_part otherwise cont) (g.0.0, g.1.0)
         ((l, where_true l p x b otherwise s, leave), may)
-        (part_may body l otherwise cont (λ d is. where_false l p x b d (subst (λ o. StandsIn body l (t.if_ p x b o)) is s)) leave may)
+        (part_may body l otherwise cont
+        (λ d is. where_false l p x b d (subst (λ o. StandsIn body l (t.if_ p x b o)) is s)) leave may)
     statement_certain l (t.while_ p x b) cont s leave may =
-        let g = good_of s in chooses_certain (Some x) (begin b ∷ begun p x b ∷ cont) cont (g.0.0, g.1.0) (begun_may body l p x b cont (inl s) may) may
+        let g = good_of s in chooses_certain (Some x) (begin b ∷ begun p x b ∷ cont) cont (g.0.0, g.1.0)
+        (begun_may body l p x b cont (inl s) may) may
     statement_certain l (t.do_ p b x) cont s leave may = begun_may body l p x b cont (inr s) may
     statement_certain l (t.for_ p i x u b) cont s leave may = for_may body l p i x u b cont s leave may
-    statement_certain l (t.break_ p) cont s leave may = let g = good_of s in jumps_certain (after_break cont) (broken_may body cont may (leaves_by l cont g.0 leave).0)
-    statement_certain l (t.continue_ p) cont s leave may = let g = good_of s in jumps_certain (after_continue cont) (continued_may body cont may (leaves_by l cont g.0 leave).1)
+    statement_certain l (t.break_ p) cont s leave may = let g =
+        good_of s in jumps_certain (after_break cont) (broken_may body cont may (leaves_by l cont g.0 leave).0)
+    statement_certain l (t.continue_ p) cont s leave may = let g =
+        good_of s in jumps_certain (after_continue cont) (continued_may body cont may (leaves_by l cont g.0 leave).1)
     statement_certain l (t.return_ p x) cont s leave may = let g = good_of s in returned_certain x g.0 g.1
     statement_certain l (t.lock p g) cont s leave may = (lock_there g (good_of s).0, may)
     statement_certain l (t.unlock p g) cont s leave may = (lock_there g (good_of s).0, may)
     statement_certain l (t.print p x) cont s leave may =
         let g = good_of s in
         surely_then (IsOfType e now (Int I32)) EffectFits (value_of in_context x) _
-        (value_certain modules e well_formed a older memory fresh started blocks unit unit_is ws fits (Int I32) x g.0 g.1) (λ v h. print_word v cont h may)
+        (value_certain modules e well_formed a older memory fresh started blocks unit unit_is ws fits
+        (Int I32) x g.0 g.1) (λ v h. print_word v cont h may)
 
     -- the first item does something that fits
-    pub effect_certain : (cont : List ContItem) → MayDo body cont → Surely EffectFits (effect_of in_context (e.function a.function).ret cont)
+    pub effect_certain : (cont : List ContItem) → MayDo body cont →
+        Surely EffectFits (effect_of in_context (e.function a.function).ret cont)
     effect_certain [] may = fallen_returned (e.function a.function).ret
     effect_certain (begin x ∷ cont) may = statement_certain may.0.0 x cont may.0.1 may.0.2 may.1
     effect_certain (begun p x b ∷ cont) may = chooses_certain (Some x) (begin b ∷ begun p x b ∷ cont) cont
-        (loop_test (types_of e a) (decls_of unit) (e.function a.function).ret body (body_sorted modules e well_formed a.function unit it at_place) (body_words modules e well_formed a.function unit it at_place) may.0.0 p x b may.0.1)
+        (loop_test (types_of e a) (decls_of unit) (e.function a.function).ret body
+        (body_sorted modules e well_formed a.function unit it at_place)
+        (body_words modules e well_formed a.function unit it at_place) may.0.0 p x b may.0.1)
         (begun_may body may.0.0 p x b cont may.0.1 may.1) may.1
     effect_certain (loop p x u b ∷ cont) may = chooses_certain x (begin b ∷ next p u ∷ loop p x u b ∷ cont) cont
-        (for_test (types_of e a) (decls_of unit) (e.function a.function).ret body (body_sorted modules e well_formed a.function unit it at_place) (body_words modules e well_formed a.function unit it at_place) may.0.0 p may.0.1 x u b may.0.2)
+        (for_test (types_of e a) (decls_of unit) (e.function a.function).ret body
+        (body_sorted modules e well_formed a.function unit it at_place)
+        (body_words modules e well_formed a.function unit it at_place) may.0.0 p may.0.1 x u b may.0.2)
         (turn_may body p x u b cont may) may.1
     effect_certain (next p absent ∷ cont) may = may.1
     effect_certain (next p (present x) ∷ cont) may =

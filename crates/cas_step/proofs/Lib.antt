@@ -1,18 +1,18 @@
-mod Answering
-mod Effects
-mod Examples
-mod Footprints
-mod Keeping
-mod Memory
-mod Operator_examples
-mod Place_examples
-mod Running
-mod Situation
-mod Soundness
-mod Standing
-mod Steps
-mod Tables
-mod Targets
-mod Values
-mod Within
-mod Words
+pub mod Answering
+pub mod Effects
+pub mod Examples
+pub mod Footprints
+pub mod Keeping
+pub mod Memory
+pub mod Operator_examples
+pub mod Place_examples
+pub mod Running
+pub mod Situation
+pub mod Soundness
+pub mod Standing
+pub mod Steps
+pub mod Tables
+pub mod Targets
+pub mod Values
+pub mod Within
+pub mod Words

@@ -48,7 +48,8 @@ place_rows = refl
 abbrev two_modules : Env
 two_modules = modules_of
     ((function_of Void (Int I32 ∷ []) (t.call (at 1) None 1 (at 0) [] ∷ print 2 (t.global 0 (at 0)) ∷ []) ∷ [])
-    ∷ (function_of Void [] (t.assign (at 3) (t.to_global 1 (at 0)) (int (t.binary bin.Add Signed (t.global 0 (at 0)) (number 5))) ∷ []) ∷ []) ∷ [])
+    ∷ (function_of Void [] (t.assign (at 3) (t.to_global 1 (at 0))
+    (int (t.binary bin.Add Signed (t.global 0 (at 0)) (number 5))) ∷ []) ∷ []) ∷ [])
     ((shared 0 1 None ∷ function (record { unit = 1; place = 0 }) ∷ []) ∷ (shared 1 1 None ∷ shared 0 1 None ∷ []) ∷ [])
 
 second_module : told two_modules (7 ∷ 8 ∷ []) ≡ outcome ended (13 ∷ []) (13 ∷ 8 ∷ [])
@@ -60,7 +61,9 @@ second_module_places = refl
 -- void f(int n, int *p) { int x; if (n == 0) { *p = 9; return; } x = n; f(n - 1, &x); print(x); } with f(2, 0): the
 -- innermost writes the x of the activation that called it, and no other
 same_function : thread [] (function_of Void (Int I32 ∷ Ptr I32 ∷ Int I32 ∷ [])
-    (t.if_ (at 1) (t.binary bin.Eq Signed (t.local 0) (number 0)) (t.block (at 2) (stmts (t.assign (at 3) (t.to_behind I32 (t.local 1)) (int (number 9)) ∷ t.return_ (at 4) None ∷ []))) t.absent
+    (t.if_ (at 1) (t.binary bin.Eq Signed (t.local 0) (number 0))
+    (t.block (at 2)
+    (stmts (t.assign (at 3) (t.to_behind I32 (t.local 1)) (int (number 9)) ∷ t.return_ (at 4) None ∷ []))) t.absent
     ∷ set 5 2 (t.local 0)
     ∷ t.call (at 6) None 0 (at 0) (int (t.binary bin.Sub Signed (t.local 0) (number 1)) ∷ t.place_of 2 ∷ [])
     ∷ print 7 (t.local 2) ∷ []) ∷ [])
@@ -69,12 +72,15 @@ same_function : thread [] (function_of Void (Int I32 ∷ Ptr I32 ∷ Int I32 ∷
 same_function = refl
 
 -- int *p; *p = 1 / 0; the target's cell comes first
-null_first : thread (Ptr I32 ∷ []) [] [] (t.assign (at 1) (t.to_behind I32 (t.local 1)) (int (t.binary bin.Div Signed (number 1) (number 0))) ∷ []) ≡ outcome (bad Null 1) [] []
+null_first : thread (Ptr I32 ∷ []) [] [] (t.assign (at 1) (t.to_behind I32 (t.local 1))
+    (int (t.binary bin.Div Signed (number 1) (number 0))) ∷ []) ≡ outcome (bad Null 1) [] []
 null_first = refl
 
 -- int *f() { int x; return &x; } with p = f(); print(p == p);
-dead_itself : thread (Ptr I32 ∷ []) (function_of (Ptr I32) (Int I32 ∷ []) (t.return_ (at 0) (Some (t.place_of 0)) ∷ []) ∷ []) (function (record { unit = 0; place = 1 }) ∷ [])
-    (t.call (at 1) (Some (record { local = 1; ty = Ptr I32 })) 0 (at 0) [] ∷ print 2 (t.compare bin.Eq (t.local 1) (t.local 1)) ∷ []) ≡ outcome (bad Dead 2) [] []
+dead_itself : thread (Ptr I32 ∷ []) (function_of (Ptr I32) (Int I32 ∷ []) (t.return_ (at 0) (Some (t.place_of 0)) ∷ [])
+    ∷ []) (function (record { unit = 0; place = 1 }) ∷ [])
+    (t.call (at 1) (Some (record { local = 1; ty = Ptr I32 })) 0 (at 0) [] ∷ print 2
+    (t.compare bin.Eq (t.local 1) (t.local 1)) ∷ []) ≡ outcome (bad Dead 2) [] []
 dead_itself = refl
 
 -- a module alone
@@ -100,6 +106,7 @@ abbrev alone : TypedExprTree → Got (Value Object)
 alone a = answered globals share cells (value_of (record { entity = globals; own = own; same = λ a b. false }) a)
 
 -- *p; g and *p, with g in the share; g + h, with h outside it: the word that was read before is told
-alone_rows : map alone (t.behind I32 (t.local 0) ∷ t.binary bin.Add Signed (t.global 1 (at 0)) (t.behind I32 (t.local 0)) ∷ t.binary bin.Add Signed (t.global 1 (at 0)) (t.global 2 (at 0)) ∷ [])
+alone_rows : map alone (t.behind I32 (t.local 0) ∷ t.binary bin.Add Signed (t.global 1 (at 0))
+    (t.behind I32 (t.local 0)) ∷ t.binary bin.Add Signed (t.global 1 (at 0)) (t.global 2 (at 0)) ∷ [])
     ≡ got [] (word 40) ∷ got (1 ∷ []) (word 47) ∷ got_stuck (1 ∷ []) ∷ []
 alone_rows = refl

@@ -43,7 +43,8 @@ sar_word a b h = grind (arith, nat_tests, ints, h)
 fits_word : (z : ℤ) → FitsSigned w32 z → word_of z < 2 ^ 32
 fits_word z fits = grind (arith, nat_tests, ints, fits.sfits)
 
-div_word : (a b : ℕ) → a < 2 ^ 32 → b < 2 ^ 32 → has_no_signed_quotient a b ≡ false → word_of (int_div (signed a) (signed b)) < 2 ^ 32
+div_word : (a b : ℕ) → a < 2 ^ 32 → b < 2 ^ 32 → has_no_signed_quotient a b ≡ false →
+    word_of (int_div (signed a) (signed b)) < 2 ^ 32
 div_word a b h k defined = fits_word (int_div (signed a) (signed b)) (quotient_fits a b h k defined)
 
 rem_word : (a b : ℕ) → a < 2 ^ 32 → word_of (int_rem (signed a) (signed b)) < 2 ^ 32
@@ -68,11 +69,13 @@ divided_word : (O : Type 0) (b : ℕ) (r : Option ℕ) → IsWordIfAny r → Giv
 divided_word O b None h = tt
 divided_word O b (Some n) h = h
 
-signed_quotient : (a b : ℕ) (none : Bool) → has_no_signed_quotient a b ≡ none → a < 2 ^ 32 → b < 2 ^ 32 → IsWordIfAny (if none then None else Some (word_of (int_div (signed a) (signed b))))
+signed_quotient : (a b : ℕ) (none : Bool) → has_no_signed_quotient a b ≡ none → a < 2 ^ 32 → b < 2 ^ 32 →
+    IsWordIfAny (if none then None else Some (word_of (int_div (signed a) (signed b))))
 signed_quotient a b true e h k = tt
 signed_quotient a b false e h k = div_word a b h k e
 
-signed_remainder : (a b : ℕ) (none : Bool) → a < 2 ^ 32 → IsWordIfAny (if none then None else Some (word_of (int_rem (signed a) (signed b))))
+signed_remainder : (a b : ℕ) (none : Bool) → a < 2 ^ 32 →
+    IsWordIfAny (if none then None else Some (word_of (int_rem (signed a) (signed b))))
 signed_remainder a b true h = tt
 signed_remainder a b false h = rem_word a b h
 
@@ -97,7 +100,8 @@ shifted_word Signed a b h = sar_word a b h
 shifted_word Unsigned a b h = shr_word a b h
 
 -- each operator on words gives a word
-pub binary_words : (O : Type 0) (op : BinaryOperator) (s : Signedness) (a b : ℕ) → a < 2 ^ 32 → b < 2 ^ 32 → GivesWord {O = O} (binary_result op s a b)
+pub binary_words : (O : Type 0) (op : BinaryOperator) (s : Signedness) (a b : ℕ) → a < 2 ^ 32 → b < 2 ^ 32 →
+    GivesWord {O = O} (binary_result op s a b)
 binary_words O bin.Add s a b h k = add_word a b
 binary_words O bin.Sub s a b h k = sub_word a b
 binary_words O bin.Mul s a b h k = mul_word a b

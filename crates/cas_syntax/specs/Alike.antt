@@ -51,7 +51,8 @@ abbrev mutual
   bare_stmt (if_ p c a b) = if_ nowhere (bare_expr c) (bare_stmt a) (bare_stmt_option b)
   bare_stmt (while_ p c a) = while_ nowhere (bare_expr c) (bare_stmt a)
   bare_stmt (do_ p a c) = do_ nowhere (bare_stmt a) (bare_expr c)
-  bare_stmt (for_ p i c u a) = for_ nowhere (bare_stmt_option i) (bare_option bare_expr c) (bare_stmt_option u) (bare_stmt a)
+  bare_stmt (for_ p i c u a) = for_ nowhere (bare_stmt_option i) (bare_option bare_expr c) (bare_stmt_option u)
+      (bare_stmt a)
   bare_stmt (break_ p) = break_ nowhere
   bare_stmt (continue_ p) = continue_ nowhere
   bare_stmt (return_ p a) = return_ nowhere (bare_option bare_expr a)

@@ -31,12 +31,14 @@ IsModule items tokens = SpellsItems (within 0) items tokens []
 
 -- some module begins so; the limits are asked of these tokens
 abbrev pub Begins : List Token → Type 0
-Begins tokens = (items : List ItemTree) × (others : List Token) × SpellsItems (within (length others)) items (tokens ++ others) []
+Begins tokens = (items : List ItemTree) × (others : List Token)
+    × SpellsItems (within (length others)) items (tokens ++ others) []
 
 -- some module would begin so, were there no limits
 abbrev pub BeginsUnlimited : List Token → Type 0
 BeginsUnlimited tokens =
-    (items : List ItemTree) × (others : List Token) × SpellsItems (without (length (tokens ++ others)) None) items (tokens ++ others) []
+    (items : List ItemTree) × (others : List Token) × SpellsItems (without (length (tokens ++ others)) None) items
+    (tokens ++ others) []
 
 -- some module would begin so, were there no limits, and had the language the form that the last of these tokens shows
 abbrev pub BeginsLeftOut : List Token → Type 0
@@ -57,7 +59,8 @@ OpensNothing tokens = list_any (λ t. is_opening_brace t.kind) tokens ≡ false
 abbrev pub EndsInBody : List Token → Type 0
 EndsInBody tokens =
     (items : List ItemTree) × (others : List Token) × (p : Place) × OpensNothing others ×
-    SpellsItems (without (length (tokens ++ others ++ sign sg.CloseBrace p ∷ [])) None) items (tokens ++ others ++ sign sg.CloseBrace p ∷ []) []
+    SpellsItems (without (length (tokens ++ others ++ sign sg.CloseBrace p ∷ [])) None) items
+    (tokens ++ others ++ sign sg.CloseBrace p ∷ []) []
 
 -- behind these tokens the token shows a form that is left out by name
 abbrev pub ShowsLeftOut : (front : List Token) → Token → Type 0
@@ -71,7 +74,8 @@ pub data IsWrong (front : List Token) (t : Token) : ReadCode → Type 0 where
 
 -- the first fault of tokens, and its place; the last is that where the text ends
 pub data HasSyntaxFault : List Token → (end : Place) → ReadCode → Place → Type 0 where
-  at_token : (front rest : List Token) (t : Token) (end : Place) (code : ReadCode) → Begins front → IsWrong front t code →
+  at_token : (front rest : List Token) (t : Token) (end : Place) (code : ReadCode) → Begins front →
+      IsWrong front t code →
       HasSyntaxFault (front ++ t ∷ rest) end code t.place
   at_end : (tokens : List Token) (end : Place) → Begins tokens → ((items : List ItemTree) → ¬ (IsModule items tokens)) →
       HasSyntaxFault tokens end R6 end

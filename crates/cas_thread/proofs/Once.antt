@@ -22,21 +22,26 @@ use Rattle.cas_thread.proofs.Reading.{at_this}
 
 -- a row stands for one statement
 
-alike : (rows : List StmtRow) (i : ℕ) (a b : TypedStmtTree) → ((q : Place) (form : StmtRowForm) → IsRow rows i a q form → IsRow rows i b q form → a ≡ b) → IsAt rows i a → IsAt rows i b → a ≡ b
+alike : (rows : List StmtRow) (i : ℕ) (a b : TypedStmtTree) →
+    ((q : Place) (form : StmtRowForm) → IsRow rows i a q form → IsRow rows i b q form → a ≡ b) → IsAt rows i a →
+    IsAt rows i b → a ≡ b
 alike rows i a b once h k = once h.0.place h.0.form h.2 (at_this rows i h.0 (IsRow rows i b) h.1 k)
 
 mutual
-  row_once : (rows : List StmtRow) (n : ℕ) (a b : TypedStmtTree) (q : Place) (form : StmtRowForm) → IsRow rows n a q form → IsRow rows n b q form → a ≡ b
+  row_once : (rows : List StmtRow) (n : ℕ) (a b : TypedStmtTree) (q : Place) (form : StmtRowForm) →
+      IsRow rows n a q form → IsRow rows n b q form → a ≡ b
   row_once rows n (skip p) (skip p') q row.Skip h k = cc (h, k)
   row_once rows n (skip p) _ q row.Skip h k = absurd k
   row_once rows n (skip p) b q _ h k = absurd h
   row_once rows n (assign p t a) (assign p' t' a') q (row.Assign x y) h k = cc (h.0, h.1, h.2, k.0, k.1, k.2)
   row_once rows n (assign p t a) _ q (row.Assign x y) h k = absurd k
   row_once rows n (assign p t a) b q _ h k = absurd h
-  row_once rows n (call p t g at as_) (call p' t' g' at' as') q (row.Call x y z w) h k = cc (h.0, h.1, h.2, h.3, h.4, k.0, k.1, k.2, k.3, k.4)
+  row_once rows n (call p t g at as_) (call p' t' g' at' as') q (row.Call x y z w) h k =
+      cc (h.0, h.1, h.2, h.3, h.4, k.0, k.1, k.2, k.3, k.4)
   row_once rows n (call p t g at as_) _ q (row.Call x y z w) h k = absurd k
   row_once rows n (call p t g at as_) b q _ h k = absurd h
-  row_once rows n (block p bs) (block p' bs') q (row.Block ns) h k = cc (h.0, k.0, rows_once rows (n + 1) (n + 1) bs bs' ns h.1 k.1)
+  row_once rows n (block p bs) (block p' bs') q (row.Block ns) h k =
+      cc (h.0, k.0, rows_once rows (n + 1) (n + 1) bs bs' ns h.1 k.1)
   row_once rows n (block p bs) _ q (row.Block ns) h k = absurd k
   row_once rows n (block p bs) b q _ h k = absurd h
   row_once rows n (if_ p c a o) (if_ p' c' a' o') q (row.If x i j) h k =
@@ -44,10 +49,12 @@ mutual
       cc (h.0, h.1, k.0, k.1, same, part_once rows (n + 1 + size_of a) (n + 1 + size_of a') o o' j h.4 k.4)
   row_once rows n (if_ p c a o) _ q (row.If x i j) h k = absurd k
   row_once rows n (if_ p c a o) b q _ h k = absurd h
-  row_once rows n (while_ p c a) (while_ p' c' a') q (row.While x i) h k = cc (h.0, h.1, k.0, k.1, alike rows i a a' (row_once rows i a a') h.3 k.3)
+  row_once rows n (while_ p c a) (while_ p' c' a') q (row.While x i) h k =
+      cc (h.0, h.1, k.0, k.1, alike rows i a a' (row_once rows i a a') h.3 k.3)
   row_once rows n (while_ p c a) _ q (row.While x i) h k = absurd k
   row_once rows n (while_ p c a) b q _ h k = absurd h
-  row_once rows n (do_ p a c) (do_ p' a' c') q (row.Do i x) h k = cc (h.0, h.3, k.0, k.3, alike rows i a a' (row_once rows i a a') h.2 k.2)
+  row_once rows n (do_ p a c) (do_ p' a' c') q (row.Do i x) h k =
+      cc (h.0, h.3, k.0, k.3, alike rows i a a' (row_once rows i a a') h.2 k.2)
   row_once rows n (do_ p a c) _ q (row.Do i x) h k = absurd k
   row_once rows n (do_ p a c) b q _ h k = absurd h
   row_once rows n (for_ p f c u a) (for_ p' f' c' u' a') q (row.For x y j i) h k =
@@ -81,7 +88,8 @@ mutual
   row_once rows n (print p a) _ q (row.Print x) h k = absurd k
   row_once rows n (print p a) b q _ h k = absurd h
 
-  part_once : (rows : List StmtRow) (n m : ℕ) (o u : TypedStmtOption) (j : Option ℕ) → IsPartRow rows n o j → IsPartRow rows m u j → o ≡ u
+  part_once : (rows : List StmtRow) (n m : ℕ) (o u : TypedStmtOption) (j : Option ℕ) → IsPartRow rows n o j →
+      IsPartRow rows m u j → o ≡ u
   part_once rows n m absent absent None h k = refl
   part_once rows n m absent (present b) None h k = absurd k
   part_once rows n m absent u (Some i) h k = absurd h
@@ -89,14 +97,19 @@ mutual
   part_once rows n m (present a) absent (Some i) h k = absurd k
   part_once rows n m (present a) (present b) (Some i) h k = ap present (alike rows i a b (row_once rows i a b) h.1 k.1)
 
-  rows_once : (rows : List StmtRow) (n m : ℕ) (as_ bs : TypedStmtList) (ns : List ℕ) → AreRows rows n as_ ns → AreRows rows m bs ns → as_ ≡ bs
+  rows_once : (rows : List StmtRow) (n m : ℕ) (as_ bs : TypedStmtList) (ns : List ℕ) → AreRows rows n as_ ns →
+      AreRows rows m bs ns → as_ ≡ bs
   rows_once rows n m no_more no_more [] h k = refl
   rows_once rows n m no_more (one_more b bs) [] h k = absurd k
   rows_once rows n m no_more bs (i ∷ is) h k = absurd h
   rows_once rows n m (one_more a as_) bs [] h k = absurd h
   rows_once rows n m (one_more a as_) no_more (i ∷ is) h k = absurd k
   rows_once rows n m (one_more a as_) (one_more b bs) (i ∷ is) h k =
-      cc (alike rows i a b (row_once rows i a b) h.1 k.1, rows_once rows (n + size_of a) (m + size_of b) as_ bs is h.2 k.2)
+      cc (
+        alike rows i a b (row_once rows i a b) h.1 k.1,
+        rows_once rows (n + size_of a) (m + size_of b)
+            as_ bs is h.2 k.2,
+      )
 
 at_once : (rows : List StmtRow) (i : ℕ) (a b : TypedStmtTree) → IsAt rows i a → IsAt rows i b → a ≡ b
 at_once rows i a b h k = alike rows i a b (row_once rows i a b) h k
@@ -111,15 +124,18 @@ part_is_one rows (present a) u None h k = absurd h
 part_is_one rows (present a) absent (Some i) h k = absurd k
 part_is_one rows (present a) (present b) (Some i) h k = ap present (at_once rows i a b h k)
 
-begun_once : (rows : List StmtRow) (p p' : Place) (c c' : TypedExprTree) (a a' : TypedStmtTree) (q : Place) (form : StmtRowForm) →
+begun_once : (rows : List StmtRow) (p p' : Place) (c c' : TypedExprTree) (a a' : TypedStmtTree) (q : Place)
+    (form : StmtRowForm) →
     IsBegunRow rows p c a q form → IsBegunRow rows p' c' a' q form → begun p c a ≡ begun p' c' a'
 begun_once rows p p' c c' a a' q (row.While x i) h k = cc (h.0, h.1, k.0, k.1, at_once rows i a a' h.2 k.2)
 begun_once rows p p' c c' a a' q (row.Do i x) h k = cc (h.0, h.1, k.0, k.1, at_once rows i a a' h.2 k.2)
 begun_once rows p p' c c' a a' q _ h k = absurd h
 
-loop_once : (rows : List StmtRow) (p p' : Place) (c c' : Option TypedExprTree) (u u' : TypedStmtOption) (a a' : TypedStmtTree) (q : Place) (form : StmtRowForm) →
+loop_once : (rows : List StmtRow) (p p' : Place) (c c' : Option TypedExprTree) (u u' : TypedStmtOption)
+    (a a' : TypedStmtTree) (q : Place) (form : StmtRowForm) →
     IsLoopRow rows p c u a q form → IsLoopRow rows p' c' u' a' q form → loop p c u a ≡ loop p' c' u' a'
-loop_once rows p p' c c' u u' a a' q (row.For f x j i) h k = cc (h.0, h.1, k.0, k.1, part_is_one rows u u' j h.2 k.2, at_once rows i a a' h.3 k.3)
+loop_once rows p p' c c' u u' a a' q (row.For f x j i) h k =
+    cc (h.0, h.1, k.0, k.1, part_is_one rows u u' j h.2 k.2, at_once rows i a a' h.3 k.3)
 loop_once rows p p' c c' u u' a a' q _ h k = absurd h
 
 next_once : (rows : List StmtRow) (p p' : Place) (u u' : TypedStmtOption) (q : Place) (form : StmtRowForm) →
@@ -127,23 +143,36 @@ next_once : (rows : List StmtRow) (p p' : Place) (u u' : TypedStmtOption) (q : P
 next_once rows p p' u u' q (row.For f x j i) h k = cc (h.0, k.0, part_is_one rows u u' j h.1 k.1)
 next_once rows p p' u u' q _ h k = absurd h
 
-shown_once : (rows : List StmtRow) (xs : List ContItem) (cont others : List items.ContItem) → IsContinuation rows xs cont → IsContinuation rows xs others → cont ≡ others
+shown_once : (rows : List StmtRow) (xs : List ContItem) (cont others : List items.ContItem) →
+    IsContinuation rows xs cont → IsContinuation rows xs others → cont ≡ others
 shown_once rows [] [] [] h k = refl
 shown_once rows [] [] (it ∷ its) h k = absurd k
 shown_once rows [] (it ∷ its) others h k = absurd h
-shown_once rows (Begin n ∷ xs) (begin a ∷ cont) (begin b ∷ others) h k = cc (at_once rows n a b h.0 k.0, shown_once rows xs cont others h.1 k.1)
+shown_once rows (Begin n ∷ xs) (begin a ∷ cont) (begin b ∷ others) h k =
+    cc (at_once rows n a b h.0 k.0, shown_once rows xs cont others h.1 k.1)
 shown_once rows (Begin n ∷ xs) (begin a ∷ cont) _ h k = absurd k
 shown_once rows (Begin n ∷ xs) _ others h k = absurd h
 shown_once rows (Begun n ∷ xs) (begun p c a ∷ cont) (begun p' c' a' ∷ others) h k =
-    cc (begun_once rows p p' c c' a a' h.0.0.place h.0.0.form h.0.2 (at_this rows n h.0.0 (IsBegunRow rows p' c' a') h.0.1 k.0), shown_once rows xs cont others h.1 k.1)
+    cc (
+      begun_once rows p p' c c' a a' h.0.0.place h.0.0.form h.0.2
+          (at_this rows n h.0.0 (IsBegunRow rows p' c' a') h.0.1 k.0),
+      shown_once rows xs cont others h.1 k.1,
+    )
 shown_once rows (Begun n ∷ xs) (begun p c a ∷ cont) _ h k = absurd k
 shown_once rows (Begun n ∷ xs) _ others h k = absurd h
 shown_once rows (Loop n ∷ xs) (loop p c u a ∷ cont) (loop p' c' u' a' ∷ others) h k =
-    cc (loop_once rows p p' c c' u u' a a' h.0.0.place h.0.0.form h.0.2 (at_this rows n h.0.0 (IsLoopRow rows p' c' u' a') h.0.1 k.0), shown_once rows xs cont others h.1 k.1)
+    cc (
+      loop_once rows p p' c c' u u' a a' h.0.0.place h.0.0.form h.0.2
+          (at_this rows n h.0.0 (IsLoopRow rows p' c' u' a') h.0.1 k.0),
+      shown_once rows xs cont others h.1 k.1,
+    )
 shown_once rows (Loop n ∷ xs) (loop p c u a ∷ cont) _ h k = absurd k
 shown_once rows (Loop n ∷ xs) _ others h k = absurd h
 shown_once rows (Next n ∷ xs) (next p u ∷ cont) (next p' u' ∷ others) h k =
-    cc (next_once rows p p' u u' h.0.0.place h.0.0.form h.0.2 (at_this rows n h.0.0 (IsNextRow rows p' u') h.0.1 k.0), shown_once rows xs cont others h.1 k.1)
+    cc (
+      next_once rows p p' u u' h.0.0.place h.0.0.form h.0.2 (at_this rows n h.0.0 (IsNextRow rows p' u') h.0.1 k.0),
+      shown_once rows xs cont others h.1 k.1,
+    )
 shown_once rows (Next n ∷ xs) (next p u ∷ cont) _ h k = absurd k
 shown_once rows (Next n ∷ xs) _ others h k = absurd h
 
@@ -151,13 +180,16 @@ shown_once rows (Next n ∷ xs) _ others h k = absurd h
 
 frame_once : (ts : List Typed) (f : Frame) (a b : Activation) → IsFrame ts f a → IsFrame ts f b → a ≡ b
 frame_once ts f a b h k =
-    let cont : a.cont ≡ b.cont = shown_once (rows_at ts f.unit f.place) (reverse f.cont.items) a.cont b.cont h.cont k.cont in
+    let cont : a.cont ≡ b.cont = shown_once (rows_at ts f.unit f.place) (reverse f.cont.items)
+    a.cont b.cont h.cont k.cont in
     ap (λ n. record { serial = n; function = a.function; target = a.target; cont = a.cont }) (h.serial ∙ sym k.serial)
-    ∙ ap (λ g. record { serial = b.serial; function = g; target = a.target; cont = a.cont }) (h.function ∙ sym k.function)
+    ∙ ap (λ g. record { serial = b.serial; function = g; target = a.target; cont = a.cont })
+    (h.function ∙ sym k.function)
     ∙ ap (λ t. record { serial = b.serial; function = b.function; target = t; cont = a.cont }) (h.target ∙ sym k.target)
     ∙ ap (λ its. record { serial = b.serial; function = b.function; target = b.target; cont = its }) cont
 
-frames_once : (ts : List Typed) (fs : List Frame) (all others : List Activation) → AreFrames ts fs all → AreFrames ts fs others → all ≡ others
+frames_once : (ts : List Typed) (fs : List Frame) (all others : List Activation) → AreFrames ts fs all →
+    AreFrames ts fs others → all ≡ others
 frames_once ts [] [] [] h k = refl
 frames_once ts [] [] (b ∷ bs) h k = absurd k
 frames_once ts [] (a ∷ older) others h k = absurd h

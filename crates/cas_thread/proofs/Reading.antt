@@ -12,19 +12,24 @@ use Rattle.cas_thread.specs.Control.{after}
 use Rattle.cas_thread.specs.Continuations.{IsLoopRow, IsNextRow, IsPart, IsContinuation}
 use Rattle.cas_thread.specs.declared.continuation.ContItem as code
 
-pub at_this : (rows : List StmtRow) (n : ℕ) (r : StmtRow) (P : Place → StmtRowForm → Type 0) → slice_get rows n ≡ Some r → At rows n P → P r.place r.form
+pub at_this : (rows : List StmtRow) (n : ℕ) (r : StmtRow) (P : Place → StmtRowForm → Type 0) →
+    slice_get rows n ≡ Some r → At rows n P → P r.place r.form
 at_this rows n r P found at = let same : at.0 ≡ r = cc (found, at.1) in subst (λ x. P x.place x.form) same at.2
 
 -- the row of a `for` with these parts has this to do after a turn
-next_form : (rows : List StmtRow) (p : Place) (c : Option TypedExprTree) (u : TypedStmtOption) (a : TypedStmtTree) (q : Place) (form : StmtRowForm) → IsLoopRow rows p c u a q form → IsNextRow rows p u q form
+next_form : (rows : List StmtRow) (p : Place) (c : Option TypedExprTree) (u : TypedStmtOption) (a : TypedStmtTree)
+    (q : Place) (form : StmtRowForm) → IsLoopRow rows p c u a q form → IsNextRow rows p u q form
 next_form rows p c u a q (row.For h t j k) is = (is.0, is.2)
 next_form rows p c u a q _ is = absurd is
 
-pub loop_next : (rows : List StmtRow) (n : ℕ) (p : Place) (c : Option TypedExprTree) (u : TypedStmtOption) (a : TypedStmtTree) → At rows n (IsLoopRow rows p c u a) → At rows n (IsNextRow rows p u)
+pub loop_next : (rows : List StmtRow) (n : ℕ) (p : Place) (c : Option TypedExprTree) (u : TypedStmtOption)
+    (a : TypedStmtTree) → At rows n (IsLoopRow rows p c u a) → At rows n (IsNextRow rows p u)
 loop_next rows n p c u a at = (at.0, at.1, next_form rows p c u a at.0.place at.0.form at.2)
 
 -- nothing is done after a turn where there is nothing to do
-pub next_none : (rows : List StmtRow) (xs : List code.ContItem) (p : Place) (u : TypedStmtOption) (o : Option ℕ) (is : Bool) (it : List ContItem) → o ≡ None → IsPart rows u o → IsContinuation rows xs it → IsContinuation rows xs (after is (next p u ∷ it))
+pub next_none : (rows : List StmtRow) (xs : List code.ContItem) (p : Place) (u : TypedStmtOption) (o : Option ℕ)
+    (is : Bool) (it : List ContItem) → o ≡ None → IsPart rows u o → IsContinuation rows xs it →
+    IsContinuation rows xs (after is (next p u ∷ it))
 next_none rows xs p absent o is it none part shows = shows
 next_none rows xs p (present a) None is it none part shows = absurd part
 next_none rows xs p (present a) (Some i) is it none part shows = absurd (cc none)

@@ -22,9 +22,12 @@ use Rattle.cas_thread.specs.declared.config.Frame.{Frame}
 use Rattle.cas_thread.proofs.Entering.{found_there, locals_are, new_frame_is}
 
 -- the thread at the start of a function that is there
-pub starts_at : (ts : List Typed) (ms : List TypedModuleTree) → AreTyped ts ms → (at : FunctionAt) (f : TypedFun) → typed_at ts at.unit at.place ≡ Some f →
-    (frame : Frame) (frames : List Frame) (memory : List Block) (vs : List (Value Object)) → at ≡ record { unit = frame.unit; place = frame.place } → 0 ≡ frame.serial → None ≡ frame.target →
-    ((it : TypedFunTree) → IsFunctionOf it f → IsContinuation f.rows (reverse frame.cont.items) (begin_all it.body [])) →
+pub starts_at : (ts : List Typed) (ms : List TypedModuleTree) → AreTyped ts ms → (at : FunctionAt) (f : TypedFun) →
+    typed_at ts at.unit at.place ≡ Some f →
+    (frame : Frame) (frames : List Frame) (memory : List Block) (vs : List (Value Object)) →
+    at ≡ record { unit = frame.unit; place = frame.place } → 0 ≡ frame.serial → None ≡ frame.target →
+    ((it : TypedFunTree) → IsFunctionOf it f → IsContinuation f.rows (reverse frame.cont.items) (begin_all it.body []))
+    →
     ((it : TypedFunTree) → IsFunctionOf it f → Fits (vec_capacity frame.cont) (begin_all it.body [])) →
     frames ≡ frame ∷ [] → memory ≡ record { serial = 0; locals = locals_of (map (λ v. v.ty) f.locals) vs } ∷ [] →
     AreParts ts frames memory 1 (start (env_of ms) at vs)
@@ -32,14 +35,16 @@ starts_at ts ms typed at f there frame frames memory vs at_is serial_is target_i
     let newest = new_frame_is ts ms typed at f there frame 0 None at_is serial_is target_is cont room in
     subst (λ (fs : List Frame). AreParts ts fs memory 1 (start (env_of ms) at vs)) (sym frames_is) (record {
       frames_are = (newest, tt);
-      memory_is = ap (λ (ls : List (List (Value Object))). let b : Block = record { serial = 0; locals = ls } in b ∷ []) (locals_are ts ms typed at f there vs) ∙ sym memory_is;
+      memory_is = ap (λ (ls : List (List (Value Object))). let b : Block = record { serial = 0; locals = ls } in b ∷ [])
+          (locals_are ts ms typed at f there vs) ∙ sym memory_is;
       fresh_is = refl;
       before = (omega arith, tt);
     })
 
 -- the entries
 
-mapped : {X Y : Type 0} (g : X → Y) (xs : List X) (n : ℕ) (x : X) → slice_get xs n ≡ Some x → slice_get (map g xs) n ≡ Some (g x)
+mapped : {X Y : Type 0} (g : X → Y) (xs : List X) (n : ℕ) (x : X) → slice_get xs n ≡ Some x →
+    slice_get (map g xs) n ≡ Some (g x)
 mapped g [] n x is = absurd (cc is)
 mapped g (y ∷ ys) zero x is = let same : y ≡ x = cc is in ap (λ z. Some (g z)) same
 mapped g (y ∷ ys) (suc n) x is = mapped g ys n x is
@@ -49,9 +54,11 @@ entry_is_there [] n below is = omega arith
 entry_is_there (x ∷ xs) zero below is = cc is
 entry_is_there (x ∷ xs) (suc n) below is = entry_is_there xs n (omega arith) is
 
-module _ (p : Program) (ms : List TypedModuleTree) (names : List (List ℕ)) (program : IsProgramOf p ms names) (n : ℕ) (at : ℕ × ℕ) (is : slice_get p.entries n ≡ Some at) where
+module _ (p : Program) (ms : List TypedModuleTree) (names : List (List ℕ)) (program : IsProgramOf p ms names) (n : ℕ)
+    (at : ℕ × ℕ) (is : slice_get p.entries n ≡ Some at) where
   pub entry_is : slice_get (entries_of ms names) n ≡ Some (stands_at at)
-  entry_is = subst (λ (fs : List FunctionAt). slice_get fs n ≡ Some (stands_at at)) program.entries_are (mapped stands_at p.entries n at is)
+  entry_is = subst (λ (fs : List FunctionAt). slice_get fs n ≡ Some (stands_at at)) program.entries_are
+      (mapped stands_at p.entries n at is)
 
   pub entry_found : EntriesHoldNone → typed_at p.modules at.0 at.1 ≡ None → ⊥
   entry_found law none =

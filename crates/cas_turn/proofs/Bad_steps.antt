@@ -27,7 +27,8 @@ module _ (e : Env) (h : StepContext) where
   abbrev Keeps : Step → Type 0
   Keeps s = Stays h.config h.words s
 
-  global_stays : (rs : List ℕ) (it : Option Entity) (i n : ℕ) (cont : List ContItem) → Lands Keeps (global_step e h rs it i n cont)
+  global_stays : (rs : List ℕ) (it : Option Entity) (i n : ℕ) (cont : List ContItem) →
+      Lands Keeps (global_step e h rs it i n cont)
   global_stays rs None i n cont = tt
   global_stays rs (Some (function f)) i n cont = tt
   global_stays rs (Some outside) i n cont = tt
@@ -39,11 +40,13 @@ module _ (e : Env) (h : StepContext) where
   global_stays rs (Some (table first len)) i n cont = tt
   global_stays rs (Some (lock w)) i n cont = tt
 
-  store_stays : (rs : List ℕ) (before : Option (Value Object)) (o : Object) (i : ℕ) (v : Value Object) (cont : List ContItem) → Lands Keeps (store_step e h rs before o i v cont)
+  store_stays : (rs : List ℕ) (before : Option (Value Object)) (o : Object) (i : ℕ) (v : Value Object)
+      (cont : List ContItem) → Lands Keeps (store_step e h rs before o i v cont)
   store_stays rs None o i v cont = tt
   store_stays rs (Some old) o i v cont = λ why is. absurd (cc is)
 
-  call_stays : (rs : List ℕ) (it : Option Entity) (vs : List (Value Object)) (target : Option Destination) (cont : List ContItem) → Lands Keeps (call_step e h rs it vs target cont)
+  call_stays : (rs : List ℕ) (it : Option Entity) (vs : List (Value Object)) (target : Option Destination)
+      (cont : List ContItem) → Lands Keeps (call_step e h rs it vs target cont)
   call_stays rs None vs target cont = tt
   call_stays rs (Some (function f)) vs target cont = λ why is. absurd (cc is)
   call_stays rs (Some outside) vs target cont = tt
@@ -51,15 +54,19 @@ module _ (e : Env) (h : StepContext) where
   call_stays rs (Some (table first len)) vs target cont = tt
   call_stays rs (Some (lock w)) vs target cont = tt
 
-  return_to_stays : (rs : List ℕ) (older : List Activation) (memory : Option (List Block)) → Lands Keeps (return_to e h rs older memory)
+  return_to_stays : (rs : List ℕ) (older : List Activation) (memory : Option (List Block)) →
+      Lands Keeps (return_to e h rs older memory)
   return_to_stays rs older None = tt
   return_to_stays rs older (Some memory) = λ why is. absurd (cc is)
 
-  return_stays : (rs : List ℕ) (older : List Activation) (v : Option (Value Object)) → Lands Keeps (return_step e h rs older v)
+  return_stays : (rs : List ℕ) (older : List Activation) (v : Option (Value Object)) →
+      Lands Keeps (return_step e h rs older v)
   return_stays rs [] v = λ why is. absurd (cc is)
-  return_stays rs (a ∷ older) v = return_to_stays rs (a ∷ older) (memory_keeping (memory_without h.config.memory h.newest.serial) a.serial h.newest.target v)
+  return_stays rs (a ∷ older) v = return_to_stays rs (a ∷ older)
+      (memory_keeping (memory_without h.config.memory h.newest.serial) a.serial h.newest.target v)
 
-  lock_stays : (rs : List ℕ) (it : Option Entity) (cont : List ContItem) → Lands Keeps (lock_step e h rs it act.Lock cont)
+  lock_stays : (rs : List ℕ) (it : Option Entity) (cont : List ContItem) →
+      Lands Keeps (lock_step e h rs it act.Lock cont)
   lock_stays rs None cont = tt
   lock_stays rs (Some (function f)) cont = tt
   lock_stays rs (Some outside) cont = tt
@@ -67,7 +74,8 @@ module _ (e : Env) (h : StepContext) where
   lock_stays rs (Some (table first len)) cont = tt
   lock_stays rs (Some (lock w)) cont = λ why is. absurd (cc is)
 
-  unlock_stays : (rs : List ℕ) (it : Option Entity) (cont : List ContItem) → Lands Keeps (lock_step e h rs it act.Unlock cont)
+  unlock_stays : (rs : List ℕ) (it : Option Entity) (cont : List ContItem) →
+      Lands Keeps (lock_step e h rs it act.Unlock cont)
   unlock_stays rs None cont = tt
   unlock_stays rs (Some (function f)) cont = tt
   unlock_stays rs (Some outside) cont = tt
@@ -88,14 +96,18 @@ module _ (e : Env) (h : StepContext) where
   doing_stays (got rs (prints n cont)) = λ why is. absurd (cc is)
 
   here_stays : Lands Keeps (newest_step e h)
-  here_stays = doing_stays (answered (entity_in e h) (slice_get h.words) (cells_at h.config.memory) (effect_of (eval_context_of e h) (e.function h.newest.function).ret h.newest.cont))
+  here_stays =
+      doing_stays (answered (entity_in e h) (slice_get h.words) (cells_at h.config.memory)
+      (effect_of (eval_context_of e h) (e.function h.newest.function).ret h.newest.cont))
 
-of_stays : (e : Env) (ws : List ℕ) (c : Config) (s : Step) (activations : List Activation) → step_of e ws c activations ≡ Some s → Stays c ws s
+of_stays : (e : Env) (ws : List ℕ) (c : Config) (s : Step) (activations : List Activation) →
+    step_of e ws c activations ≡ Some s → Stays c ws s
 of_stays e ws c s [] is = absurd (cc is)
 of_stays e ws c s (a ∷ older) is =
     let h : StepContext = record { config = c; newest = a; older = older; words = ws } in
     lands_is (Keeps e h) (newest_step e h) s (here_stays e h) is
 
 -- A Bad step leaves the thread and the words.
-pub bad_stays : (e : Env) (ws : List ℕ) (c : Config) (s : Step) (why : Why) → step e ws c ≡ Some s → s.act ≡ act.Bad why → (s.next ≡ c) × (s.words ≡ ws)
+pub bad_stays : (e : Env) (ws : List ℕ) (c : Config) (s : Step) (why : Why) → step e ws c ≡ Some s →
+    s.act ≡ act.Bad why → (s.next ≡ c) × (s.words ≡ ws)
 bad_stays e ws c s why is = of_stays e ws c s c.activations is why

@@ -21,11 +21,14 @@ module _ (one : (typed : Typed) (r s : TypedModuleTree) → IsTypedAs typed r �
   is_checked : (c : Checked) (m : TypedModuleTree) → IsTypedAs c.typed m → IsChecked m
   is_checked c m is = none_from (own_fault m) (∥∥₁_map c.checked (λ r. subst IsChecked (one c.typed r.0 m r.1 is) r.2))
 
-  each_checked : (cs : List Checked) (ms : List TypedModuleTree) → AreTyped (typed_of cs) ms → AllByRecursion IsChecked ms
+  each_checked : (cs : List Checked) (ms : List TypedModuleTree) → AreTyped (typed_of cs) ms →
+      AllByRecursion IsChecked ms
   each_checked [] [] are = tt
   each_checked [] (m ∷ ms) are = absurd are
   each_checked (c ∷ cs) [] are = absurd are
   each_checked (c ∷ cs) (m ∷ ms) are = (is_checked c m are.0, each_checked cs ms are.1)
 
-  pub all_checked : (cs : List Checked) (ts : List Typed) (ms : List TypedModuleTree) → ts ≡ typed_of cs → AreTyped ts ms → All IsChecked ms
-  all_checked cs ts ms is are = All-from_recursion IsChecked ms (each_checked cs ms (subst (λ xs. AreTyped xs ms) is are))
+  pub all_checked : (cs : List Checked) (ts : List Typed) (ms : List TypedModuleTree) → ts ≡ typed_of cs →
+      AreTyped ts ms → All IsChecked ms
+  all_checked cs ts ms is are = All-from_recursion IsChecked ms
+      (each_checked cs ms (subst (λ xs. AreTyped xs ms) is are))

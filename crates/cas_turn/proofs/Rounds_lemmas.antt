@@ -12,13 +12,15 @@ use Rattle.cas_world.specs.World.{World, world_after}
 
 -- a turn by what the thread stands at
 
-turn_running : (w : World) (i : ℕ) (st : State) (P : World → Type 0) → IsRunning st (λ s. P (world_after w i s)) → P (after_turn w i st)
+turn_running : (w : World) (i : ℕ) (st : State) (P : World → Type 0) → IsRunning st (λ s. P (world_after w i s)) →
+    P (after_turn w i st)
 turn_running w i (running s) P h = h
 turn_running w i ended P h = absurd h
 turn_running w i (waits l holder) P h = absurd h
 turn_running w i (bad why unit place) P h = absurd h
 
-pub turn_taken : (e : Env) (w : World) (i : ℕ) (P : World → Type 0) → IsRunning (state_of e w i) (λ s. P (world_after w i s)) → P (turn e w i)
+pub turn_taken : (e : Env) (w : World) (i : ℕ) (P : World → Type 0) →
+    IsRunning (state_of e w i) (λ s. P (world_after w i s)) → P (turn e w i)
 turn_taken e w i P h = turn_running w i (state_of e w i) P h
 
 -- a turn that changes nothing
@@ -26,7 +28,8 @@ turn_taken e w i P h = turn_running w i (state_of e w i) P h
 pub ended_stays : (e : Env) (w : World) (i : ℕ) → state_of e w i ≡ ended → turn e w i ≡ w
 ended_stays e w i h = ap (after_turn w i) h
 
-pub answered_stays : (e : Env) (w : World) (i : ℕ) (a : WorldAnswer) → Answers (activations_of w i) (state_of e w i) a → a ≢ answer.Memory → turn e w i ≡ w
+pub answered_stays : (e : Env) (w : World) (i : ℕ) (a : WorldAnswer) → Answers (activations_of w i) (state_of e w i) a →
+    a ≢ answer.Memory → turn e w i ≡ w
 answered_stays e w i answer.Memory h other = absurd (other refl)
 answered_stays e w i answer.Ended h other = ap (after_turn w i) h
 answered_stays e w i (answer.Waits l holder) h other = ap (after_turn w i) h
@@ -45,7 +48,8 @@ replicate_more (suc n) i = ap (λ xs. i ∷ xs) (replicate_more n i)
 
 pub replicate-add : (n m i : ℕ) → replicate (n + m) i ≡ replicate n i ++ replicate m i
 replicate-add zero m i = let number : 0 + m ≡ m = omega (arith) in ap (λ k. replicate k i) number
-replicate-add (suc n) m i = let number : suc n + m ≡ suc (n + m) = omega (arith) in ap (λ k. replicate k i) number ∙ ap (λ xs. i ∷ xs) (replicate-add n m i)
+replicate-add (suc n) m i = let number : suc n + m ≡ suc (n + m) = omega (arith) in ap (λ k. replicate k i) number
+    ∙ ap (λ xs. i ∷ xs) (replicate-add n m i)
 
 pub still_again : (e : Env) (w : World) (i n : ℕ) → turn e w i ≡ w → turns e w (replicate n i) ≡ w
 still_again e w i zero still = refl
@@ -67,7 +71,8 @@ threads-add i zero m =
 threads-add i (suc n) m =
     let number : suc n + m ≡ suc (n + m) = omega (arith) in
     let start : (i + 1) + n ≡ i + suc n = omega (arith) in
-    ap (threads_from i) number ∙ ap (λ xs. i ∷ xs) (threads-add (i + 1) n m ∙ ap (λ k. threads_from (i + 1) n ++ threads_from k m) start)
+    ap (threads_from i) number ∙ ap (λ xs. i ∷ xs) (threads-add (i + 1) n m
+    ∙ ap (λ k. threads_from (i + 1) n ++ threads_from k m) start)
 
 -- rounds
 
@@ -77,7 +82,8 @@ rounds_more e w (suc n) = rounds_more e (round e w) n
 
 pub rounds-add : (e : Env) (w : World) (n m : ℕ) → rounds e w (n + m) ≡ rounds e (rounds e w n) m
 rounds-add e w zero m = let number : 0 + m ≡ m = omega (arith) in ap (rounds e w) number
-rounds-add e w (suc n) m = let number : suc n + m ≡ suc (n + m) = omega (arith) in ap (rounds e w) number ∙ rounds-add e (round e w) n m
+rounds-add e w (suc n) m = let number : suc n + m ≡ suc (n + m) = omega (arith) in ap (rounds e w) number
+    ∙ rounds-add e (round e w) n m
 
 pub still_rounds : (e : Env) (w : World) (n : ℕ) → round e w ≡ w → rounds e w n ≡ w
 still_rounds e w zero still = refl
@@ -111,13 +117,16 @@ rounds_length e w (suc n) = rounds_length e (round e w) n ∙ turns_length e w (
 pub turn_more : (e : Env) (w : World) (i k : ℕ) → turn e (turns e w (replicate k i)) i ≡ turns e w (replicate (k + 1) i)
 turn_more e w i k =
     let number : suc k ≡ k + 1 = omega (arith) in
-    sym (turns-append e w (replicate k i) (i ∷ [])) ∙ ap (turns e w) (sym (replicate_more k i)) ∙ ap (λ n. turns e w (replicate n i)) number
+    sym (turns-append e w (replicate k i) (i ∷ [])) ∙ ap (turns e w) (sym (replicate_more k i))
+    ∙ ap (λ n. turns e w (replicate n i)) number
 
-pub thread_more : (e : Env) (w : World) (k : ℕ) → turn e (turns e w (threads_from 0 k)) k ≡ turns e w (threads_from 0 (k + 1))
+pub thread_more : (e : Env) (w : World) (k : ℕ) → turn e (turns e w (threads_from 0 k)) k ≡ turns e w
+    (threads_from 0 (k + 1))
 thread_more e w k =
     let number : suc k ≡ k + 1 = omega (arith) in
     let last : k ≡ 0 + k = omega (arith) in
-    sym (turns-append e w (threads_from 0 k) (k ∷ [])) ∙ ap (λ n. turns e w (threads_from 0 k ++ n ∷ [])) last ∙ ap (turns e w) (sym (threads_more 0 k))
+    sym (turns-append e w (threads_from 0 k) (k ∷ [])) ∙ ap (λ n. turns e w (threads_from 0 k ++ n ∷ [])) last
+    ∙ ap (turns e w) (sym (threads_more 0 k))
     ∙ ap (λ n. turns e w (threads_from 0 n)) number
 
 pub round_more : (e : Env) (w : World) (k : ℕ) → round e (rounds e w k) ≡ rounds e w (k + 1)
@@ -125,14 +134,17 @@ round_more e w k = let number : suc k ≡ k + 1 = omega (arith) in sym (rounds_m
 
 -- all that are left, where one changes nothing
 
-pub turns_still : (e : Env) (w : World) (i k count : ℕ) → k ≤ count → turn e (turns e w (replicate k i)) i ≡ turns e w (replicate k i) →
+pub turns_still : (e : Env) (w : World) (i k count : ℕ) → k ≤ count →
+    turn e (turns e w (replicate k i)) i ≡ turns e w (replicate k i) →
     turns e w (replicate k i) ≡ turns e w (replicate count i)
 turns_still e w i k count within still =
     let number : k + (count - k) ≡ count = omega (arith, within) in
-    sym (still_again e (turns e w (replicate k i)) i (count - k) still) ∙ sym (turns-append e w (replicate k i) (replicate (count - k) i))
+    sym (still_again e (turns e w (replicate k i)) i (count - k) still)
+    ∙ sym (turns-append e w (replicate k i) (replicate (count - k) i))
     ∙ ap (turns e w) (sym (replicate-add k (count - k) i)) ∙ ap (λ n. turns e w (replicate n i)) number
 
-pub rounds_still : (e : Env) (w : World) (k count : ℕ) → k ≤ count → round e (rounds e w k) ≡ rounds e w k → rounds e w k ≡ rounds e w count
+pub rounds_still : (e : Env) (w : World) (k count : ℕ) → k ≤ count → round e (rounds e w k) ≡ rounds e w k →
+    rounds e w k ≡ rounds e w count
 rounds_still e w k count within still =
     let number : k + (count - k) ≡ count = omega (arith, within) in
     sym (still_rounds e (rounds e w k) (count - k) still) ∙ sym (rounds-add e w k (count - k)) ∙ ap (rounds e w) number
@@ -140,14 +152,23 @@ rounds_still e w k count within still =
 -- where turns were cut off
 
 pub turns_cut : (e : Env) (w : World) (i k count : ℕ) (P : World → Type 0) → k < count → P (turns e w (replicate k i)) →
-    MayWantMemory (activations_of (turns e w (replicate k i)) i) (state_of e (turns e w (replicate k i)) i) → AfterSome e w (replicate count i) P
+    MayWantMemory (activations_of (turns e w (replicate k i)) i) (state_of e (turns e w (replicate k i)) i) →
+    AfterSome e w (replicate count i) P
 turns_cut e w i k count P within h wants =
     let left = count - (k + 1) in
-    let number : k + suc left ≡ count = omega (arith, within) in
-    (replicate k i, replicate (suc left) i, sym (replicate-add k (suc left) i) ∙ ap (λ n. replicate n i) number, h, wants)
+    let number : k + suc left ≡ count = omega (arith, within) in (
+      replicate k i,
+      replicate (suc left) i,
+      sym (replicate-add k (suc left) i)
+          ∙ ap (λ n. replicate n i) number,
+      h,
+      wants,
+    )
 
-pub threads_cut : (e : Env) (w : World) (k count : ℕ) (P : World → Type 0) → k < count → P (turns e w (threads_from 0 k)) →
-    MayWantMemory (activations_of (turns e w (threads_from 0 k)) k) (state_of e (turns e w (threads_from 0 k)) k) → AfterSome e w (threads_from 0 count) P
+pub threads_cut : (e : Env) (w : World) (k count : ℕ) (P : World → Type 0) → k < count →
+    P (turns e w (threads_from 0 k)) →
+    MayWantMemory (activations_of (turns e w (threads_from 0 k)) k) (state_of e (turns e w (threads_from 0 k)) k) →
+    AfterSome e w (threads_from 0 count) P
 threads_cut e w k count P within h wants =
     let v = turns e w (threads_from 0 k) in
     let left = count - (k + 1) in
@@ -164,18 +185,21 @@ next_with : (e : Env) (w : World) (left rest : List ℕ) → NextMayWant e w lef
 next_with e w [] rest h = absurd h
 next_with e w (i ∷ left) rest h = h
 
-pub rounds_cut : (e : Env) (w : World) (k count : ℕ) (P : World → Type 0) → k < count → AfterSome e (rounds e w k) (threads_from 0 (length (rounds e w k).threads)) P → AfterSomeRounds e w count P
+pub rounds_cut : (e : Env) (w : World) (k count : ℕ) (P : World → Type 0) → k < count →
+    AfterSome e (rounds e w k) (threads_from 0 (length (rounds e w k).threads)) P → AfterSomeRounds e w count P
 rounds_cut e w k count P within h =
     let same : length (rounds e w k).threads ≡ length w.threads = rounds_length e w k in
     (k, within, subst (λ n. AfterSome e (rounds e w k) (threads_from 0 n) P) same h)
 
-pub schedule_cut : (e : Env) (w : World) (done turn rest all : List ℕ) (P : World → Type 0) → done ++ (turn ++ rest) ≡ all → AfterSome e (turns e w done) turn P → AfterSome e w all P
+pub schedule_cut : (e : Env) (w : World) (done turn rest all : List ℕ) (P : World → Type 0) →
+    done ++ (turn ++ rest) ≡ all → AfterSome e (turns e w done) turn P → AfterSome e w all P
 schedule_cut e w done turn rest all P is cut =
     let (some, left, parts, h, wants) = cut in
     let behind = sym (turns-append e w done some) in (
       done ++ some,
       left ++ rest,
-      append_assoc done some (left ++ rest) ∙ ap (λ xs. done ++ xs) (sym (append_assoc some left rest) ∙ ap (λ xs. xs ++ rest) parts) ∙ is,
+      append_assoc done some (left ++ rest) ∙ ap (λ xs. done ++ xs)
+          (sym (append_assoc some left rest) ∙ ap (λ xs. xs ++ rest) parts) ∙ is,
       subst P behind h,
       subst (λ v. NextMayWant e v (left ++ rest)) behind (next_with e (turns e (turns e w done) some) left rest wants),
     )

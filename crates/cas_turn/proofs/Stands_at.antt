@@ -24,32 +24,36 @@ use Rattle.cas_world.specs.Turns.{State, running, waits, bad, at_lock, at_step, 
 
 -- a thread that hasn't ended continues
 
-newest_of : (activations : List Activation) → activations ≢ [] → (a : Activation) × (older : List Activation) × (activations ≡ a ∷ older)
+newest_of : (activations : List Activation) → activations ≢ [] → (a : Activation) × (older : List Activation)
+    × (activations ≡ a ∷ older)
 newest_of [] goes_on = absurd (goes_on refl)
 newest_of (a ∷ older) goes_on = (a, older, refl)
 
 module _ (p : Program) (k : Config) where
   -- it is told that the thread hasn't ended
-  pub told_to_go_on : (b : Bool) → ((program : Program) (c : step.Config) → IsThread program k c → IsTrue b ↔ (c.activations ≡ [])) → b ≡ false →
+  pub told_to_go_on : (b : Bool) → ((program : Program) (c : step.Config) → IsThread program k c →
+      IsTrue b ↔ (c.activations ≡ [])) → b ≡ false →
       ForThread p k (λ ms c. c.activations ≢ [])
   told_to_go_on b told is = λ ms names c program thread none. let both : IsTrue b = (told p c thread).1 none in cc
 
-  module _ (ws : List ℕ) (hs : List (Option ℕ)) (there : ∥ IsThere p k ∥₁) (may : ForThread p k (λ ms c. ∥ MayTurn ws hs ms c ∥₁)) (goes_on : ForThread p k (λ ms c. c.activations ≢ [])) where
-    pub stands : ∥ CanStep p k ws ∥₁
-    stands = ∥∥₁_elim there ∥∥₁_prop (λ t. ∥∥₁_map (may t.modules t.names t.config t.program t.thread) (λ m.
-        let (a, older, is) = newest_of t.config.activations (goes_on t.modules t.names t.config t.program t.thread) in
-        record {
-          modules = t.modules;
-          names = t.names;
-          c = t.config;
-          newest = a;
-          older = older;
-          is_program = t.program;
-          is_thread = t.thread;
-          sound = m.sound;
-          words = m.words_fit;
-          going = is;
-        }))
+  module _ (ws : List ℕ) (hs : List (Option ℕ)) (there : ∥ IsThere p k ∥₁)
+      (may : ForThread p k (λ ms c. ∥ MayTurn ws hs ms c ∥₁)) (goes_on : ForThread p k (λ ms c. c.activations ≢ []))
+    where
+      pub stands : ∥ CanStep p k ws ∥₁
+      stands = ∥∥₁_elim there ∥∥₁_prop (λ t. ∥∥₁_map (may t.modules t.names t.config t.program t.thread) (λ m.
+          let (a, older, is) = newest_of t.config.activations (goes_on t.modules t.names t.config t.program t.thread) in
+          record {
+            modules = t.modules;
+            names = t.names;
+            c = t.config;
+            newest = a;
+            older = older;
+            is_program = t.program;
+            is_thread = t.thread;
+            sound = m.sound;
+            words = m.words_fit;
+            going = is;
+          }))
 
 -- what stands goes
 pub goes_from_stands : (p : Program) (k : Config) (ws : List ℕ) → ∥ CanStep p k ws ∥₁ → ∥ IsUnfinished p k ∥₁
@@ -71,7 +75,8 @@ some_unless None there = absurd (there refl)
 some_unless (Some x) there = (x, refl)
 
 -- the next step of a thread that continues
-pub next_step : (ws : List ℕ) (hs : List (Option ℕ)) (ms : List TypedModuleTree) (c : step.Config) → ∥ MayTurn ws hs ms c ∥₁ → c.activations ≢ [] →
+pub next_step : (ws : List ℕ) (hs : List (Option ℕ)) (ms : List TypedModuleTree) (c : step.Config) →
+    ∥ MayTurn ws hs ms c ∥₁ → c.activations ≢ [] →
     (s : Step) × (step.step (env_of ms) ws c ≡ Some s)
 next_step ws hs ms c may goes_on = some_unless (step.step (env_of ms) ws c) (λ none. ∥∥₁_elim may ⊥_prop (λ m.
     let (a, older, is) = newest_of c.activations goes_on in
@@ -102,7 +107,8 @@ lock_is_free (Some (Some i)) there free = absurd (cc free)
 abbrev pub IsFree : List (Option ℕ) → Act → Type 0
 IsFree hs a = (l : ℕ) → a ≡ act.Lock l → slice_get hs l ≡ Some None
 
-pub free_from : (ws : List ℕ) (hs : List (Option ℕ)) (ms : List TypedModuleTree) (c : step.Config) (s : Step) → ∥ MayTurn ws hs ms c ∥₁ → step.step (env_of ms) ws c ≡ Some s →
+pub free_from : (ws : List ℕ) (hs : List (Option ℕ)) (ms : List TypedModuleTree) (c : step.Config) (s : Step) →
+    ∥ MayTurn ws hs ms c ∥₁ → step.step (env_of ms) ws c ≡ Some s →
     ((l : ℕ) → s.act ≡ act.Lock l → holder_in (slice_get hs l) ≡ None) → IsFree hs s.act
 free_from ws hs ms c s may is free l takes = lock_is_free (slice_get hs l) (λ none. ∥∥₁_elim may ⊥_prop (λ m.
     let (holder, there) = m.locks l s is takes in
@@ -116,7 +122,8 @@ shown_free hs s (act.Unlock l) free = refl
 shown_free hs s (act.Out n) free = refl
 shown_free hs s act.Done free = refl
 
-runs : (hs : List (Option ℕ)) (s : Step) (a : Act) → IsFree hs a → ((why : Why) → a ≢ act.Bad why) → at_step hs s a ≡ running s
+runs : (hs : List (Option ℕ)) (s : Step) (a : Act) → IsFree hs a → ((why : Why) → a ≢ act.Bad why) →
+    at_step hs s a ≡ running s
 runs hs s (act.Lock l) free well = ap (at_lock s l) (free l refl)
 runs hs s (act.Bad why) free well = absurd (well why refl)
 runs hs s act.Quiet free well = refl
@@ -124,11 +131,13 @@ runs hs s (act.Unlock l) free well = refl
 runs hs s (act.Out n) free well = refl
 runs hs s act.Done free well = refl
 
-module _ (ws : List ℕ) (hs : List (Option ℕ)) (ms : List TypedModuleTree) (c : step.Config) (s : Step) (is : step.step (env_of ms) ws c ≡ Some s) where
+module _ (ws : List ℕ) (hs : List (Option ℕ)) (ms : List TypedModuleTree) (c : step.Config) (s : Step)
+    (is : step.step (env_of ms) ws c ≡ Some s) where
   at_its_step : state_in ws hs ms c ≡ at_step hs s s.act
   at_its_step = ap (at_next hs) is
 
-  pub waits_there : (l holder : ℕ) → s.act ≡ act.Lock l → slice_get hs l ≡ Some (Some holder) → state_in ws hs ms c ≡ waits l holder
+  pub waits_there : (l holder : ℕ) → s.act ≡ act.Lock l → slice_get hs l ≡ Some (Some holder) →
+      state_in ws hs ms c ≡ waits l holder
   waits_there l holder takes held = at_its_step ∙ ap (at_step hs s) takes ∙ ap (at_lock s l) held
 
   pub shown_there : IsFree hs s.act → state_shown (state_in ws hs ms c) ≡ free_shown s s.act
@@ -156,24 +165,35 @@ false_not false h f = tt
 
 -- where memory is taken
 
-pub begins_call : (activations : List Activation) → activations ≢ [] → ((a : Activation) (older : List Activation) → activations ≡ a ∷ older → FirstStatementIs IsCall a.cont) → BeginsCall activations
+pub begins_call : (activations : List Activation) → activations ≢ [] →
+    ((a : Activation) (older : List Activation) → activations ≡ a ∷ older → FirstStatementIs IsCall a.cont) →
+    BeginsCall activations
 begins_call [] goes_on calls = absurd (goes_on refl)
 begins_call (a ∷ older) goes_on calls = calls a older refl
 
-takes_call : (hs : List (Option ℕ)) (s : Step) (a : Act) (activations : List Activation) → a ≡ act.Quiet → BeginsCall activations → MayWantMemory activations (at_step hs s a)
-takes_call hs s a activations is begins = let P : State → Type 0 = MayWantMemory activations in subst P (sym (ap (at_step hs s) is)) (inl begins)
+takes_call : (hs : List (Option ℕ)) (s : Step) (a : Act) (activations : List Activation) → a ≡ act.Quiet →
+    BeginsCall activations → MayWantMemory activations (at_step hs s a)
+takes_call hs s a activations is begins = let P : State → Type 0 =
+    MayWantMemory activations in subst P (sym (ap (at_step hs s) is)) (inl begins)
 
-takes_out : (hs : List (Option ℕ)) (s : Step) (a : Act) (activations : List Activation) (n : ℕ) → s.act ≡ act.Out n → a ≡ act.Out n → MayWantMemory activations (at_step hs s a)
-takes_out hs s a activations n out is = let P : State → Type 0 = MayWantMemory activations in subst P (sym (ap (at_step hs s) is)) (inr (n, out))
+takes_out : (hs : List (Option ℕ)) (s : Step) (a : Act) (activations : List Activation) (n : ℕ) → s.act ≡ act.Out n →
+    a ≡ act.Out n → MayWantMemory activations (at_step hs s a)
+takes_out hs s a activations n out is = let P : State → Type 0 =
+    MayWantMemory activations in subst P (sym (ap (at_step hs s) is)) (inr (n, out))
 
-module _ (ws : List ℕ) (hs : List (Option ℕ)) (ms : List TypedModuleTree) (c : step.Config) (s : Step) (is : step.step (env_of ms) ws c ≡ Some s) where
+module _ (ws : List ℕ) (hs : List (Option ℕ)) (ms : List TypedModuleTree) (c : step.Config) (s : Step)
+    (is : step.step (env_of ms) ws c ≡ Some s) where
   pub call_there : s.act ≡ act.Quiet → BeginsCall c.activations → MayWantMemory c.activations (state_in ws hs ms c)
-  call_there quiet begins = let P : State → Type 0 = MayWantMemory c.activations in subst P (sym (at_its_step ws hs ms c s is)) (takes_call hs s s.act c.activations quiet begins)
+  call_there quiet begins = let P : State → Type 0 = MayWantMemory c.activations in
+      subst P (sym (at_its_step ws hs ms c s is)) (takes_call hs s s.act c.activations quiet begins)
 
   pub out_there : (n : ℕ) → s.act ≡ act.Out n → MayWantMemory c.activations (state_in ws hs ms c)
-  out_there n out = let P : State → Type 0 = MayWantMemory c.activations in subst P (sym (at_its_step ws hs ms c s is)) (takes_out hs s s.act c.activations n out out)
+  out_there n out = let P : State → Type 0 = MayWantMemory c.activations in
+      subst P (sym (at_its_step ws hs ms c s is)) (takes_out hs s s.act c.activations n out out)
 
 -- what is answered of a Bad step
-pub answers_bad : (activations : List Activation) (st : State) (a : WorldAnswer) (why : Why) (unit : ℕ) (place : Place) →
+pub answers_bad : (activations : List Activation) (st : State) (a : WorldAnswer) (why : Why) (unit : ℕ) (place : Place)
+    →
     a ≡ answer.Bad why unit place → st ≡ bad why unit place → Answers activations st a
-answers_bad activations st a why unit place is h = let P : WorldAnswer → Type 0 = λ x. Answers activations st x in subst P (sym is) h
+answers_bad activations st a why unit place is h = let P : WorldAnswer → Type 0 =
+    λ x. Answers activations st x in subst P (sym is) h

@@ -7,4 +7,5 @@ use Rattle.cas_turn.specs.declared.world.World.{World}
 
 -- the world of the code is this world of the program with these modules and entries
 abbrev pub IsWorldOf : World → List TypedModuleTree → (names : List (List ℕ)) → definition.World → Type 0
-IsWorldOf world modules names w = AreWorldOf world.program world.threads.items world.shared.words.items world.holders.items world.out.items modules names w
+IsWorldOf world modules names w = AreWorldOf world.program world.threads.items world.shared.words.items
+    world.holders.items world.out.items modules names w

@@ -76,8 +76,11 @@ fn run(
         (λ s. (l : ℕ) → s.act ≡ Act.Lock l → holder_in (slice_get holders.old l) ≡ None) }
     ensures taken { OnOk result (ForThread program.now config.old
         (λ ms c. IsRunning (state_in shared.old.words.items holders.old ms c)
-        (λ s. IsAfter program.now thread holders.old out.old.items s config.new shared.new.words.items holders.new out.new.items))) }
-    ensures unmoved { OnErr result (ForThread program.now config.old (λ _ c. IsUnmoved program.now c shared.old.words.items holders.old out.old.items config.new shared.new.words.items holders.new out.new.items)) }
+        (λ s. IsAfter program.now thread holders.old out.old.items s config.new shared.new.words.items holders.new
+        out.new.items))) }
+    ensures unmoved { OnErr result (ForThread program.now config.old
+        (λ _ c. IsUnmoved program.now c shared.old.words.items holders.old out.old.items config.new
+        shared.new.words.items holders.new out.new.items)) }
     ensures answer { IfErr result (λ answer. ForThread program.now config.old
         (λ ms c. Answers c.activations (state_in shared.old.words.items holders.old ms c) answer)) }
 {
@@ -109,8 +112,11 @@ pub(crate) fn turn(
     requires may { ForThread program.now config.old (λ ms c. ∥ MayTurn shared.old.words.items holders.old ms c ∥₁) }
     ensures taken { OnOk result (ForThread program.now config.old
         (λ ms c. IsRunning (state_in shared.old.words.items holders.old ms c)
-        (λ s. IsAfter program.now thread holders.old out.old.items s config.new shared.new.words.items holders.new out.new.items))) }
-    ensures unmoved { OnErr result (ForThread program.now config.old (λ _ c. IsUnmoved program.now c shared.old.words.items holders.old out.old.items config.new shared.new.words.items holders.new out.new.items)) }
+        (λ s. IsAfter program.now thread holders.old out.old.items s config.new shared.new.words.items holders.new
+        out.new.items))) }
+    ensures unmoved { OnErr result (ForThread program.now config.old
+        (λ _ c. IsUnmoved program.now c shared.old.words.items holders.old out.old.items config.new
+        shared.new.words.items holders.new out.new.items)) }
     ensures answer { IfErr result (λ answer. ForThread program.now config.old
         (λ ms c. Answers c.activations (state_in shared.old.words.items holders.old ms c) answer)) }
 {

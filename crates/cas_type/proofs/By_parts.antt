@@ -28,13 +28,15 @@ refuses_sooner (At code place name) f g h = ap (λ o. sooner o g) h
 refuses_sooner (Limit place what n) f g h = ap (λ o. sooner o g) h
 
 -- a fault that is answered comes before what is next
-pub fails_unless : {B : Type 0} (e : TypeFault) (f : Option Fault) (next : Result B Fault) → Refuses e f → Fails e (unless f next)
+pub fails_unless : {B : Type 0} (e : TypeFault) (f : Option Fault) (next : Result B Fault) → Refuses e f →
+    Fails e (unless f next)
 fails_unless Memory f next h = tt
 fails_unless (At code place name) f next h = ap (λ o. unless o next) h
 fails_unless (Limit place what n) f next h = ap (λ o. unless o next) h
 
 -- a walk's fault that is answered comes before what is next
-pub fails_then : {A B : Type 0} (e : TypeFault) (walked : Result A Fault) (next : A → Result B Fault) → Fails e walked → Fails e (then_ walked next)
+pub fails_then : {A B : Type 0} (e : TypeFault) (walked : Result A Fault) (next : A → Result B Fault) → Fails e walked →
+    Fails e (then_ walked next)
 fails_then Memory walked next h = tt
 fails_then (At code place name) walked next h = ap (λ o. then_ o next) h
 fails_then (Limit place what n) walked next h = ap (λ o. then_ o next) h

@@ -34,12 +34,14 @@ or_false : (a : Bool) → (a || false) ≡ a
 or_false true = refl
 or_false false = refl
 
-shown_all : (ms : List ℕ) (f : ℕ → Bool) (k : ℕ) → marked_all ms (shown f 0 k) ≡ shown (λ j. f j || list_any (λ m. m == j) ms) 0 k
+shown_all : (ms : List ℕ) (f : ℕ → Bool) (k : ℕ) → marked_all ms (shown f 0 k) ≡ shown
+    (λ j. f j || list_any (λ m. m == j) ms) 0 k
 shown_all [] f k = shown_same f (λ j. f j || false) 0 k (λ j. sym (or_false (f j)))
 shown_all (m ∷ ms) f k =
     ap (marked_all ms) (shown_marked f m 0 k)
     ∙ shown_all ms (λ j. f j || (m == j)) k
-    ∙ shown_same (λ j. (f j || (m == j)) || list_any (λ m. m == j) ms) (λ j. f j || list_any (λ m. m == j) (m ∷ ms)) 0 k (λ j. or_assoc (f j) (m == j) (list_any (λ m. m == j) ms))
+    ∙ shown_same (λ j. (f j || (m == j)) || list_any (λ m. m == j) ms) (λ j. f j || list_any (λ m. m == j) (m ∷ ms)) 0 k
+    (λ j. or_assoc (f j) (m == j) (list_any (λ m. m == j) ms))
 
 shown_none : (n k : ℕ) → replicate k false ≡ shown (λ j. false) n k
 shown_none n zero = refl
@@ -54,11 +56,13 @@ pub marks_are : (ms : List ℕ) (k : ℕ) → marked_all ms (replicate k false) 
 marks_are ms k = ap (marked_all ms) (shown_none 0 k) ∙ shown_all ms (λ j. false) k ∙ shown_marks ms 0 k
 
 -- locals with the marks of those whose pointers the body makes
-pub locals_marked : (bs : TypedStmtList) (ms : List ℕ) (n first : ℕ) (tys : List Ty) → ((j : ℕ) → list_any (λ m. m == j) ms ≡ list_makes_pointer j bs)
+pub locals_marked : (bs : TypedStmtList) (ms : List ℕ) (n first : ℕ) (tys : List Ty) →
+    ((j : ℕ) → list_any (λ m. m == j) ms ≡ list_makes_pointer j bs)
     → marked_locals (marks_of ms n (length tys)) first tys ≡ locals_in bs n first tys
 locals_marked bs ms n first [] h = refl
 locals_marked bs ms n first (ty ∷ tys) h =
-    λ i. record { ty = ty; first = first; addressed = h n i } ∷ locals_marked bs ms (n + 1) (first + words_of_ty ty) tys h i
+    λ i. record { ty = ty; first = first; addressed = h n i } ∷ locals_marked bs ms (n + 1) (first + words_of_ty ty)
+    tys h i
 
 -- one number
 
@@ -93,9 +97,11 @@ marked_here : (m n : ℕ) (bs : List Bool) (k : ℕ) → k < length bs → m ≡
 marked_here m n [] k h e = absurd (omega arith)
 marked_here m n (b ∷ bs) zero h e =
     let here : m ≡ n = omega arith in
-    λ i. sym (ap (λ c. b || c) (ap (λ x. x == n) here ∙ same n) ∙ or_true b) i ∷ sym (marked_past m (n + 1) bs (omega arith)) i
+    λ i. sym (ap (λ c. b || c) (ap (λ x. x == n) here ∙ same n) ∙ or_true b) i ∷ sym
+    (marked_past m (n + 1) bs (omega arith)) i
 marked_here m n (b ∷ bs) (suc k) h e =
-    λ i. sym (or_false_too b (m == n) (differ_before m n (omega arith))) i ∷ marked_here m (n + 1) bs k (omega arith) (omega arith) i
+    λ i. sym (or_false_too b (m == n) (differ_before m n (omega arith))) i ∷ marked_here m (n + 1) bs k (omega arith)
+    (omega arith) i
 
 -- a number among those that are there is marked
 pub marked_there : (m : ℕ) (bs : List Bool) → m < length bs → set bs m true ≡ marked m 0 bs
@@ -108,5 +114,6 @@ marked_away m bs h = marked_behind m 0 bs (omega arith)
 pub filled_step : {A : Type 0} (x : A) (xs : List A) (count : ℕ) → length xs < count
     → (xs ++ x ∷ []) ++ replicate (count - length (xs ++ x ∷ [])) x ≡ xs ++ replicate (count - length xs) x
 filled_step x xs count h =
-    let n : count - length xs ≡ suc (count - length (xs ++ x ∷ [])) = let e = length-append xs (x ∷ []) in omega (arith, e) in
+    let n : count - length xs ≡ suc (count - length (xs ++ x ∷ [])) = let e =
+    length-append xs (x ∷ []) in omega (arith, e) in
     append_assoc xs (x ∷ []) (replicate (count - length (xs ++ x ∷ [])) x) ∙ ap (λ k. xs ++ replicate k x) (sym n)

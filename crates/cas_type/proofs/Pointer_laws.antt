@@ -78,24 +78,31 @@ target_law n (t.to_behind k a) = expr_law n a
 
 -- what the code's rows hold
 
-expr_at : (n : ℕ) (a : TypedExprTree) (a' : TypedExpr) → typed_expr_tree a' ≡ a → makes_pointer n a ≡ among n (pointers_of (typed_expr_tree a'))
+expr_at : (n : ℕ) (a : TypedExprTree) (a' : TypedExpr) → typed_expr_tree a' ≡ a →
+    makes_pointer n a ≡ among n (pointers_of (typed_expr_tree a'))
 expr_at n a a' h = sym (ap (makes_pointer n) h) ∙ expr_law n (typed_expr_tree a')
 
-target_at : (n : ℕ) (a : TypedTargetTree) (a' : TypedTarget) → typed_target_tree a' ≡ a → target_makes_pointer n a ≡ among n (pointers_of_target (typed_target_tree a'))
+target_at : (n : ℕ) (a : TypedTargetTree) (a' : TypedTarget) → typed_target_tree a' ≡ a →
+    target_makes_pointer n a ≡ among n (pointers_of_target (typed_target_tree a'))
 target_at n a a' h = sym (ap (target_makes_pointer n) h) ∙ target_law n (typed_target_tree a')
 
-optional_law : (n : ℕ) (a' : Option TypedExpr) → option_makes_pointer n (optional_expr_tree a') ≡ among n (pointers_of_optional a')
+optional_law : (n : ℕ) (a' : Option TypedExpr) → option_makes_pointer n (optional_expr_tree a') ≡ among n
+    (pointers_of_optional a')
 optional_law n None = refl
 optional_law n (Some a) = expr_law n (typed_expr_tree a)
 
-optional_at : (n : ℕ) (a : Option TypedExprTree) (a' : Option TypedExpr) → optional_expr_tree a' ≡ a → option_makes_pointer n a ≡ among n (pointers_of_optional a')
+optional_at : (n : ℕ) (a : Option TypedExprTree) (a' : Option TypedExpr) → optional_expr_tree a' ≡ a →
+    option_makes_pointer n a ≡ among n (pointers_of_optional a')
 optional_at n a a' h = sym (ap (option_makes_pointer n) h) ∙ optional_law n a'
 
-exprs_law : (n : ℕ) (args : List TypedExpr) → list_any (makes_pointer n) (map typed_expr_tree args) ≡ among n (pointers_of_exprs args)
+exprs_law : (n : ℕ) (args : List TypedExpr) → list_any (makes_pointer n) (map typed_expr_tree args) ≡ among n
+    (pointers_of_exprs args)
 exprs_law n [] = refl
-exprs_law n (a ∷ args) = two n _ _ (pointers_of (typed_expr_tree a)) (pointers_of_exprs args) (expr_law n (typed_expr_tree a)) (exprs_law n args)
+exprs_law n (a ∷ args) = two n _ _ (pointers_of (typed_expr_tree a)) (pointers_of_exprs args)
+    (expr_law n (typed_expr_tree a)) (exprs_law n args)
 
-exprs_at : (n : ℕ) (args : List TypedExprTree) (args' : List TypedExpr) → map typed_expr_tree args' ≡ args → list_any (makes_pointer n) args ≡ among n (pointers_of_exprs args')
+exprs_at : (n : ℕ) (args : List TypedExprTree) (args' : List TypedExpr) → map typed_expr_tree args' ≡ args →
+    list_any (makes_pointer n) args ≡ among n (pointers_of_exprs args')
 exprs_at n args args' h = sym (ap (list_any (makes_pointer n)) h) ∙ exprs_law n args'
 
 -- rows one after another
@@ -109,7 +116,8 @@ abbrev made_in : ℕ → List StmtRow → (first count : ℕ) → Bool
 made_in n rows i zero = false
 made_in n rows i (suc k) = made_at n (slice_get rows i) || made_in n rows (i + 1) k
 
-made_in-add : (n : ℕ) (rows : List StmtRow) (i j k : ℕ) → made_in n rows i (j + k) ≡ (made_in n rows i j || made_in n rows (i + j) k)
+made_in-add : (n : ℕ) (rows : List StmtRow) (i j k : ℕ) →
+    made_in n rows i (j + k) ≡ (made_in n rows i j || made_in n rows (i + j) k)
 made_in-add n rows i zero k =
     let here : i + 0 ≡ i = omega arith in
     let none : 0 + k ≡ k = omega arith in
@@ -118,7 +126,8 @@ made_in-add n rows i (suc j) k =
     let more : suc j + k ≡ suc (j + k) = omega arith in
     let there : i + 1 + j ≡ i + suc j = omega arith in
     ap (made_in n rows i) more
-    ∙ ap (λ b. made_at n (slice_get rows i) || b) (made_in-add n rows (i + 1) j k ∙ ap (λ x. made_in n rows (i + 1) j || made_in n rows x k) there)
+    ∙ ap (λ b. made_at n (slice_get rows i) || b) (made_in-add n rows (i + 1) j k
+    ∙ ap (λ x. made_in n rows (i + 1) j || made_in n rows x k) there)
     ∙ sym (or_assoc (made_at n (slice_get rows i)) (made_in n rows (i + 1) j) (made_in n rows (i + suc j) k))
 
 -- the rows of a statement after its first
@@ -159,33 +168,41 @@ from_row : (n : ℕ) (rows : List StmtRow) (i : ℕ) (a : TypedStmtTree) (r : St
     → stmt_makes_pointer n a ≡ (among n (pointers_of_row r.form) || made_in n rows (i + 1) (inner_of a))
     → stmt_makes_pointer n a ≡ made_in n rows i (size_of a)
 from_row n rows i a r there h =
-    h ∙ ap (λ o. made_at n o || made_in n rows (i + 1) (inner_of a)) (sym there) ∙ sym (ap (made_in n rows i) (size_inner a))
+    h ∙ ap (λ o. made_at n o || made_in n rows (i + 1) (inner_of a)) (sym there)
+    ∙ sym (ap (made_in n rows i) (size_inner a))
 
 plain : (a b : Bool) → a ≡ b → a ≡ (b || false)
 plain a b h = h ∙ sym (or_false b)
 
 mutual
-  stmt_law : (n : ℕ) (rows : List StmtRow) (i : ℕ) (a : TypedStmtTree) (q : Place) (f : StmtRowForm) → IsRow rows i a q f
+  stmt_law : (n : ℕ) (rows : List StmtRow) (i : ℕ) (a : TypedStmtTree) (q : Place) (f : StmtRowForm) →
+      IsRow rows i a q f
       → stmt_makes_pointer n a ≡ (among n (pointers_of_row f) || made_in n rows (i + 1) (inner_of a))
   stmt_law n rows i (skip p) q row.Skip h = refl
   stmt_law n rows i (assign p target a) q (row.Assign target' a') h =
-      plain _ _ (two n _ _ (pointers_of_target (typed_target_tree target')) (pointers_of (typed_expr_tree a')) (target_at n target target' h.1) (expr_at n a a' h.2))
+      plain _ _ (two n _ _ (pointers_of_target (typed_target_tree target')) (pointers_of (typed_expr_tree a'))
+      (target_at n target target' h.1) (expr_at n a a' h.2))
   stmt_law n rows i (call p kept g at args) q (row.Call kept' g' at' args') h = plain _ _ (exprs_at n args args' h.4)
   stmt_law n rows i (block p bs) q (row.Block ns) h = list_law n rows (i + 1) bs ns h.1
   stmt_law n rows i (if_ p c a o) q (row.If c' j k) h =
       both (expr_at n c c' h.1)
-      (both (from_row n rows j a h.3.0 h.3.1 (stmt_law n rows j a h.3.0.place h.3.0.form h.3.2) ∙ ap (λ x. made_in n rows x (size_of a)) h.2) (part_law n rows (i + 1 + size_of a) o k h.4)
+      (both (from_row n rows j a h.3.0 h.3.1 (stmt_law n rows j a h.3.0.place h.3.0.form h.3.2)
+      ∙ ap (λ x. made_in n rows x (size_of a)) h.2) (part_law n rows (i + 1 + size_of a) o k h.4)
       ∙ sym (made_in-add n rows (i + 1) (size_of a) (size_of_option o)))
   stmt_law n rows i (while_ p c a) q (row.While c' j) h =
-      both (expr_at n c c' h.1) (from_row n rows j a h.3.0 h.3.1 (stmt_law n rows j a h.3.0.place h.3.0.form h.3.2) ∙ ap (λ x. made_in n rows x (size_of a)) h.2)
+      both (expr_at n c c' h.1) (from_row n rows j a h.3.0 h.3.1 (stmt_law n rows j a h.3.0.place h.3.0.form h.3.2)
+      ∙ ap (λ x. made_in n rows x (size_of a)) h.2)
   stmt_law n rows i (do_ p a c) q (row.Do j c') h =
       or_comm (stmt_makes_pointer n a) (makes_pointer n c)
-      ∙ both (expr_at n c c' h.3) (from_row n rows j a h.2.0 h.2.1 (stmt_law n rows j a h.2.0.place h.2.0.form h.2.2) ∙ ap (λ x. made_in n rows x (size_of a)) h.1)
+      ∙ both (expr_at n c c' h.3) (from_row n rows j a h.2.0 h.2.1 (stmt_law n rows j a h.2.0.place h.2.0.form h.2.2)
+      ∙ ap (λ x. made_in n rows x (size_of a)) h.1)
   stmt_law n rows i (for_ p first c u a) q (row.For j c' k b) h =
       or_past (part_makes_pointer n first) (option_makes_pointer n c) (part_makes_pointer n u || stmt_makes_pointer n a)
       ∙ both (optional_at n c c' h.2)
       (both (part_law n rows (i + 1) first j h.1)
-      (both (part_law n rows (i + 1 + size_of_option first) u k h.3) (from_row n rows b a h.5.0 h.5.1 (stmt_law n rows b a h.5.0.place h.5.0.form h.5.2) ∙ ap (λ x. made_in n rows x (size_of a)) h.4)
+      (both (part_law n rows (i + 1 + size_of_option first) u k h.3)
+      (from_row n rows b a h.5.0 h.5.1 (stmt_law n rows b a h.5.0.place h.5.0.form h.5.2)
+      ∙ ap (λ x. made_in n rows x (size_of a)) h.4)
       ∙ sym (made_in-add n rows (i + 1 + size_of_option first) (size_of_option u) (size_of a)))
       ∙ sym (made_in-add n rows (i + 1) (size_of_option first) (size_of_option u + size_of a)))
   stmt_law n rows i (break_ p) q row.Break h = refl
@@ -196,27 +213,33 @@ mutual
   stmt_law n rows i (print p a) q (row.Print a') h = plain _ _ (expr_at n a a' h.1)
   stmt_law n rows i _ q _ h = absurd h
 
-  part_law : (n : ℕ) (rows : List StmtRow) (i : ℕ) (o : TypedStmtOption) (j : Option ℕ) → IsPartRow rows i o j → part_makes_pointer n o ≡ made_in n rows i (size_of_option o)
+  part_law : (n : ℕ) (rows : List StmtRow) (i : ℕ) (o : TypedStmtOption) (j : Option ℕ) → IsPartRow rows i o j →
+      part_makes_pointer n o ≡ made_in n rows i (size_of_option o)
   part_law n rows i absent None h = refl
-  part_law n rows i (present a) (Some j) h = from_row n rows j a h.1.0 h.1.1 (stmt_law n rows j a h.1.0.place h.1.0.form h.1.2) ∙ ap (λ x. made_in n rows x (size_of a)) h.0
+  part_law n rows i (present a) (Some j) h = from_row n rows j a h.1.0 h.1.1
+      (stmt_law n rows j a h.1.0.place h.1.0.form h.1.2) ∙ ap (λ x. made_in n rows x (size_of a)) h.0
   part_law n rows i absent (Some j) h = absurd h
   part_law n rows i (present a) None h = absurd h
 
-  list_law : (n : ℕ) (rows : List StmtRow) (i : ℕ) (bs : TypedStmtList) (ns : List ℕ) → AreRows rows i bs ns → list_makes_pointer n bs ≡ made_in n rows i (size_of_list bs)
+  list_law : (n : ℕ) (rows : List StmtRow) (i : ℕ) (bs : TypedStmtList) (ns : List ℕ) → AreRows rows i bs ns →
+      list_makes_pointer n bs ≡ made_in n rows i (size_of_list bs)
   list_law n rows i no_more [] h = refl
   list_law n rows i (one_more a bs) (j ∷ js) h =
-      both (from_row n rows j a h.1.0 h.1.1 (stmt_law n rows j a h.1.0.place h.1.0.form h.1.2) ∙ ap (λ x. made_in n rows x (size_of a)) h.0) (list_law n rows (i + size_of a) bs js h.2)
+      both (from_row n rows j a h.1.0 h.1.1 (stmt_law n rows j a h.1.0.place h.1.0.form h.1.2)
+      ∙ ap (λ x. made_in n rows x (size_of a)) h.0) (list_law n rows (i + size_of a) bs js h.2)
       ∙ sym (made_in-add n rows i (size_of a) (size_of_list bs))
   list_law n rows i no_more (j ∷ js) h = absurd h
   list_law n rows i (one_more a bs) [] h = absurd h
 
 -- all rows
 
-seam : (before : List StmtRow) (r : StmtRow) (rows : List StmtRow) → slice_get (before ++ r ∷ rows) (length before) ≡ Some r
+seam : (before : List StmtRow) (r : StmtRow) (rows : List StmtRow) →
+    slice_get (before ++ r ∷ rows) (length before) ≡ Some r
 seam [] r rows = refl
 seam (b ∷ before) r rows = seam before r rows
 
-rows_law : (n : ℕ) (before rows : List StmtRow) → made_in n (before ++ rows) (length before) (length rows) ≡ among n (pointers_of_rows rows)
+rows_law : (n : ℕ) (before rows : List StmtRow) → made_in n (before ++ rows) (length before) (length rows) ≡ among n
+    (pointers_of_rows rows)
 rows_law n before [] = refl
 rows_law n before (r ∷ rows) =
     let next : before ++ (r ∷ rows) ≡ (before ++ r ∷ []) ++ rows = sym (append_assoc before (r ∷ []) rows) in
@@ -226,7 +249,8 @@ rows_law n before (r ∷ rows) =
     ∙ sym (among-append n (pointers_of_row r.form) (pointers_of_rows rows))
 
 -- the rows make the pointers that the body makes
-pub pointers_law : (n : ℕ) (rows : List StmtRow) (bs : TypedStmtList) (ns : List ℕ) → AreRows rows 0 bs ns → length rows ≡ size_of_list bs
+pub pointers_law : (n : ℕ) (rows : List StmtRow) (bs : TypedStmtList) (ns : List ℕ) → AreRows rows 0 bs ns →
+    length rows ≡ size_of_list bs
     → list_any (λ m. m == n) (pointers_of_rows rows) ≡ list_makes_pointer n bs
 pointers_law n rows bs ns h size =
     sym (rows_law n [] rows) ∙ ap (made_in n rows 0) size ∙ sym (list_law n rows 0 bs ns h)

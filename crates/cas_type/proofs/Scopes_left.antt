@@ -16,13 +16,25 @@ counting s n = record s { count = s.count + n }
 forgotten-past : (s : Scope) (a : StmtTree) → forgotten (length s.block + length s.around) (past s a) ≡ past s a
 forgotten-past s a =
     let none : (length s.block + length s.around) - (length s.block + length s.around) ≡ 0 = omega arith in
-    λ i. record { block = drop (none i) s.block; around = s.around; decls = s.decls; count = s.count + length (locals_of a) }
+    λ i. record {
+      block = drop (none i) s.block;
+      around = s.around;
+      decls = s.decls;
+      count = s.count + length
+          (locals_of a);
+    }
 
 pub forgotten-after : (s : Scope) (a : StmtTree) → forgotten (length s.block + length s.around) (after s a) ≡ past s a
 forgotten-after s (skip p) = forgotten-past s (skip p)
 forgotten-after s (declare p ty x a) =
     let one : (suc (length s.block) + length s.around) - (length s.block + length s.around) ≡ 1 = omega arith in
-    λ i. record { block = drop (one i) (record { name = x.name; number = s.count; ty = ty } ∷ s.block); around = s.around; decls = s.decls; count = s.count + 1 }
+    λ i. record {
+      block = drop (one i) (record { name = x.name; number = s.count; ty = ty } ∷ s.block);
+      around =
+          s.around;
+      decls = s.decls;
+      count = s.count + 1;
+    }
 forgotten-after s (assign p target op a) = forgotten-past s (assign p target op a)
 forgotten-after s (call p x f args) = forgotten-past s (call p x f args)
 forgotten-after s (block p bs) = forgotten-past s (block p bs)
@@ -93,7 +105,8 @@ pub leaves-after_list : (s : Scope) (bs : StmtList) → Leaves s (after_list s b
 leaves-after_list s no_more = leaves-none s
 leaves-after_list s (one_more a bs) =
     leaves-locals s (after_list (after s a) bs) (locals_of a) (locals_of_list bs)
-    (leaves-then s (after s a) (after_list (after s a) bs) (length (locals_of a)) (length (locals_of_list bs)) (leaves-after s a) (leaves-after_list (after s a) bs))
+    (leaves-then s (after s a) (after_list (after s a) bs) (length (locals_of a)) (length (locals_of_list bs))
+    (leaves-after s a) (leaves-after_list (after s a) bs))
 
 -- out of a block
 pub outside-inside : (s t : Scope) (n : ℕ) → Leaves (inside s) t n → outside (length s.around) t ≡ counting s n
@@ -116,7 +129,8 @@ mark_within s t n h =
     omega arith
 
 -- behind both branches
-pub past-if : (s : Scope) (a : StmtTree) (o : StmtOption) (xs : List Ty) → xs ≡ locals_of a ++ locals_of_option o → past_option (past s a) o ≡ counting s (length xs)
+pub past-if : (s : Scope) (a : StmtTree) (o : StmtOption) (xs : List Ty) → xs ≡ locals_of a ++ locals_of_option o →
+    past_option (past s a) o ≡ counting s (length xs)
 past-if s a absent xs is =
     let size : length xs ≡ length (locals_of a ++ []) = ap length is in
     let total : length (locals_of a ++ []) ≡ length (locals_of a) + 0 = length-append (locals_of a) [] in
@@ -124,22 +138,28 @@ past-if s a absent xs is =
     λ i. record { block = s.block; around = s.around; decls = s.decls; count = count i }
 past-if s a (present b) xs is =
     let size : length xs ≡ length (locals_of a ++ locals_of b) = ap length is in
-    let total : length (locals_of a ++ locals_of b) ≡ length (locals_of a) + length (locals_of b) = length-append (locals_of a) (locals_of b) in
+    let total : length (locals_of a ++ locals_of b) ≡ length (locals_of a) + length (locals_of b) =
+    length-append (locals_of a) (locals_of b) in
     let count : s.count + length (locals_of a) + length (locals_of b) ≡ s.count + length xs = omega arith in
     λ i. record { block = s.block; around = s.around; decls = s.decls; count = count i }
 
 -- behind all parts of a `for`, within it
-pub leaves-for : (s : Scope) (i u : StmtOption) (a : StmtTree) (xs : List Ty) → xs ≡ locals_of_option i ++ (locals_of_option u ++ locals_of a)
+pub leaves-for : (s : Scope) (i u : StmtOption) (a : StmtTree) (xs : List Ty) →
+    xs ≡ locals_of_option i ++ (locals_of_option u ++ locals_of a)
     → Leaves s (past (past_option (after_option s i) u) a) (length xs)
 leaves-for s i u a xs is =
     let size : length xs ≡ length (locals_of_option i ++ (locals_of_option u ++ locals_of a)) = ap length is in
-    let total : length (locals_of_option i ++ (locals_of_option u ++ locals_of a)) ≡ length (locals_of_option i) + length (locals_of_option u ++ locals_of a) =
+    let total : length (locals_of_option i ++ (locals_of_option u ++ locals_of a)) ≡ length (locals_of_option i)
+    + length (locals_of_option u ++ locals_of a) =
     length-append (locals_of_option i) (locals_of_option u ++ locals_of a) in
-    let rest : length (locals_of_option u ++ locals_of a) ≡ length (locals_of_option u) + length (locals_of a) = length-append (locals_of_option u) (locals_of a) in
+    let rest : length (locals_of_option u ++ locals_of a) ≡ length (locals_of_option u) + length (locals_of a) =
+    length-append (locals_of_option u) (locals_of a) in
     let t = past_option (after_option s i) u in
     let steps : Leaves s (past t a) (length (locals_of_option i) + length (locals_of_option u) + length (locals_of a)) =
     leaves-then s t (past t a) (length (locals_of_option i) + length (locals_of_option u)) (length (locals_of a))
-    (leaves-then s (after_option s i) t (length (locals_of_option i)) (length (locals_of_option u)) (leaves-after_option s i) (leaves-past_option (after_option s i) u))
+    (leaves-then s (after_option s i) t (length (locals_of_option i)) (length (locals_of_option u))
+    (leaves-after_option s i) (leaves-past_option (after_option s i) u))
     (leaves-past t a) in
-    let count : (past t a).count ≡ s.count + (length (locals_of_option i) + length (locals_of_option u) + length (locals_of a)) = steps.count in
+    let count : (past t a).count ≡ s.count + (length (locals_of_option i) + length (locals_of_option u) + length
+    (locals_of a)) = steps.count in
     record { around = steps.around; decls = steps.decls; count = omega arith; more = steps.more }

@@ -21,11 +21,13 @@ or_false false = refl
 abbrev pub newest_first : List (Bor (List ℕ)) → List (List ℕ)
 newest_first keys = reverse (map (λ key. key.now) keys)
 
-newest-cons : (key : Bor (List ℕ)) (keys : List (Bor (List ℕ))) → newest_first (key ∷ keys) ≡ newest_first keys ++ key.now ∷ []
+newest-cons : (key : Bor (List ℕ)) (keys : List (Bor (List ℕ))) →
+    newest_first (key ∷ keys) ≡ newest_first keys ++ key.now ∷ []
 newest-cons key keys = reverse-append (key.now ∷ []) (map (λ key. key.now) keys)
 
 -- a name is among the keys exactly if it is among the names
-pub any_newest : (name : List ℕ) (keys : List (Bor (List ℕ))) → list_any (λ key. bytes_eq name key.now) keys ≡ list_any (bytes_eq name) (newest_first keys)
+pub any_newest : (name : List ℕ) (keys : List (Bor (List ℕ))) →
+    list_any (λ key. bytes_eq name key.now) keys ≡ list_any (bytes_eq name) (newest_first keys)
 any_newest name [] = refl
 any_newest name (key ∷ keys) =
     ap (λ b. bytes_eq name key.now || b) (any_newest name keys)
@@ -35,11 +37,13 @@ any_newest name (key ∷ keys) =
     ∙ ap (list_any (bytes_eq name)) (sym (newest-cons key keys))
 
 -- one more key is the newest
-pub newest-push : (keys : List (Bor (List ℕ))) (key : Bor (List ℕ)) → newest_first (keys ++ key ∷ []) ≡ key.now ∷ newest_first keys
+pub newest-push : (keys : List (Bor (List ℕ))) (key : Bor (List ℕ)) →
+    newest_first (keys ++ key ∷ []) ≡ key.now ∷ newest_first keys
 newest-push keys key =
     ap reverse (map-append (λ (k : Bor (List ℕ)). k.now) keys (key ∷ []))
     ∙ reverse-append (map (λ (k : Bor (List ℕ)). k.now) keys) (key.now ∷ [])
 
 -- where a name wasn't met
-pub kept_new : (b : Bool) (keys : List (Bor (List ℕ))) (key : Bor (List ℕ)) → b ≡ false → (if b then keys else keys ++ key ∷ []) ≡ keys ++ key ∷ []
+pub kept_new : (b : Bool) (keys : List (Bor (List ℕ))) (key : Bor (List ℕ)) → b ≡ false →
+    (if b then keys else keys ++ key ∷ []) ≡ keys ++ key ∷ []
 kept_new b keys key h = ap (λ c. if c then keys else keys ++ key ∷ []) h

@@ -16,14 +16,17 @@ use Rattle.cas_typed.specs.Whole.{AreFunctionsOf, AreTypedAs}
 use Rattle.cas_typed.specs.declared.rows.TypedFun.{TypedFun}
 
 -- a module whose items are walked through without a fault, and then filled up
-pub typed_so : (m : Module) (items : List Item) (filled : ModuleTree) (fs gs : List TypedFun) → items ≡ m.items → gs ≡ fs
-    → GivesFunctions (Ok fs) (walk_items [] (map item_tree items)) → filled ≡ filled_module (module_tree m) → IsFormed (module_tree m)
+pub typed_so : (m : Module) (items : List Item) (filled : ModuleTree) (fs gs : List TypedFun) → items ≡ m.items →
+    gs ≡ fs
+    → GivesFunctions (Ok fs) (walk_items [] (map item_tree items)) → filled ≡ filled_module (module_tree m) →
+    IsFormed (module_tree m)
     → (r : TypedModuleTree) × AreTypedAs filled gs r × IsTyped (module_tree m) r
 typed_so m items filled fs gs same kept walked full formed =
     let r : TypedModuleTree = record { module_tree = filled_module (module_tree m); functions = walked.0 } in
     let typed : IsTyped (module_tree m) r =
     walk_module-typed (module_tree m) r
-    (ap (λ is. then_ (walk_items [] (map item_tree is)) (λ rs. Ok (record { module_tree = filled_module (module_tree m); functions = rs }))) (sym same)
+    (ap (λ is. then_ (walk_items [] (map item_tree is))
+    (λ rs. Ok (record { module_tree = filled_module (module_tree m); functions = rs }))) (sym same)
     ∙ ap (λ o. then_ o (λ rs. Ok (record { module_tree = filled_module (module_tree m); functions = rs }))) walked.1) in (
       r,
       record {

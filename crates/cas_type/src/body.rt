@@ -196,7 +196,8 @@ fn branches<'a>(
         (w.walk within.ret within.in_loop scopes.old (tree.if_ place (expr_tree test.now) (stmt_tree first.now)
         (part_tree second.now))) }
     ensures locals { OnOk result (made.new.locals.items
-        ≡ made.old.locals.items ++ s.locals_of (tree.if_ place (expr_tree test.now) (stmt_tree first.now) (part_tree second.now))) }
+        ≡ made.old.locals.items
+        ++ s.locals_of (tree.if_ place (expr_tree test.now) (stmt_tree first.now) (part_tree second.now))) }
     ensures scope { OnOk result (scopes.new
         ≡ s.past scopes.old (tree.if_ place (expr_tree test.now) (stmt_tree first.now) (part_tree second.now))) }
 {

@@ -49,7 +49,8 @@ mutual
   without_stmt (if_ p c a otherwise) h = (without_expr c h.0, without_stmt a h.1, without_part otherwise h.2)
   without_stmt (while_ p c a) h = (without_expr c h.0, without_stmt a h.1)
   without_stmt (do_ p a c) h = (without_stmt a h.0, without_expr c h.1)
-  without_stmt (for_ p first c after a) h = (without_part first h.0, without_optional c h.1, without_part after h.2, without_stmt a h.3)
+  without_stmt (for_ p first c after a) h =
+      (without_part first h.0, without_optional c h.1, without_part after h.2, without_stmt a h.3)
   without_stmt (break_ p) h = h
   without_stmt (continue_ p) h = h
   without_stmt (return_ p a) h = without_optional a h
@@ -118,7 +119,8 @@ mutual
   with_stmt (if_ p c a otherwise) h = (with_expr c h.0, with_stmt a h.1, with_part otherwise h.2)
   with_stmt (while_ p c a) h = (with_expr c h.0, with_stmt a h.1)
   with_stmt (do_ p a c) h = (with_stmt a h.0, with_expr c h.1)
-  with_stmt (for_ p first c after a) h = (with_part first h.0, with_optional c h.1, with_part after h.2, with_stmt a h.3)
+  with_stmt (for_ p first c after a) h =
+      (with_part first h.0, with_optional c h.1, with_part after h.2, with_stmt a h.3)
   with_stmt (break_ p) h = h
   with_stmt (continue_ p) h = h
   with_stmt (return_ p a) h = with_optional a h

@@ -34,16 +34,19 @@ abbrev pub HoldsOption : {A : Type 0} → (A → Type 0) → Option A → Type 0
 HoldsOption P (Some a) = P a
 HoldsOption P None = Unit {0}
 
-pub Holds-unless : {A : Type 0} (P : A → Type 0) (o : Option Fault) (w : Result A Fault) → Holds P w → Holds P (unless o w)
+pub Holds-unless : {A : Type 0} (P : A → Type 0) (o : Option Fault) (w : Result A Fault) → Holds P w →
+    Holds P (unless o w)
 Holds-unless P (Some f) w h = tt
 Holds-unless P None w h = h
 
 -- where no fault is needed to know what comes next
-pub Holds-unless_none : {A : Type 0} (P : A → Type 0) (o : Option Fault) (w : Result A Fault) → (o ≡ None → Holds P w) → Holds P (unless o w)
+pub Holds-unless_none : {A : Type 0} (P : A → Type 0) (o : Option Fault) (w : Result A Fault) → (o ≡ None → Holds P w) →
+    Holds P (unless o w)
 Holds-unless_none P (Some f) w h = tt
 Holds-unless_none P None w h = h refl
 
-pub Holds-then : {A B : Type 0} (P : A → Type 0) (Q : B → Type 0) (w : Result A Fault) (f : A → Result B Fault) → Holds P w → ((a : A) → P a → Holds Q (f a)) → Holds Q (then_ w f)
+pub Holds-then : {A B : Type 0} (P : A → Type 0) (Q : B → Type 0) (w : Result A Fault) (f : A → Result B Fault) →
+    Holds P w → ((a : A) → P a → Holds Q (f a)) → Holds Q (then_ w f)
 Holds-then P Q (Ok a) f h next = next a h
 Holds-then P Q (Err e) f h next = tt
 

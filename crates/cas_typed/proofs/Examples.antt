@@ -42,32 +42,44 @@ abbrev told : List ItemTree → Result TypedModuleTree Fault
 told items = walk_module (record { items = items })
 
 -- void w(int me) { x = 1; }
-undeclared_row : told (thread 1 (one_more (assign (at 1 18) (to_name (named (codes "x") (at 1 18))) None (literal 1 I32)) no_more) ∷ []) ≡ Err (fault T1 (at 1 18) (Some (codes "x")))
+undeclared_row : told
+    (thread 1 (one_more (assign (at 1 18) (to_name (named (codes "x") (at 1 18))) None (literal 1 I32)) no_more) ∷ [])
+    ≡ Err (fault T1 (at 1 18) (Some (codes "x")))
 undeclared_row = refl
 
 abbrev lock_L : ItemTree
 lock_L = global (record { name = codes "L"; form = Lock; defined = true }) [] (at 1 6)
 
 -- lock L; shared(L) int a[65536];
-words_row : told (lock_L ∷ global (record { name = codes "a"; form = Shared (Array I32 65536) (codes "L"); defined = true }) [] (at 1 23) ∷ []) ≡ Err (limit (at 1 23) Words 65537)
+words_row : told
+    (lock_L ∷ global (record { name = codes "a"; form = Shared (Array I32 65536) (codes "L"); defined = true }) []
+    (at 1 23) ∷ []) ≡ Err (limit (at 1 23) Words 65537)
 words_row = refl
 
 -- lock L; shared(L) int g; void w(int me) { int *p; p = &g; }
-address_row : told (lock_L ∷ global (record { name = codes "g"; form = Shared (Int I32) (codes "L"); defined = true }) [] (at 1 23) ∷ thread 2 (one_more (declare (at 2 23) (Ptr I32) (named (codes "p") (at 2 23)) nothing) (one_more (assign (at 2 26) (to_name (named (codes "p") (at 2 26))) None (address (named (codes "g") (at 2 31)))) no_more)) ∷ []) ≡ Err (fault T6 (at 2 31) (Some (codes "g")))
+address_row : told (lock_L ∷ global (record { name = codes "g"; form = Shared (Int I32) (codes "L"); defined = true })
+    [] (at 1 23) ∷ thread 2 (one_more (declare (at 2 23) (Ptr I32) (named (codes "p") (at 2 23)) nothing)
+    (one_more (assign (at 2 26) (to_name (named (codes "p") (at 2 26))) None (address (named (codes "g") (at 2 31))))
+    no_more)) ∷ []) ≡ Err (fault T6 (at 2 31) (Some (codes "g")))
 address_row = refl
 
 -- const int t[1]; void w(int me) { t[0] = 1; }
-table_row : told (global (record { name = codes "t"; form = Table (Array I32 1); defined = true }) [] (at 1 11) ∷ thread 2 (one_more (assign (at 2 18) (to_index (named (codes "t") (at 2 18)) (literal 0 I32)) None (literal 1 I32)) no_more) ∷ []) ≡ Err (fault T5 (at 2 18) None)
+table_row : told (global (record { name = codes "t"; form = Table (Array I32 1); defined = true }) []
+    (at 1 11) ∷ thread 2
+    (one_more (assign (at 2 18) (to_index (named (codes "t") (at 2 18)) (literal 0 I32)) None (literal 1 I32)) no_more)
+    ∷ []) ≡ Err (fault T5 (at 2 18) None)
 table_row = refl
 
 -- void w(int me) { int a[4096]; }
-cells_row : told (thread 1 (one_more (declare (at 1 22) (Array I32 4096) (named (codes "a") (at 1 22)) nothing) no_more) ∷ []) ≡ Err (limit (at 1 6) Cells 4097)
+cells_row : told (thread 1 (one_more (declare (at 1 22) (Array I32 4096) (named (codes "a") (at 1 22)) nothing) no_more)
+    ∷ []) ≡ Err (limit (at 1 6) Cells 4097)
 cells_row = refl
 
 -- items: a function without a body, with these parameters and `holds`; one with an empty body; a table
 
 abbrev prototype_of : List ℕ → Ty → List Ty → List (List ℕ) → ItemTree
-prototype_of x ret tys holds = prototype (record { name = x; form = Function ret tys holds; defined = false }) (map (λ h. at 1 30) holds) (at 1 9)
+prototype_of x ret tys holds = prototype (record { name = x; form = Function ret tys holds; defined = false })
+    (map (λ h. at 1 30) holds) (at 1 9)
 
 abbrev function_of : List ℕ → List Ty → List (List ℕ) → List Ident → ItemTree
 function_of x tys holds xs = define (record {
@@ -80,7 +92,8 @@ function_of x tys holds xs = define (record {
 })
 
 abbrev table_of : List ℕ → Bool → ℕ → List ℕ → ItemTree
-table_of x defined len values = global (record { name = x; form = Table (Array I32 len); defined = defined }) values (at 1 9)
+table_of x defined len values = global (record { name = x; form = Table (Array I32 len); defined = defined }) values
+    (at 1 9)
 
 -- what is answered: a fault, or how many functions are resolved
 abbrev counted : Result TypedModuleTree Fault → Result ℕ Fault
@@ -102,9 +115,11 @@ shared_g = global (record { name = codes "g"; form = Shared (Int I32) (codes "L"
 -- void f(void) holds(f);   lock L; void f(void) holds(L, L);   lock L; shared(L) int g; void f(void) holds(g);
 -- lock L; void f(void) holds(L); void f(void) holds(L) {}
 holds_rows :
-    map answer ((prototype_of (codes "f") Void [] (codes "f" ∷ []) ∷ []) ∷ (lock_L ∷ prototype_of (codes "f") Void [] (codes "L" ∷ codes "L" ∷ []) ∷ [])
+    map answer ((prototype_of (codes "f") Void [] (codes "f" ∷ []) ∷ []) ∷
+    (lock_L ∷ prototype_of (codes "f") Void [] (codes "L" ∷ codes "L" ∷ []) ∷ [])
     ∷ (lock_L ∷ shared_g ∷ prototype_of (codes "f") Void [] (codes "g" ∷ []) ∷ [])
-    ∷ (lock_L ∷ prototype_of (codes "f") Void [] (codes "L" ∷ []) ∷ function_of (codes "f") [] (codes "L" ∷ []) [] ∷ []) ∷ [])
+    ∷ (lock_L ∷ prototype_of (codes "f") Void [] (codes "L" ∷ []) ∷ function_of (codes "f") [] (codes "L" ∷ []) [] ∷ [])
+    ∷ [])
     ≡ refused T1 30 (codes "f") ∷ refused T2 30 (codes "L") ∷ refused T3 9 (codes "f") ∷ Ok 1 ∷ []
 holds_rows = refl
 
@@ -113,25 +128,33 @@ holds_rows = refl
 -- `holds(f)` in the second
 twice_rows :
     map answer ((function_of (codes "f") [] [] [] ∷ function_of (codes "f") [] [] [] ∷ [])
-    ∷ (function_of (codes "f") (Int I32 ∷ Int I32 ∷ []) [] (parameter_of (codes "a") ∷ parameter_of (codes "a") ∷ []) ∷ [])
-    ∷ (lock_L ∷ function_of (codes "L") [] [] [] ∷ []) ∷ (function_of (codes "f") (Int I32 ∷ []) [] (parameter_of (codes "f") ∷ []) ∷ [])
-    ∷ (function_of (codes "f") [] [] [] ∷ prototype_of (codes "f") Void [] [] ∷ prototype_of (codes "f") Void [] [] ∷ [])
+    ∷ (function_of (codes "f") (Int I32 ∷ Int I32 ∷ []) [] (parameter_of (codes "a") ∷ parameter_of (codes "a") ∷ [])
+    ∷ [])
+    ∷ (lock_L ∷ function_of (codes "L") [] [] [] ∷ []) ∷
+    (function_of (codes "f") (Int I32 ∷ []) [] (parameter_of (codes "f") ∷ []) ∷ [])
+    ∷ (function_of (codes "f") [] [] [] ∷ prototype_of (codes "f") Void [] [] ∷ prototype_of
+    (codes "f") Void [] [] ∷ [])
     ∷ (prototype_of (codes "f") (Int I32) [] [] ∷ function_of (codes "f") [] [] [] ∷ [])
     ∷ (prototype_of (codes "f") (Int I32) [] [] ∷ function_of (codes "f") [] (codes "f" ∷ []) [] ∷ []) ∷ [])
-    ≡ refused T2 9 (codes "f") ∷ refused T2 20 (codes "a") ∷ refused T2 9 (codes "L") ∷ Ok 1 ∷ Ok 1 ∷ refused T3 9 (codes "f") ∷ refused T3 9 (codes "f") ∷ []
+    ≡ refused T2 9 (codes "f") ∷ refused T2 20 (codes "a") ∷ refused T2 9 (codes "L") ∷ Ok 1 ∷ Ok 1 ∷ refused T3 9
+    (codes "f") ∷ refused T3 9 (codes "f") ∷ []
 twice_rows = refl
 
 -- const int t[0];   const int t[2] = {1, 2, 3};   const int t[2] = {1};   extern const int t[2]; const int t[3];
 -- extern const int t[2]; const int t[2]; extern const int t[65537];   const int t[65537];
 table_rows :
-    map answer ((table_of (codes "t") true 0 [] ∷ []) ∷ (table_of (codes "t") true 2 (1 ∷ 2 ∷ 3 ∷ []) ∷ []) ∷ (table_of (codes "t") true 2 (1 ∷ []) ∷ [])
-    ∷ (table_of (codes "t") false 2 [] ∷ table_of (codes "t") true 3 [] ∷ []) ∷ (table_of (codes "t") false 2 [] ∷ table_of (codes "t") true 2 [] ∷ [])
+    map answer ((table_of (codes "t") true 0 [] ∷ []) ∷ (table_of (codes "t") true 2 (1 ∷ 2 ∷ 3 ∷ []) ∷ []) ∷
+    (table_of (codes "t") true 2 (1 ∷ []) ∷ [])
+    ∷ (table_of (codes "t") false 2 [] ∷ table_of (codes "t") true 3 [] ∷ []) ∷
+    (table_of (codes "t") false 2 [] ∷ table_of (codes "t") true 2 [] ∷ [])
     ∷ (table_of (codes "t") false 65537 [] ∷ []) ∷ (table_of (codes "t") true 65537 [] ∷ []) ∷ [])
-    ≡ refused T3 9 (codes "t") ∷ refused T3 9 (codes "t") ∷ Ok 0 ∷ refused T3 9 (codes "t") ∷ Ok 0 ∷ Ok 0 ∷ Err (limit (at 1 9) Words 65537) ∷ []
+    ≡ refused T3 9 (codes "t") ∷ refused T3 9 (codes "t") ∷ Ok 0 ∷ refused T3 9 (codes "t") ∷ Ok 0 ∷ Ok 0 ∷ Err
+    (limit (at 1 9) Words 65537) ∷ []
 table_rows = refl
 
 -- what zeros are added: const int t[3] = {7};   extern const int t[3];
-zeros_row : map filled_item (table_of (codes "t") true 3 (7 ∷ []) ∷ table_of (codes "t") false 3 [] ∷ []) ≡ table_of (codes "t") true 3 (7 ∷ 0 ∷ 0 ∷ []) ∷ table_of (codes "t") false 3 [] ∷ []
+zeros_row : map filled_item (table_of (codes "t") true 3 (7 ∷ []) ∷ table_of (codes "t") false 3 [] ∷ []) ≡ table_of
+    (codes "t") true 3 (7 ∷ 0 ∷ 0 ∷ []) ∷ table_of (codes "t") false 3 [] ∷ []
 zeros_row = refl
 
 -- functions f with no parameters, under so many names
@@ -141,7 +164,8 @@ functions (suc n) = function_of (replicate (suc n) 97) [] [] [] ∷ functions n
 
 -- 16 and 17 parameters; 4 functions
 limit_rows :
-    map answer ((prototype_of (codes "f") Void (replicate 16 (Int I32)) [] ∷ []) ∷ (prototype_of (codes "f") Void (replicate 17 (Int I32)) [] ∷ []) ∷ functions 4 ∷ [])
+    map answer ((prototype_of (codes "f") Void (replicate 16 (Int I32)) [] ∷ []) ∷
+    (prototype_of (codes "f") Void (replicate 17 (Int I32)) [] ∷ []) ∷ functions 4 ∷ [])
     ≡ Ok 0 ∷ Err (limit (at 1 9) Parameters 17) ∷ Ok 4 ∷ []
 limit_rows = refl
 
@@ -155,7 +179,8 @@ nodes_row = refl
 
 -- locks and prototypes have no body
 abbrev two_bodies : List ItemTree
-two_bodies = lock_L ∷ thread 2 no_more ∷ prototype_of (codes "f") Void [] [] ∷ thread 4 (one_more (break_ (at 4 18)) no_more) ∷ []
+two_bodies = lock_L ∷ thread 2 no_more ∷ prototype_of (codes "f") Void [] [] ∷ thread 4
+    (one_more (break_ (at 4 18)) no_more) ∷ []
 
 bodies_row : map (λ f. f.body) (bodies_of two_bodies) ≡ no_more ∷ one_more (break_ (at 4 18)) no_more ∷ []
 bodies_row = refl
@@ -168,5 +193,9 @@ value_row : AreOfKind U8 (7 ∷ 300 ∷ []) → ⊥
 value_row h = let e : is_of_kind 300 U8 ≡ true = h 1 0 (lit< tt) in cc
 
 -- const unsigned char t[3] = { 7 };
-unfilled_row : IsFilled (record { items = global (record { name = codes "t"; form = Table (Array U8 3); defined = true }) (7 ∷ []) (at 1 21) ∷ [] }) → ⊥
+unfilled_row : IsFilled
+    (record {
+      items = global (record { name = codes "t"; form = Table (Array U8 3); defined = true }) (7 ∷ [])
+          (at 1 21) ∷ [];
+    }) → ⊥
 unfilled_row h = let e : length {A = ℕ} (7 ∷ []) ≡ 3 = h 0 _ (7 ∷ []) (at 1 21) refl refl in omega arith

@@ -70,11 +70,14 @@ both_true : (a b : Bool) → (a && b) ≡ true → (a ≡ true) × (b ≡ true)
 both_true true b h = (refl, h)
 both_true false b h = cc
 
-named_lock : (n : ℕ) (ds : List Decl) (name : List ℕ) → means_lock (item_named n ds name) ≡ true → list_any (is_named name) ds ≡ true
+named_lock : (n : ℕ) (ds : List Decl) (name : List ℕ) → means_lock (item_named n ds name) ≡ true →
+    list_any (is_named name) ds ≡ true
 named_lock n [] name h = cc
 named_lock n (d ∷ ds) name h = test (is_named name d) h (named_lock (n + 1) ds name)
   where
-    test : (c : Bool) → means_lock (if c then item n d.form else item_named (n + 1) ds name) ≡ true → (means_lock (item_named (n + 1) ds name) ≡ true → list_any (is_named name) ds ≡ true) → (c || list_any (is_named name) ds) ≡ true
+    test : (c : Bool) → means_lock (if c then item n d.form else item_named (n + 1) ds name) ≡ true →
+        (means_lock (item_named (n + 1) ds name) ≡ true → list_any (is_named name) ds ≡ true) →
+        (c || list_any (is_named name) ds) ≡ true
     test true h next = refl
     test false h next = next h
 
@@ -102,11 +105,14 @@ fault_free before a h0 =
       locks = is_true (are_locks before (held_names a)) (at_item a) h8.0;
       held_once = none_found T2 (repeated [] (held_names a)) h4.0;
       parameters_once = none_found T2 (repeated [] (parameter_names a)) h3.0;
-      defined_once = is_false (is_defined_again before (decl_of a)) (fault T2 (place_of a) (Some (decl_of a).name)) h2.0;
+      defined_once = is_false (is_defined_again before (decl_of a)) (fault T2 (place_of a) (Some (decl_of a).name))
+          h2.0;
       agrees = is_true (agrees_with (item_named 0 before (decl_of a).name) (decl_of a).form) (at_item a) h5.0;
       not_empty = is_true (has_element (variable_type (decl_of a).form)) (at_item a) h6.0;
-      values = le_true (length (values_of a)) (elements_of (variable_type (decl_of a).form)) (is_true _ (at_item a) h7.0);
-      parameters = within_limit most_parameters (place_of a) Parameters (length (parameter_types (decl_of a).form)) h9.0;
+      values = le_true (length (values_of a)) (elements_of (variable_type (decl_of a).form))
+          (is_true _ (at_item a) h7.0);
+      parameters = within_limit most_parameters (place_of a) Parameters (length (parameter_types (decl_of a).form))
+          h9.0;
       functions = within_limit most_functions (place_of a) Functions (function_count (before ++ decl_of a ∷ [])) h10.0;
       words = within_limit most_words (place_of a) Words (word_count (before ++ decl_of a ∷ [])) h10.1;
     }
@@ -119,9 +125,11 @@ good before a h =
     (neither (ap (λ o. at_found o (at_name T2)) h.held_once)
     (neither (ap (λ c. if c then None else Some (at_item a)) h.agrees)
     (neither (ap (λ c. if c then None else Some (at_item a)) h.not_empty)
-    (neither (ap (λ c. if c then None else Some (at_item a)) (true_le (length (values_of a)) (elements_of (variable_type (decl_of a).form)) h.values))
+    (neither (ap (λ c. if c then None else Some (at_item a))
+    (true_le (length (values_of a)) (elements_of (variable_type (decl_of a).form)) h.values))
     (neither (ap (λ c. if c then None else Some (at_item a)) h.locks)
-    (neither (kept_limit most_parameters (place_of a) Parameters (length (parameter_types (decl_of a).form)) h.parameters)
+    (neither (kept_limit most_parameters (place_of a) Parameters (length (parameter_types (decl_of a).form))
+    h.parameters)
     (neither (kept_limit most_functions (place_of a) Functions (function_count (before ++ decl_of a ∷ [])) h.functions)
     (kept_limit most_words (place_of a) Words (word_count (before ++ decl_of a ∷ [])) h.words))))))))))
 
@@ -137,11 +145,13 @@ with_body before f body = record { item = length before; locals = locals_in body
 
 function_right : (before : List Decl) (f : FunTree) → Holds (IsFunction before f) (walk_function before f)
 function_right before f =
-    Holds-then (AreStmts (return_type f.decl.form) false (scope_in before f) f.body) (IsFunction before f) (walk_list (return_type f.decl.form) false (scope_in before f) f.body)
+    Holds-then (AreStmts (return_type f.decl.form) false (scope_in before f) f.body) (IsFunction before f)
+    (walk_list (return_type f.decl.form) false (scope_in before f) f.body)
     (λ body. unless (counts_fault f) (Ok (with_body before f body)))
     (walk_list-right (return_type f.decl.form) false (scope_in before f) f.body)
     (λ body h. Holds-unless_none (IsFunction before f) (counts_fault f) (Ok (with_body before f body)) (λ none.
-    let parts = both_parts (above most_cells f.place Cells (cells_of f)) (above most_nodes f.place Nodes (nodes_of f)) none in
+    let parts = both_parts (above most_cells f.place Cells (cells_of f)) (above most_nodes f.place Nodes (nodes_of f))
+    none in
     record {
       item = refl;
       locals = refl;
@@ -150,10 +160,12 @@ function_right before f =
       nodes = within_limit most_nodes f.place Nodes (nodes_of f) parts.1;
     }))
 
-function_typed : (before : List Decl) (f : FunTree) (r : TypedFunTree) → IsFunction before f r → walk_function before f ≡ Ok r
+function_typed : (before : List Decl) (f : FunTree) (r : TypedFunTree) → IsFunction before f r →
+    walk_function before f ≡ Ok r
 function_typed before f r h =
     goes_on (λ body. unless (counts_fault f) (Ok (with_body before f body))) (AreStmts-walk h.body)
-    ∙ no_fault (Ok (with_body before f r.body)) (neither (kept_limit most_cells f.place Cells (cells_of f) h.cells) (kept_limit most_nodes f.place Nodes (nodes_of f) h.nodes))
+    ∙ no_fault (Ok (with_body before f r.body)) (neither (kept_limit most_cells f.place Cells (cells_of f) h.cells)
+    (kept_limit most_nodes f.place Nodes (nodes_of f) h.nodes))
     ∙ sym (λ i. Ok (record { item = h.item i; locals = h.locals i; body = r.body }))
 
 -- modules
@@ -161,32 +173,48 @@ function_typed before f r h =
 items_right : (before : List Decl) (items : List ItemTree) → Holds (AreItems before items) (walk_items before items)
 items_right before [] = no_item before
 items_right before (global d vs p ∷ rest) =
-    Holds-unless_none (AreItems before (global d vs p ∷ rest)) (item_fault before (global d vs p)) (walk_items (before ++ d ∷ []) rest) (λ none.
-    Holds-map (AreItems (before ++ d ∷ []) rest) (AreItems before (global d vs p ∷ rest)) (walk_items (before ++ d ∷ []) rest)
-    (λ rs h. a_global before d vs p rest rs (fault_free before (global d vs p) none) h) (items_right (before ++ d ∷ []) rest))
+    Holds-unless_none (AreItems before (global d vs p ∷ rest)) (item_fault before (global d vs p))
+    (walk_items (before ++ d ∷ []) rest) (λ none.
+    Holds-map (AreItems (before ++ d ∷ []) rest) (AreItems before (global d vs p ∷ rest))
+    (walk_items (before ++ d ∷ []) rest)
+    (λ rs h. a_global before d vs p rest rs (fault_free before (global d vs p) none) h)
+    (items_right (before ++ d ∷ []) rest))
 items_right before (prototype d hs p ∷ rest) =
-    Holds-unless_none (AreItems before (prototype d hs p ∷ rest)) (item_fault before (prototype d hs p)) (walk_items (before ++ d ∷ []) rest) (λ none.
-    Holds-map (AreItems (before ++ d ∷ []) rest) (AreItems before (prototype d hs p ∷ rest)) (walk_items (before ++ d ∷ []) rest)
-    (λ rs h. a_prototype before d hs p rest rs (fault_free before (prototype d hs p) none) h) (items_right (before ++ d ∷ []) rest))
+    Holds-unless_none (AreItems before (prototype d hs p ∷ rest)) (item_fault before (prototype d hs p))
+    (walk_items (before ++ d ∷ []) rest) (λ none.
+    Holds-map (AreItems (before ++ d ∷ []) rest) (AreItems before (prototype d hs p ∷ rest))
+    (walk_items (before ++ d ∷ []) rest)
+    (λ rs h. a_prototype before d hs p rest rs (fault_free before (prototype d hs p) none) h)
+    (items_right (before ++ d ∷ []) rest))
 items_right before (define f ∷ rest) =
-    Holds-unless_none (AreItems before (define f ∷ rest)) (item_fault before (define f)) (then_ (walk_function before f) (λ r. then_ (walk_items (before ++ f.decl ∷ []) rest) (λ rs. Ok (r ∷ rs)))) (λ none.
-    Holds-then (IsFunction before f) (AreItems before (define f ∷ rest)) (walk_function before f) (λ r. then_ (walk_items (before ++ f.decl ∷ []) rest) (λ rs. Ok (r ∷ rs)))
+    Holds-unless_none (AreItems before (define f ∷ rest)) (item_fault before (define f))
+    (then_ (walk_function before f) (λ r. then_ (walk_items (before ++ f.decl ∷ []) rest) (λ rs. Ok (r ∷ rs))))
+    (λ none.
+    Holds-then (IsFunction before f) (AreItems before (define f ∷ rest)) (walk_function before f)
+    (λ r. then_ (walk_items (before ++ f.decl ∷ []) rest) (λ rs. Ok (r ∷ rs)))
     (function_right before f) (λ r hr.
-    Holds-then (AreItems (before ++ f.decl ∷ []) rest) (AreItems before (define f ∷ rest)) (walk_items (before ++ f.decl ∷ []) rest) (λ rs. Ok (r ∷ rs))
-    (items_right (before ++ f.decl ∷ []) rest) (λ rs hs. a_function before f rest r rs (fault_free before (define f) none) hr hs)))
+    Holds-then (AreItems (before ++ f.decl ∷ []) rest) (AreItems before (define f ∷ rest))
+    (walk_items (before ++ f.decl ∷ []) rest) (λ rs. Ok (r ∷ rs))
+    (items_right (before ++ f.decl ∷ []) rest) (λ rs hs. a_function before f rest r rs
+    (fault_free before (define f) none) hr hs)))
 
-items_typed : {before : List Decl} {items : List ItemTree} {rs : List TypedFunTree} → AreItems before items rs → walk_items before items ≡ Ok rs
+items_typed : {before : List Decl} {items : List ItemTree} {rs : List TypedFunTree} → AreItems before items rs →
+    walk_items before items ≡ Ok rs
 items_typed (no_item before) = refl
-items_typed (a_global before d vs p rest rs h hs) = no_fault (walk_items (before ++ d ∷ []) rest) (good before (global d vs p) h) ∙ items_typed hs
-items_typed (a_prototype before d ps p rest rs h hs) = no_fault (walk_items (before ++ d ∷ []) rest) (good before (prototype d ps p) h) ∙ items_typed hs
+items_typed (a_global before d vs p rest rs h hs) = no_fault (walk_items (before ++ d ∷ []) rest)
+    (good before (global d vs p) h) ∙ items_typed hs
+items_typed (a_prototype before d ps p rest rs h hs) =
+    no_fault (walk_items (before ++ d ∷ []) rest) (good before (prototype d ps p) h) ∙ items_typed hs
 items_typed (a_function before f rest r rs h hr hs) =
-    no_fault (then_ (walk_function before f) (λ r. then_ (walk_items (before ++ f.decl ∷ []) rest) (λ rs. Ok (r ∷ rs)))) (good before (define f) h)
+    no_fault (then_ (walk_function before f) (λ r. then_ (walk_items (before ++ f.decl ∷ []) rest) (λ rs. Ok (r ∷ rs))))
+    (good before (define f) h)
     ∙ goes_on (λ r. then_ (walk_items (before ++ f.decl ∷ []) rest) (λ rs. Ok (r ∷ rs))) (function_typed before f r hr)
     ∙ goes_on (λ rs. Ok (r ∷ rs)) (items_typed hs)
 
 module_right : (m : ModuleTree) → Holds (IsTyped m) (walk_module m)
 module_right m =
-    Holds-then (AreItems [] m.items) (IsTyped m) (walk_items [] m.items) (λ rs. Ok (record { module_tree = filled_module m; functions = rs }))
+    Holds-then (AreItems [] m.items) (IsTyped m) (walk_items [] m.items)
+    (λ rs. Ok (record { module_tree = filled_module m; functions = rs }))
     (items_right [] m.items) (λ rs h. record { module_tree = refl; functions = h })
 
 -- what the walk answers is typed

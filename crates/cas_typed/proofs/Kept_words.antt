@@ -68,11 +68,13 @@ value_words w (y.an_integer a e j k h) = type_words w h
 value_words w (y.a_pointer a p k h) = type_words w h
 value_words w (y.a_null a k null) = tt
 
-values_words : {s : Scope} {args : List ExprTree} {tys : List Ty} {es : List TypedExprTree} → ExprsAreFormed args → GivesEach s args tys es → AllHaveWords es
+values_words : {s : Scope} {args : List ExprTree} {tys : List Ty} {es : List TypedExprTree} → ExprsAreFormed args →
+    GivesEach s args tys es → AllHaveWords es
 values_words w y.no_argument = tt
 values_words w (y.an_argument a args ty tys e es h hs) = (value_words w.0 h, values_words w.1 hs)
 
-target_words : {s : Scope} {target : TargetTree} {target' : TypedTargetTree} {ty : Ty} → TargetIsFormed target → Writes s target target' ty → TargetHasWords target'
+target_words : {s : Scope} {target : TargetTree} {target' : TypedTargetTree} {ty : Ty} → TargetIsFormed target →
+    Writes s target target' ty → TargetHasWords target'
 target_words w (y.writes_local x n k is) = tt
 target_words w (y.writes_pointer x n k is) = tt
 target_words w (y.writes_shared x g k guard is) = tt
@@ -85,17 +87,22 @@ cell_formed (to_name x) w = tt
 cell_formed (to_index x a) w = w
 cell_formed (to_deref a) w = w
 
-assigned_formed : (target : TargetTree) (op : Option BinaryOperator) (a : ExprTree) → TargetIsFormed target → ExprIsFormed a → ExprIsFormed (assigned target op a)
+assigned_formed : (target : TargetTree) (op : Option BinaryOperator) (a : ExprTree) → TargetIsFormed target →
+    ExprIsFormed a → ExprIsFormed (assigned target op a)
 assigned_formed target None a w w' = w'
 assigned_formed target (Some op) a w w' = (cell_formed target w, w')
 
-assign_words : {s : Scope} {p : Place} {target : TargetTree} {op : Option BinaryOperator} {a : ExprTree} {r : TypedStmtTree} → TargetIsFormed target → ExprIsFormed a → Assigns s p target op a r → StatementHasWords r
-assign_words w w' (assigns p target op a target' ty e h given) = (target_words w h, value_words (assigned_formed target op a w w') given)
+assign_words : {s : Scope} {p : Place} {target : TargetTree} {op : Option BinaryOperator} {a : ExprTree}
+    {r : TypedStmtTree} → TargetIsFormed target → ExprIsFormed a → Assigns s p target op a r → StatementHasWords r
+assign_words w w' (assigns p target op a target' ty e h given) =
+    (target_words w h, value_words (assigned_formed target op a w w') given)
 
-call_words : {s : Scope} {p : Place} {result : Option Ident} {f : Ident} {args : List ExprTree} {r : TypedStmtTree} → ExprsAreFormed args → Calls s p result f args r → StatementHasWords r
+call_words : {s : Scope} {p : Place} {result : Option Ident} {f : Ident} {args : List ExprTree} {r : TypedStmtTree} →
+    ExprsAreFormed args → Calls s p result f args r → StatementHasWords r
 call_words w (calls p result f args g gives tys holds kept es is keeps each) = values_words w each
 
-optional_words : {s : Scope} {c : Option ExprTree} {c' : Option TypedExprTree} → OptionalIsFormed c → TestsOptional s c c' → OptionHasWords c'
+optional_words : {s : Scope} {c : Option ExprTree} {c' : Option TypedExprTree} → OptionalIsFormed c →
+    TestsOptional s c c' → OptionHasWords c'
 optional_words w y.no_condition = tt
 optional_words w (y.a_condition a c h) = test_words w h
 
@@ -106,7 +113,8 @@ return_words (Ptr k) = tt
 return_words (Array k n) = tt
 
 mutual
-  stmt_words : {ret : Ty} {l : Bool} {s : Scope} {a : StmtTree} {r : TypedStmtTree} → StmtIsFormed a → IsStmt ret l s a r → StatementHasWords r
+  stmt_words : {ret : Ty} {l : Bool} {s : Scope} {a : StmtTree} {r : TypedStmtTree} → StmtIsFormed a →
+      IsStmt ret l s a r → StatementHasWords r
   stmt_words w (y.skips l s p) = tt
   stmt_words w (y.declares l s p ty x fresh some) = tt
   stmt_words w (y.declares_value l s p ty x a r fresh h) = assign_words tt w.1 h
@@ -117,7 +125,8 @@ mutual
   stmt_words w (y.ifs l s p c a o c' a' o' hc ha ho) = (test_words w.0 hc, stmt_words w.1 ha, part_words w.2 ho)
   stmt_words w (y.whiles l s p c a c' a' hc ha) = (test_words w.0 hc, stmt_words w.1 ha)
   stmt_words w (y.dos l s p a c a' c' ha hc) = (stmt_words w.0 ha, test_words w.1 hc)
-  stmt_words w (y.fors l s p i c u a i' c' u' a' hi hc hu ha) = (part_words w.0 hi, optional_words w.1 hc, part_words w.2 hu, stmt_words w.3 ha)
+  stmt_words w (y.fors l s p i c u a i' c' u' a' hi hc hu ha) =
+      (part_words w.0 hi, optional_words w.1 hc, part_words w.2 hu, stmt_words w.3 ha)
   stmt_words w (y.breaks s p) = tt
   stmt_words w (y.continues s p) = tt
   stmt_words {ret = ret} w (y.returns l s p) = return_words ret
@@ -126,15 +135,18 @@ mutual
   stmt_words w (y.unlocks l s p x g is) = tt
   stmt_words w (y.prints l s p a e h) = value_words w h
 
-  part_words : {ret : Ty} {l : Bool} {s : Scope} {o : StmtOption} {r : TypedStmtOption} → PartIsFormed o → IsPart ret l s o r → PartHasWords r
+  part_words : {ret : Ty} {l : Bool} {s : Scope} {o : StmtOption} {r : TypedStmtOption} → PartIsFormed o →
+      IsPart ret l s o r → PartHasWords r
   part_words w (y.no_part l s) = tt
   part_words w (y.a_part l s a a' h) = stmt_words w h
 
-  body_words : {ret : Ty} {l : Bool} {s : Scope} {bs : StmtList} {rs : TypedStmtList} → BodyIsFormed bs → AreStmts ret l s bs rs → BodyHasWords rs
+  body_words : {ret : Ty} {l : Bool} {s : Scope} {bs : StmtList} {rs : TypedStmtList} → BodyIsFormed bs →
+      AreStmts ret l s bs rs → BodyHasWords rs
   body_words w (y.no_stmt l s) = tt
   body_words w (y.a_stmt l s a bs a' rs h hs) = (stmt_words w.0 h, body_words w.1 hs)
 
-items_words : {before : List Decl} {items : List ItemTree} {rs : List TypedFunTree} → ItemsAreFormed items → AreItems before items rs → AllByRecursion (λ f. BodyHasWords f.body) rs
+items_words : {before : List Decl} {items : List ItemTree} {rs : List TypedFunTree} → ItemsAreFormed items →
+    AreItems before items rs → AllByRecursion (λ f. BodyHasWords f.body) rs
 items_words w (no_item before) = tt
 items_words w (a_global before d vs p rest rs h hs) = items_words w.1 hs
 items_words w (a_prototype before d ps p rest rs h hs) = items_words w.1 hs
@@ -154,12 +166,15 @@ zero_is_of_kind I32 = refl
 zero_is_of_kind U32 = refl
 
 zeros_of_kind : (k : Kind) (n : ℕ) (vs : List ℕ) → AreOfKind k vs → AreOfKind k (vs ++ replicate n 0)
-zeros_of_kind k n vs w = All-append (λ v. IsTrue (is_of_kind v k)) vs (replicate n 0) w (All-replicate (λ v. IsTrue (is_of_kind v k)) n 0 (zero_is_of_kind k))
+zeros_of_kind k n vs w = All-append (λ v. IsTrue (is_of_kind v k)) vs (replicate n 0) w
+    (All-replicate (λ v. IsTrue (is_of_kind v k)) n 0 (zero_is_of_kind k))
 
-global_filled : (d : Decl) (n : ℕ) (vs : List ℕ) → IsGlobal d.form vs → (n ≡ elements_of (variable_type d.form)) → IsGlobal d.form (vs ++ replicate (n - length vs) 0)
+global_filled : (d : Decl) (n : ℕ) (vs : List ℕ) → IsGlobal d.form vs → (n ≡ elements_of (variable_type d.form)) →
+    IsGlobal d.form (vs ++ replicate (n - length vs) 0)
 global_filled d n vs w is = by_form d.form w is
   where
-    by_form : (form : Form) → IsGlobal form vs → n ≡ elements_of (variable_type form) → IsGlobal form (vs ++ replicate (n - length vs) 0)
+    by_form : (form : Form) → IsGlobal form vs → n ≡ elements_of (variable_type form) →
+        IsGlobal form (vs ++ replicate (n - length vs) 0)
     by_form Lock w is = (λ i. w i ++ replicate {A = ℕ} (is i - length (w i)) 0)
     by_form (Shared Void guard) w is = absurd w
     by_form (Shared (Int k) guard) w is = zeros_of_kind k (n - length vs) vs w
@@ -172,14 +187,16 @@ global_filled d n vs w is = by_form d.form w is
     by_form (Function ret params holds) w is = absurd w
 
 -- with or without a definition
-values_filled : (d : Decl) (vs : List ℕ) → IsGlobal d.form vs → (d.defined ≡ true) ⊎ (vs ≡ []) → IsGlobal d.form (filled d vs) × ((d.defined ≡ true) ⊎ (filled d vs ≡ []))
+values_filled : (d : Decl) (vs : List ℕ) → IsGlobal d.form vs → (d.defined ≡ true) ⊎ (vs ≡ []) →
+    IsGlobal d.form (filled d vs) × ((d.defined ≡ true) ⊎ (filled d vs ≡ []))
 values_filled d vs w when = by_test d.defined refl when
   where
     n : ℕ
     n = elements_of (variable_type d.form)
 
     by_test : (t : Bool) → d.defined ≡ t → (t ≡ true) ⊎ (vs ≡ []) →
-        IsGlobal d.form (if t then vs ++ replicate (n - length vs) 0 else vs) × ((t ≡ true) ⊎ ((if t then vs ++ replicate (n - length vs) 0 else vs) ≡ []))
+        IsGlobal d.form (if t then vs ++ replicate (n - length vs) 0 else vs)
+        × ((t ≡ true) ⊎ ((if t then vs ++ replicate (n - length vs) 0 else vs) ≡ []))
     by_test true e h = (global_filled d n vs w refl, inl refl)
     by_test false e h = (w, h)
 
@@ -204,7 +221,8 @@ no_function d ds h = by_test d.defined refl
     by_test true e = rw (e, h) refl
     by_test false e = not_defined d ds e
 
-a_function_more : (d : Decl) (ds : List Decl) → is_function d.form ≡ true → d.defined ≡ true → functions_of (d ∷ ds) ≡ d ∷ functions_of ds
+a_function_more : (d : Decl) (ds : List Decl) → is_function d.form ≡ true → d.defined ≡ true →
+    functions_of (d ∷ ds) ≡ d ∷ functions_of ds
 a_function_more d ds h e = rw (e, h) refl
 
 global_is_no_function : (form : Form) (vs : List ℕ) → IsGlobal form vs → is_function form ≡ false
@@ -219,11 +237,15 @@ is_a_function (Shared ty guard) w = absurd w
 is_a_function (Table ty) w = absurd w
 is_a_function (Function ret params holds) w = refl
 
-items_define : (items : List ItemTree) → ItemsAreFormed items → functions_of (map decl_of items) ≡ map (λ f. f.decl) (bodies_of items)
+items_define : (items : List ItemTree) → ItemsAreFormed items →
+    functions_of (map decl_of items) ≡ map (λ f. f.decl) (bodies_of items)
 items_define [] w = refl
-items_define (global d vs p ∷ items) w = no_function d (map decl_of items) (global_is_no_function d.form vs w.0.0) ∙ items_define items w.1
+items_define (global d vs p ∷ items) w = no_function d (map decl_of items) (global_is_no_function d.form vs w.0.0)
+    ∙ items_define items w.1
 items_define (prototype d hs p ∷ items) w = not_defined d (map decl_of items) w.0.1 ∙ items_define items w.1
-items_define (define f ∷ items) w = a_function_more f.decl (map decl_of items) (is_a_function f.decl.form w.0.0) w.0.1 ∙ ap (λ ds. f.decl ∷ ds) (items_define items w.1)
+items_define (define f ∷ items) w = a_function_more f.decl (map decl_of items) (is_a_function f.decl.form w.0.0) w.0.1
+    ∙ ap (λ ds. f.decl ∷ ds) (items_define items w.1)
 
-pub IsFormed-defines : (m : ModuleTree) → IsFormed m → functions_of (map decl_of m.items) ≡ map (λ f. f.decl) (bodies_of m.items)
+pub IsFormed-defines : (m : ModuleTree) → IsFormed m →
+    functions_of (map decl_of m.items) ≡ map (λ f. f.decl) (bodies_of m.items)
 IsFormed-defines m w = items_define m.items w

@@ -28,12 +28,17 @@ have_more rows i zero k h later =
 have_more rows i (suc j) k h later =
     let more : suc (j + k) ≡ suc j + k = omega arith in
     let there : i + suc j ≡ i + 1 + j = omega arith in
-    subst (λ (c : ℕ). HaveLater rows i c) more (h.0, have_more rows (i + 1) j k h.1 (subst (λ (c : ℕ). HaveLater rows c k) there later))
+    subst (λ (c : ℕ). HaveLater rows i c) more (
+      h.0,
+      have_more rows (i + 1) j k h.1
+          (subst (λ (c : ℕ). HaveLater rows c k) there later),
+    )
 
 one_of : (rows : List StmtRow) (i k j : ℕ) → j < k → HaveLater rows i k → HasLater rows (i + j)
 one_of rows i zero j less h = absurd (omega arith)
 one_of rows i (suc k) zero less h = let here : i ≡ i + 0 = omega arith in subst (λ (c : ℕ). HasLater rows c) here h.0
-one_of rows i (suc k) (suc j) less h = let there : i + 1 + j ≡ i + suc j = omega arith in subst (λ (c : ℕ). HasLater rows c) there (one_of rows (i + 1) k j (omega arith) h.1)
+one_of rows i (suc k) (suc j) less h = let there : i + 1 + j ≡ i + suc j =
+    omega arith in subst (λ (c : ℕ). HasLater rows c) there (one_of rows (i + 1) k j (omega arith) h.1)
 
 -- the rows of a statement after its first
 abbrev inner_of : TypedStmtTree → ℕ
@@ -64,16 +69,21 @@ same_row : (rows : List StmtRow) (i : ℕ) (r s : StmtRow) → slice_get rows i 
 same_row rows i r s h k = cc
 
 -- a statement whose row stands there, once the rows of its parts are known
-from_row : (rows : List StmtRow) (i : ℕ) (a : TypedStmtTree) (h : At rows i (IsRow rows i a)) → HaveLater rows (i + 1) (inner_of a) → HaveLater rows i (size_of a)
+from_row : (rows : List StmtRow) (i : ℕ) (a : TypedStmtTree) (h : At rows i (IsRow rows i a)) →
+    HaveLater rows (i + 1) (inner_of a) → HaveLater rows i (size_of a)
 from_row rows i a h behind =
-    subst (λ (c : ℕ). HaveLater rows i c) (size_inner a)
-    ((λ r is. subst (λ (s : StmtRow). All (λ j. i < j) (parts_of s.form)) (same_row rows i h.0 r h.1 is) (IsRow-later rows i a h.0.place h.0.form h.2)), behind)
+    subst (λ (c : ℕ). HaveLater rows i c) (size_inner a) (
+      (λ r is. subst (λ (s : StmtRow). All (λ j. i < j) (parts_of s.form)) (same_row rows i h.0 r h.1 is)
+          (IsRow-later rows i a h.0.place h.0.form h.2)),
+      behind,
+    )
 
 moved : (rows : List StmtRow) (j i k : ℕ) → j ≡ i → HaveLater rows j k → HaveLater rows i k
 moved rows j i k h later = subst (λ (c : ℕ). HaveLater rows c k) h later
 
 mutual
-  inner_later : (rows : List StmtRow) (i : ℕ) (a : TypedStmtTree) (q : Place) (f : StmtRowForm) → IsRow rows i a q f → HaveLater rows (i + 1) (inner_of a)
+  inner_later : (rows : List StmtRow) (i : ℕ) (a : TypedStmtTree) (q : Place) (f : StmtRowForm) → IsRow rows i a q f →
+      HaveLater rows (i + 1) (inner_of a)
   inner_later rows i (skip p) q row.Skip h = tt
   inner_later rows i (assign p target a) q (row.Assign target' a') h = tt
   inner_later rows i (call p kept g at args) q (row.Call kept' g' at' args') h = tt
@@ -82,14 +92,17 @@ mutual
       have_more rows (i + 1) (size_of a) (size_of_option o)
       (moved rows j (i + 1) (size_of a) h.2 (from_row rows j a h.3 (inner_later rows j a h.3.0.place h.3.0.form h.3.2)))
       (part_later rows (i + 1 + size_of a) o k h.4)
-  inner_later rows i (while_ p c a) q (row.While c' j) h = moved rows j (i + 1) (size_of a) h.2 (from_row rows j a h.3 (inner_later rows j a h.3.0.place h.3.0.form h.3.2))
-  inner_later rows i (do_ p a c) q (row.Do j c') h = moved rows j (i + 1) (size_of a) h.1 (from_row rows j a h.2 (inner_later rows j a h.2.0.place h.2.0.form h.2.2))
+  inner_later rows i (while_ p c a) q (row.While c' j) h =
+      moved rows j (i + 1) (size_of a) h.2 (from_row rows j a h.3 (inner_later rows j a h.3.0.place h.3.0.form h.3.2))
+  inner_later rows i (do_ p a c) q (row.Do j c') h = moved rows j (i + 1) (size_of a) h.1
+      (from_row rows j a h.2 (inner_later rows j a h.2.0.place h.2.0.form h.2.2))
   inner_later rows i (for_ p first c u a) q (row.For j c' k b) h =
       have_more rows (i + 1) (size_of_option first) (size_of_option u + size_of a)
       (part_later rows (i + 1) first j h.1)
       (have_more rows (i + 1 + size_of_option first) (size_of_option u) (size_of a)
       (part_later rows (i + 1 + size_of_option first) u k h.3)
-      (moved rows b (i + 1 + size_of_option first + size_of_option u) (size_of a) h.4 (from_row rows b a h.5 (inner_later rows b a h.5.0.place h.5.0.form h.5.2))))
+      (moved rows b (i + 1 + size_of_option first + size_of_option u) (size_of a) h.4
+      (from_row rows b a h.5 (inner_later rows b a h.5.0.place h.5.0.form h.5.2))))
   inner_later rows i (break_ p) q row.Break h = tt
   inner_later rows i (continue_ p) q row.Continue h = tt
   inner_later rows i (return_ p a) q (row.Return a') h = tt
@@ -98,13 +111,16 @@ mutual
   inner_later rows i (print p a) q (row.Print a') h = tt
   inner_later rows i _ q _ h = absurd h
 
-  part_later : (rows : List StmtRow) (i : ℕ) (o : TypedStmtOption) (j : Option ℕ) → IsPartRow rows i o j → HaveLater rows i (size_of_option o)
+  part_later : (rows : List StmtRow) (i : ℕ) (o : TypedStmtOption) (j : Option ℕ) → IsPartRow rows i o j →
+      HaveLater rows i (size_of_option o)
   part_later rows i absent None h = tt
-  part_later rows i (present a) (Some j) h = moved rows j i (size_of a) h.0 (from_row rows j a h.1 (inner_later rows j a h.1.0.place h.1.0.form h.1.2))
+  part_later rows i (present a) (Some j) h = moved rows j i (size_of a) h.0
+      (from_row rows j a h.1 (inner_later rows j a h.1.0.place h.1.0.form h.1.2))
   part_later rows i absent (Some j) h = absurd h
   part_later rows i (present a) None h = absurd h
 
-  list_later : (rows : List StmtRow) (i : ℕ) (bs : TypedStmtList) (ns : List ℕ) → AreRows rows i bs ns → HaveLater rows i (size_of_list bs)
+  list_later : (rows : List StmtRow) (i : ℕ) (bs : TypedStmtList) (ns : List ℕ) → AreRows rows i bs ns →
+      HaveLater rows i (size_of_list bs)
   list_later rows i no_more [] h = tt
   list_later rows i (one_more a bs) (j ∷ js) h =
       have_more rows i (size_of a) (size_of_list bs)
@@ -114,9 +130,11 @@ mutual
   list_later rows i (one_more a bs) [] h = absurd h
 
 -- the parts of each row of a function have greater numbers
-pub rows_are_later : (r : TypedFunTree) (f : TypedFun) (n : ℕ) (s : StmtRow) → IsFunctionOf r f → slice_get f.rows n ≡ Some s → All (λ i. n < i) (parts_of s.form)
+pub rows_are_later : (r : TypedFunTree) (f : TypedFun) (n : ℕ) (s : StmtRow) → IsFunctionOf r f →
+    slice_get f.rows n ≡ Some s → All (λ i. n < i) (parts_of s.form)
 rows_are_later r f n s h is =
     let within : n < length f.rows = slice_get_within f.rows n s is in
     let here : 0 + n ≡ n = omega arith in
     subst (λ (c : ℕ). HasLater f.rows c) here
-    (one_of f.rows 0 (size_of_list r.body) n (subst (λ (k : ℕ). n < k) h.size within) (list_later f.rows 0 r.body f.body h.rows)) s is
+    (one_of f.rows 0 (size_of_list r.body) n (subst (λ (k : ℕ). n < k) h.size within)
+    (list_later f.rows 0 r.body f.body h.rows)) s is

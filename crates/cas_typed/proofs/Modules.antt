@@ -11,7 +11,8 @@ use Rattle.cas_typed.proofs.Items.{walk_module-typed, IsTyped-walk}
 pub typed_or_refused : (m : ModuleTree) → ((r : TypedModuleTree) × IsTyped m r) ⊎ ((f : Fault) × HasTypeFault m f)
 typed_or_refused m = test (walk_module m) refl
   where
-    test : (o : Result TypedModuleTree Fault) → walk_module m ≡ o → ((r : TypedModuleTree) × IsTyped m r) ⊎ ((f : Fault) × HasTypeFault m f)
+    test : (o : Result TypedModuleTree Fault) → walk_module m ≡ o → ((r : TypedModuleTree) × IsTyped m r)
+        ⊎ ((f : Fault) × HasTypeFault m f)
     test (Ok r) is = inl (r, walk_module-typed m r is)
     test (Err f) is = inr (f, is)
 

@@ -58,31 +58,40 @@ no_variable : (k : ℕ) (ds : List Decl) (name : List ℕ) (n : ℕ) (ty : Ty) �
 no_variable k [] name n ty h = cc
 no_variable k (d ∷ ds) name n ty h = test (is_named name d) h (no_variable (k + 1) ds name n ty)
   where
-    test : (c : Bool) → (if c then item k d.form else item_named (k + 1) ds name) ≡ variable n ty → (item_named (k + 1) ds name ≡ variable n ty → ⊥) → ⊥
+    test : (c : Bool) → (if c then item k d.form else item_named (k + 1) ds name) ≡ variable n ty →
+        (item_named (k + 1) ds name ≡ variable n ty → ⊥) → ⊥
     test true h next = cc
     test false h next = next h
 
-local_there : (vs : List Ty) (bs : List Bound) (name : List ℕ) (otherwise : Meaning) (n : ℕ) (ty : Ty) → AreBound vs bs → (otherwise ≡ variable n ty → ⊥) → local_named bs name otherwise ≡ variable n ty → IsLocal vs n ty
+local_there : (vs : List Ty) (bs : List Bound) (name : List ℕ) (otherwise : Meaning) (n : ℕ) (ty : Ty) →
+    AreBound vs bs → (otherwise ≡ variable n ty → ⊥) → local_named bs name otherwise ≡ variable n ty → IsLocal vs n ty
 local_there vs [] name otherwise n ty bound none h = absurd (none h)
-local_there vs (b ∷ bs) name otherwise n ty bound none h = test (bytes_eq b.name name) h (local_there vs bs name otherwise n ty bound.1 none)
+local_there vs (b ∷ bs) name otherwise n ty bound none h =
+    test (bytes_eq b.name name) h (local_there vs bs name otherwise n ty bound.1 none)
   where
     first : b.number ≡ n → b.ty ≡ ty → IsLocal vs n ty
     first e e' = subst (λ m. IsLocal vs m ty) e (subst (IsLocal vs b.number) e' bound.0)
 
-    test : (c : Bool) → (if c then variable b.number b.ty else local_named bs name otherwise) ≡ variable n ty → (local_named bs name otherwise ≡ variable n ty → IsLocal vs n ty) → IsLocal vs n ty
+    test : (c : Bool) → (if c then variable b.number b.ty else local_named bs name otherwise) ≡ variable n ty →
+        (local_named bs name otherwise ≡ variable n ty → IsLocal vs n ty) → IsLocal vs n ty
     test true h next = first (cc) (cc)
     test false h next = next h
 
-pub variable_there : {vs : List Ty} {ds : List Decl} {s : Scope} (x : Ident) (n : ℕ) (ty : Ty) → IsScoped vs ds s → meaning s x ≡ variable n ty → IsLocal vs n ty
-variable_there {vs} {ds} {s} x n ty scoped h = local_there vs (s.block ++ s.around) x.name (item_named 0 s.decls x.name) n ty scoped.bound (no_variable 0 s.decls x.name n ty) h
+pub variable_there : {vs : List Ty} {ds : List Decl} {s : Scope} (x : Ident) (n : ℕ) (ty : Ty) → IsScoped vs ds s →
+    meaning s x ≡ variable n ty → IsLocal vs n ty
+variable_there {vs} {ds} {s} x n ty scoped h = local_there vs (s.block ++ s.around) x.name (item_named 0 s.decls x.name)
+    n ty scoped.bound (no_variable 0 s.decls x.name n ty) h
 
 -- items
 
-otherwise_item : (bs : List Bound) (name : List ℕ) (otherwise : Meaning) (g : ℕ) (form : Form) → local_named bs name otherwise ≡ item g form → otherwise ≡ item g form
+otherwise_item : (bs : List Bound) (name : List ℕ) (otherwise : Meaning) (g : ℕ) (form : Form) →
+    local_named bs name otherwise ≡ item g form → otherwise ≡ item g form
 otherwise_item [] name otherwise g form h = h
-otherwise_item (b ∷ bs) name otherwise g form h = test (bytes_eq b.name name) h (otherwise_item bs name otherwise g form)
+otherwise_item (b ∷ bs) name otherwise g form h = test (bytes_eq b.name name) h
+    (otherwise_item bs name otherwise g form)
   where
-    test : (c : Bool) → (if c then variable b.number b.ty else local_named bs name otherwise) ≡ item g form → (local_named bs name otherwise ≡ item g form → otherwise ≡ item g form) → otherwise ≡ item g form
+    test : (c : Bool) → (if c then variable b.number b.ty else local_named bs name otherwise) ≡ item g form →
+        (local_named bs name otherwise ≡ item g form → otherwise ≡ item g form) → otherwise ≡ item g form
     test true h next = cc
     test false h next = next h
 
@@ -90,7 +99,8 @@ otherwise_item (b ∷ bs) name otherwise g form h = test (bytes_eq b.name name) 
 abbrev IsBehind : (k : ℕ) → List Decl → (g : ℕ) → Form → Type 0
 IsBehind k ds g form = (i : ℕ) × (g ≡ k + i) × IsDeclared ds i form
 
-item_behind : (k : ℕ) (ds : List Decl) (name : List ℕ) (g : ℕ) (form : Form) → item_named k ds name ≡ item g form → IsBehind k ds g form
+item_behind : (k : ℕ) (ds : List Decl) (name : List ℕ) (g : ℕ) (form : Form) → item_named k ds name ≡ item g form →
+    IsBehind k ds g form
 item_behind k [] name g form h = cc
 item_behind k (d ∷ ds) name g form h = test (is_named name d) h (item_behind (k + 1) ds name g form)
   where
@@ -100,7 +110,8 @@ item_behind k (d ∷ ds) name g form h = test (is_named name d) h (item_behind (
     shifted : IsBehind (k + 1) ds g form → IsBehind k (d ∷ ds) g form
     shifted (i, e, there) = (suc i, omega arith, there)
 
-    test : (c : Bool) → (if c then item k d.form else item_named (k + 1) ds name) ≡ item g form → (item_named (k + 1) ds name ≡ item g form → IsBehind (k + 1) ds g form) → IsBehind k (d ∷ ds) g form
+    test : (c : Bool) → (if c then item k d.form else item_named (k + 1) ds name) ≡ item g form →
+        (item_named (k + 1) ds name ≡ item g form → IsBehind (k + 1) ds g form) → IsBehind k (d ∷ ds) g form
     test true h next = first (cc) (cc)
     test false h next = shifted (next h)
 
@@ -109,26 +120,37 @@ in_front [] ys i d h = cc
 in_front (x ∷ xs) ys zero d h = h
 in_front (x ∷ xs) ys (suc i) d h = in_front xs ys i d h
 
-pub item_there : {vs : List Ty} {ds : List Decl} {s : Scope} (x : Ident) (g : ℕ) (form : Form) → IsScoped vs ds s → meaning s x ≡ item g form → IsDeclared ds g form
-item_there {vs} {ds} {s} x g form scoped h = found (item_behind 0 s.decls x.name g form (otherwise_item (s.block ++ s.around) x.name (item_named 0 s.decls x.name) g form h))
+pub item_there : {vs : List Ty} {ds : List Decl} {s : Scope} (x : Ident) (g : ℕ) (form : Form) → IsScoped vs ds s →
+    meaning s x ≡ item g form → IsDeclared ds g form
+item_there {vs} {ds} {s} x g form scoped h =
+    found (item_behind 0 s.decls x.name g form (otherwise_item (s.block ++ s.around) x.name
+    (item_named 0 s.decls x.name) g form h))
   where
     found : IsBehind 0 s.decls g form → IsDeclared ds g form
     found (i, e, (d, there, of)) =
-        let same : i ≡ g = omega arith in
-        (d, ap (λ es. slice_get es g) scoped.decls ∙ in_front s.decls scoped.more g d (subst (λ j. slice_get s.decls j ≡ Some d) same there), of)
+        let same : i ≡ g = omega arith in (
+          d,
+          ap (λ es. slice_get es g) scoped.decls ∙ in_front s.decls scoped.more g d
+              (subst (λ j. slice_get s.decls j ≡ Some d) same there),
+          of,
+        )
 
 -- scopes further on
 
 pub inside_scoped : {vs : List Ty} {ds : List Decl} {s : Scope} → IsScoped vs ds s → IsScoped vs ds (inside s)
 inside_scoped h = record { bound = h.bound; more = h.more; decls = h.decls }
 
-pub past_scoped : {vs : List Ty} {ds : List Decl} {s : Scope} (a : StmtTree) → IsScoped vs ds s → IsScoped vs ds (past s a)
+pub past_scoped : {vs : List Ty} {ds : List Decl} {s : Scope} (a : StmtTree) → IsScoped vs ds s →
+    IsScoped vs ds (past s a)
 past_scoped a h = record { bound = h.bound; more = h.more; decls = h.decls }
 
-pub declaring_scoped : {vs : List Ty} {ds : List Decl} {s : Scope} (ty : Ty) (x : Ident) → Segment vs s.count (ty ∷ []) → IsScoped vs ds s → IsScoped vs ds (declaring s ty x)
-declaring_scoped {vs} {ds} {s} ty x there h = record { bound = (one_local vs s.count ty there, h.bound); more = h.more; decls = h.decls }
+pub declaring_scoped : {vs : List Ty} {ds : List Decl} {s : Scope} (ty : Ty) (x : Ident) →
+    Segment vs s.count (ty ∷ []) → IsScoped vs ds s → IsScoped vs ds (declaring s ty x)
+declaring_scoped {vs} {ds} {s} ty x there h =
+    record { bound = (one_local vs s.count ty there, h.bound); more = h.more; decls = h.decls }
 
-pub after_scoped : {vs : List Ty} {ds : List Decl} {s : Scope} (a : StmtTree) → Segment vs s.count (locals_of a) → IsScoped vs ds s → IsScoped vs ds (after s a)
+pub after_scoped : {vs : List Ty} {ds : List Decl} {s : Scope} (a : StmtTree) → Segment vs s.count (locals_of a) →
+    IsScoped vs ds s → IsScoped vs ds (after s a)
 after_scoped (declare p ty x i) there h = declaring_scoped ty x there h
 after_scoped (skip p) there h = past_scoped (skip p) h
 after_scoped (assign p t op a) there h = past_scoped (assign p t op a) h
@@ -162,11 +184,13 @@ after_count s (lock p x) = refl
 after_count s (unlock p x) = refl
 after_count s (print p a) = refl
 
-pub after_option_scoped : {vs : List Ty} {ds : List Decl} {s : Scope} (o : StmtOption) → Segment vs s.count (locals_of_option o) → IsScoped vs ds s → IsScoped vs ds (after_option s o)
+pub after_option_scoped : {vs : List Ty} {ds : List Decl} {s : Scope} (o : StmtOption) →
+    Segment vs s.count (locals_of_option o) → IsScoped vs ds s → IsScoped vs ds (after_option s o)
 after_option_scoped absent there h = h
 after_option_scoped (present a) there h = after_scoped a there h
 
-pub past_option_scoped : {vs : List Ty} {ds : List Decl} {s : Scope} (o : StmtOption) → IsScoped vs ds s → IsScoped vs ds (past_option s o)
+pub past_option_scoped : {vs : List Ty} {ds : List Decl} {s : Scope} (o : StmtOption) → IsScoped vs ds s →
+    IsScoped vs ds (past_option s o)
 past_option_scoped absent h = h
 past_option_scoped (present a) h = past_scoped a h
 

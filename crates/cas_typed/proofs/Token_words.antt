@@ -51,22 +51,26 @@ choose true x y passes others = passes
 choose false x y passes others = others refl
 
 name_words : (text : List ℕ) → IsWordFront (name_at text)
-name_words text = choose (is_left_out text) (f.Fault R7) (word_or_name (word_of text) text) tt (λ _. either (word_of text))
+name_words text = choose (is_left_out text) (f.Fault R7) (word_or_name (word_of text) text) tt
+    (λ _. either (word_of text))
   where
     either : (w : Option Word) → IsWordFront (word_or_name w text)
     either (Some w) = tt
     either None = choose (nat_lt 63 (length text)) (f.Fault R4) (f.Token (k.Name text) (length text)) tt (λ _. tt)
 
-ended_words : (value : ℕ) (has_u : Bool) (n : ℕ) (after : List ℕ) → value < 2 ^ 32 → IsWordFront (ended_literal value has_u n after)
+ended_words : (value : ℕ) (has_u : Bool) (n : ℕ) (after : List ℕ) → value < 2 ^ 32 →
+    IsWordFront (ended_literal value has_u n after)
 ended_words value has_u n after small = choose (begins_with_letter after) _ _ tt (λ _. small)
 
 not_greater : (value : ℕ) → nat_lt 4294967295 value ≡ false → value < 2 ^ 32
 not_greater value h = grind (arith, nat_tests)
 
 before_words : (value n : ℕ) (after : List ℕ) → IsWordFront (literal_before value n after)
-before_words value n after = choose (nat_lt 4294967295 value) _ _ tt (λ h. either (begins_with_u after) (not_greater value h))
+before_words value n after = choose (nat_lt 4294967295 value) _ _ tt
+    (λ h. either (begins_with_u after) (not_greater value h))
   where
-    either : (t : Bool) → value < 2 ^ 32 → IsWordFront (if t then ended_literal value true (n + 1) (drop 1 after) else ended_literal value false n after)
+    either : (t : Bool) → value < 2 ^ 32 → IsWordFront
+        (if t then ended_literal value true (n + 1) (drop 1 after) else ended_literal value false n after)
     either true small = ended_words value true (n + 1) (drop 1 after) small
     either false small = ended_words value false n after small
 
@@ -76,10 +80,13 @@ literal_words text =
     (λ _. choose (is_octal (take_while is_ascii_digit text)) _ _ tt (λ _. decimal (take_while is_ascii_digit text)))
   where
     hexadecimal : (rest : List ℕ) →
-        IsWordFront (literal_before (digits_value 16 (take_while is_ascii_hexdigit rest)) (2 + length (take_while is_ascii_hexdigit rest)) (drop (length (take_while is_ascii_hexdigit rest)) rest))
-    hexadecimal rest = before_words (digits_value 16 (take_while is_ascii_hexdigit rest)) (2 + length (take_while is_ascii_hexdigit rest)) (drop (length (take_while is_ascii_hexdigit rest)) rest)
+        IsWordFront (literal_before (digits_value 16 (take_while is_ascii_hexdigit rest))
+        (2 + length (take_while is_ascii_hexdigit rest)) (drop (length (take_while is_ascii_hexdigit rest)) rest))
+    hexadecimal rest = before_words (digits_value 16 (take_while is_ascii_hexdigit rest))
+        (2 + length (take_while is_ascii_hexdigit rest)) (drop (length (take_while is_ascii_hexdigit rest)) rest)
 
-    decimal : (digits : List ℕ) → IsWordFront (literal_before (digits_value 10 digits) (length digits) (drop (length digits) text))
+    decimal : (digits : List ℕ) →
+        IsWordFront (literal_before (digits_value 10 digits) (length digits) (drop (length digits) text))
     decimal digits = before_words (digits_value 10 digits) (length digits) (drop (length digits) text)
 
 comment_words : (n : Option ℕ) → IsWordFront (block_comment n)
@@ -109,10 +116,12 @@ front_words : (text : List ℕ) → IsWordFront (front text)
 front_words [] = tt
 front_words (b ∷ bs) = front_at_words b (b ∷ bs)
 
-pub lexed_words : {p : Place} {text : List ℕ} {tokens : List Token} {stop : Stop} → Lexed p text tokens stop → HaveWords tokens
+pub lexed_words : {p : Place} {text : List ℕ} {tokens : List Token} {stop : Stop} → Lexed p text tokens stop →
+    HaveWords tokens
 lexed_words (ends p) = no_token
 lexed_words (skips p text n tokens stop some is h) = lexed_words h
-lexed_words (takes p text kind n tokens stop some is h) = and_more _ tokens (found (front text) is (front_words text)) (lexed_words h)
+lexed_words (takes p text kind n tokens stop some is h) =
+    and_more _ tokens (found (front text) is (front_words text)) (lexed_words h)
   where
     found : (x : Front) → x ≡ f.Token kind n → IsWordFront x → IsWordToken kind
     found x e w = subst IsWordFront e w

@@ -39,11 +39,15 @@ declared x form = record { name = x; form = form; defined = true }
 abbrev here : Scope
 here = record {
   block = [];
-  around = bound (codes "c") 0 (Int I8) ∷ bound (codes "h") 1 (Int U8) ∷ bound (codes "i") 2 (Int I16) ∷ bound (codes "j") 3 (Int U16)
-      ∷ bound (codes "x") 4 (Int I32) ∷ bound (codes "u") 5 (Int U32) ∷ bound (codes "p") 6 (Ptr I32) ∷ bound (codes "d") 7 (Ptr I8)
+  around = bound (codes "c") 0 (Int I8) ∷ bound (codes "h") 1 (Int U8) ∷ bound (codes "i") 2 (Int I16) ∷ bound
+      (codes "j") 3 (Int U16)
+      ∷ bound (codes "x") 4 (Int I32) ∷ bound (codes "u") 5 (Int U32) ∷ bound (codes "p") 6 (Ptr I32) ∷ bound
+      (codes "d") 7 (Ptr I8)
       ∷ bound (codes "a") 8 (Array I32 3) ∷ [];
-  decls = declared (codes "L") Lock ∷ declared (codes "g") (Shared (Int I32) (codes "L")) ∷ declared (codes "b") (Shared (Array I8 4) (codes "L"))
-      ∷ declared (codes "t") (Table (Array I32 2)) ∷ declared (codes "f") (Function (Int I32) (Int I32 ∷ Ptr I32 ∷ []) [])
+  decls = declared (codes "L") Lock ∷ declared (codes "g") (Shared (Int I32) (codes "L")) ∷ declared (codes "b")
+      (Shared (Array I8 4) (codes "L"))
+      ∷ declared (codes "t") (Table (Array I32 2)) ∷ declared (codes "f")
+      (Function (Int I32) (Int I32 ∷ Ptr I32 ∷ []) [])
       ∷ declared (codes "v") (Function Void [] []) ∷ [];
   count = 9;
 }
@@ -76,31 +80,37 @@ pointer = Some (Ptr I32)
 
 -- c + h, i * j, x / u, u % c, c - 1u, c & c, p * 1, p & p
 arithmetic_types :
-    types (binary Add (x_ (codes "c")) (x_ (codes "h")) ∷ binary Mul (x_ (codes "i")) (x_ (codes "j")) ∷ binary Div (x_ (codes "x")) (x_ (codes "u"))
-    ∷ binary Mod (x_ (codes "u")) (x_ (codes "c")) ∷ binary Sub (x_ (codes "c")) (literal 1 U32) ∷ binary BitAnd (x_ (codes "c")) (x_ (codes "c"))
+    types (binary Add (x_ (codes "c")) (x_ (codes "h")) ∷ binary Mul (x_ (codes "i")) (x_ (codes "j")) ∷ binary Div
+    (x_ (codes "x")) (x_ (codes "u"))
+    ∷ binary Mod (x_ (codes "u")) (x_ (codes "c")) ∷ binary Sub (x_ (codes "c")) (literal 1 U32) ∷ binary BitAnd
+    (x_ (codes "c")) (x_ (codes "c"))
     ∷ binary Mul (x_ (codes "p")) one_ ∷ binary BitAnd (x_ (codes "p")) (x_ (codes "p")) ∷ [])
     ≡ int ∷ int ∷ unsigned ∷ unsigned ∷ unsigned ∷ int ∷ None ∷ None ∷ []
 arithmetic_types = refl
 
 -- p + u, c + p, p - 1, 1 - p, p + p, a + 1, b + 1, p - p, p - a, p - d
 pointer_types :
-    types (binary Add (x_ (codes "p")) (x_ (codes "u")) ∷ binary Add (x_ (codes "c")) (x_ (codes "p")) ∷ binary Sub (x_ (codes "p")) one_
+    types (binary Add (x_ (codes "p")) (x_ (codes "u")) ∷ binary Add (x_ (codes "c")) (x_ (codes "p")) ∷ binary Sub
+    (x_ (codes "p")) one_
     ∷ binary Sub one_ (x_ (codes "p")) ∷ binary Add (x_ (codes "p")) (x_ (codes "p")) ∷ binary Add (x_ (codes "a")) one_
-    ∷ binary Add (x_ (codes "b")) one_ ∷ binary Sub (x_ (codes "p")) (x_ (codes "p")) ∷ binary Sub (x_ (codes "p")) (x_ (codes "a"))
+    ∷ binary Add (x_ (codes "b")) one_ ∷ binary Sub (x_ (codes "p")) (x_ (codes "p")) ∷ binary Sub (x_ (codes "p"))
+    (x_ (codes "a"))
     ∷ binary Sub (x_ (codes "p")) (x_ (codes "d")) ∷ [])
     ≡ pointer ∷ pointer ∷ pointer ∷ None ∷ None ∷ pointer ∷ None ∷ int ∷ int ∷ None ∷ []
 pointer_types = refl
 
 -- c << u, u >> c, p << 1, 1 << p
 shift_types :
-    types (binary Shl (x_ (codes "c")) (x_ (codes "u")) ∷ binary Shr (x_ (codes "u")) (x_ (codes "c")) ∷ binary Shl (x_ (codes "p")) one_
+    types (binary Shl (x_ (codes "c")) (x_ (codes "u")) ∷ binary Shr (x_ (codes "u")) (x_ (codes "c")) ∷ binary Shl
+    (x_ (codes "p")) one_
     ∷ binary Shl one_ (x_ (codes "p")) ∷ [])
     ≡ int ∷ unsigned ∷ None ∷ None ∷ []
 shift_types = refl
 
 -- x == u, p == p, p == d, p == 0, 0 != p, p == 0u, p == 1, p == x
 equality_types :
-    types (binary Eq (x_ (codes "x")) (x_ (codes "u")) ∷ binary Eq (x_ (codes "p")) (x_ (codes "p")) ∷ binary Eq (x_ (codes "p")) (x_ (codes "d"))
+    types (binary Eq (x_ (codes "x")) (x_ (codes "u")) ∷ binary Eq (x_ (codes "p")) (x_ (codes "p")) ∷ binary Eq
+    (x_ (codes "p")) (x_ (codes "d"))
     ∷ binary Eq (x_ (codes "p")) zero_ ∷ binary Ne zero_ (x_ (codes "p")) ∷ binary Eq (x_ (codes "p")) (literal 0 U32)
     ∷ binary Eq (x_ (codes "p")) one_ ∷ binary Eq (x_ (codes "p")) (x_ (codes "x")) ∷ [])
     ≡ int ∷ int ∷ None ∷ int ∷ int ∷ None ∷ None ∷ None ∷ []
@@ -108,47 +118,56 @@ equality_types = refl
 
 -- c < u, p <= a, p > d, p >= 0
 order_types :
-    types (binary Lt (x_ (codes "c")) (x_ (codes "u")) ∷ binary Le (x_ (codes "p")) (x_ (codes "a")) ∷ binary Gt (x_ (codes "p")) (x_ (codes "d"))
+    types (binary Lt (x_ (codes "c")) (x_ (codes "u")) ∷ binary Le (x_ (codes "p")) (x_ (codes "a")) ∷ binary Gt
+    (x_ (codes "p")) (x_ (codes "d"))
     ∷ binary Ge (x_ (codes "p")) zero_ ∷ [])
     ≡ int ∷ int ∷ None ∷ None ∷ []
 order_types = refl
 
 -- x && p, d || u, !a, !v, x && L
 test_types :
-    types (and_also (x_ (codes "x")) (x_ (codes "p")) ∷ or_else (x_ (codes "d")) (x_ (codes "u")) ∷ unary Not (x_ (codes "a"))
+    types (and_also (x_ (codes "x")) (x_ (codes "p")) ∷ or_else (x_ (codes "d")) (x_ (codes "u")) ∷ unary Not
+    (x_ (codes "a"))
     ∷ unary Not (x_ (codes "v")) ∷ and_also (x_ (codes "x")) (x_ (codes "L")) ∷ [])
     ≡ int ∷ int ∷ int ∷ None ∷ None ∷ []
 test_types = refl
 
 -- p ? c : u, x ? p : a, x ? p : 0, x ? 0 : p, x ? 0 : 0, x ? p : d, x ? p : 1, L ? 1 : 1
 choice_types :
-    types (conditional (x_ (codes "p")) (x_ (codes "c")) (x_ (codes "u")) ∷ conditional (x_ (codes "x")) (x_ (codes "p")) (x_ (codes "a"))
-    ∷ conditional (x_ (codes "x")) (x_ (codes "p")) zero_ ∷ conditional (x_ (codes "x")) zero_ (x_ (codes "p")) ∷ conditional (x_ (codes "x")) zero_ zero_
-    ∷ conditional (x_ (codes "x")) (x_ (codes "p")) (x_ (codes "d")) ∷ conditional (x_ (codes "x")) (x_ (codes "p")) one_
+    types (conditional (x_ (codes "p")) (x_ (codes "c")) (x_ (codes "u")) ∷ conditional (x_ (codes "x"))
+    (x_ (codes "p")) (x_ (codes "a"))
+    ∷ conditional (x_ (codes "x")) (x_ (codes "p")) zero_ ∷ conditional (x_ (codes "x")) zero_ (x_ (codes "p"))
+    ∷ conditional (x_ (codes "x")) zero_ zero_
+    ∷ conditional (x_ (codes "x")) (x_ (codes "p")) (x_ (codes "d")) ∷ conditional (x_ (codes "x")) (x_ (codes "p"))
+    one_
     ∷ conditional (x_ (codes "L")) one_ one_ ∷ [])
     ≡ unsigned ∷ pointer ∷ pointer ∷ pointer ∷ int ∷ None ∷ None ∷ None ∷ []
 choice_types = refl
 
 -- -c, +u, ~h, -p, (char) u, (unsigned) c, (int) p
 unary_types :
-    types (unary Neg (x_ (codes "c")) ∷ unary Plus (x_ (codes "u")) ∷ unary BitNot (x_ (codes "h")) ∷ unary Neg (x_ (codes "p"))
+    types (unary Neg (x_ (codes "c")) ∷ unary Plus (x_ (codes "u")) ∷ unary BitNot (x_ (codes "h")) ∷ unary Neg
+    (x_ (codes "p"))
     ∷ cast I8 (x_ (codes "u")) ∷ cast U32 (x_ (codes "c")) ∷ cast I32 (x_ (codes "p")) ∷ [])
     ≡ int ∷ unsigned ∷ int ∷ None ∷ Some (Int I8) ∷ unsigned ∷ None ∷ []
 unary_types = refl
 
 -- *p, *a, *x, p[u], a[c], b[1], t[1], x[0], g[0], p[p], &x, &a[1], &d[1], &a, &x[0], &L
 cell_types :
-    types (deref (x_ (codes "p")) ∷ deref (x_ (codes "a")) ∷ deref (x_ (codes "x")) ∷ index (named (codes "p")) (x_ (codes "u"))
+    types (deref (x_ (codes "p")) ∷ deref (x_ (codes "a")) ∷ deref (x_ (codes "x")) ∷ index (named (codes "p"))
+    (x_ (codes "u"))
     ∷ index (named (codes "a")) (x_ (codes "c")) ∷ index (named (codes "b")) one_ ∷ index (named (codes "t")) one_
     ∷ index (named (codes "x")) zero_ ∷ index (named (codes "g")) zero_ ∷ index (named (codes "p")) (x_ (codes "p"))
     ∷ address (named (codes "x")) ∷ address_index (named (codes "a")) one_ ∷ address_index (named (codes "d")) one_
     ∷ address (named (codes "a")) ∷ address_index (named (codes "x")) zero_ ∷ address (named (codes "L")) ∷ [])
-    ≡ int ∷ int ∷ None ∷ int ∷ int ∷ Some (Int I8) ∷ int ∷ None ∷ None ∷ None ∷ pointer ∷ pointer ∷ Some (Ptr I8) ∷ None ∷ None ∷ None ∷ []
+    ≡ int ∷ int ∷ None ∷ int ∷ int ∷ Some (Int I8) ∷ int ∷ None ∷ None ∷ None ∷ pointer ∷ pointer ∷ Some
+    (Ptr I8) ∷ None ∷ None ∷ None ∷ []
 cell_types = refl
 
 -- -1 < 1u, h >> 1, b[u], *(p + c)
 readings :
-    map (resolved here) (binary Lt (unary Neg one_) (literal 1 U32) ∷ binary Shr (x_ (codes "h")) one_ ∷ index (named (codes "b")) (x_ (codes "u"))
+    map (resolved here) (binary Lt (unary Neg one_) (literal 1 U32) ∷ binary Shr (x_ (codes "h")) one_ ∷ index
+    (named (codes "b")) (x_ (codes "u"))
     ∷ deref (binary Add (x_ (codes "p")) (x_ (codes "c"))) ∷ [])
     ≡ fits (t.binary Lt Unsigned (t.unary Neg (t.literal 1)) (t.literal 1)) (Int I32)
     ∷ fits (t.binary Shr Signed (t.local 1) (t.literal 1)) (Int I32)
@@ -166,19 +185,24 @@ sets x a = assign (at 5) (to_name (named x)) None a
 
 -- u += c; c = u; p = 0; *p = c; a[1] = p[1]; b[x] = 1; while (p) ;  return;  x = f(c, 0);
 done :
-    map here_is (assign (at 5) (to_name (named (codes "u"))) (Some Add) (x_ (codes "c")) ∷ sets (codes "c") (x_ (codes "u")) ∷ sets (codes "p") zero_
-    ∷ assign (at 5) (to_deref (x_ (codes "p"))) None (x_ (codes "c")) ∷ assign (at 5) (to_index (named (codes "a")) one_) None (index (named (codes "p")) one_)
-    ∷ assign (at 5) (to_index (named (codes "b")) (x_ (codes "x"))) None one_ ∷ while_ (at 5) (x_ (codes "p")) (skip (at 6)) ∷ return_ (at 5) None
+    map here_is (assign (at 5) (to_name (named (codes "u"))) (Some Add) (x_ (codes "c")) ∷ sets (codes "c")
+    (x_ (codes "u")) ∷ sets (codes "p") zero_
+    ∷ assign (at 5) (to_deref (x_ (codes "p"))) None (x_ (codes "c")) ∷ assign (at 5)
+    (to_index (named (codes "a")) one_) None (index (named (codes "p")) one_)
+    ∷ assign (at 5) (to_index (named (codes "b")) (x_ (codes "x"))) None one_ ∷ while_ (at 5) (x_ (codes "p"))
+    (skip (at 6)) ∷ return_ (at 5) None
     ∷ call (at 5) (Some (named (codes "x"))) (named (codes "f")) (x_ (codes "c") ∷ zero_ ∷ []) ∷ [])
     ≡ Ok (t.assign (at 5) (t.to_local 5) (t.narrow U32 (t.binary Add Unsigned (t.local 5) (t.local 0))))
     ∷ Ok (t.assign (at 5) (t.to_local 0) (t.narrow I8 (t.local 5)))
     ∷ Ok (t.assign (at 5) (t.to_local 6) t.null)
     ∷ Ok (t.assign (at 5) (t.to_behind I32 (t.local 6)) (t.narrow I32 (t.local 0)))
-    ∷ Ok (t.assign (at 5) (t.to_behind I32 (t.pointer_plus Signed (t.place_of 8) (t.literal 1))) (t.narrow I32 (t.behind I32 (t.pointer_plus Signed (t.local 6) (t.literal 1)))))
+    ∷ Ok (t.assign (at 5) (t.to_behind I32 (t.pointer_plus Signed (t.place_of 8) (t.literal 1)))
+    (t.narrow I32 (t.behind I32 (t.pointer_plus Signed (t.local 6) (t.literal 1)))))
     ∷ Ok (t.assign (at 5) (t.to_element 2 (at 9) Signed (t.local 4)) (t.narrow I8 (t.literal 1)))
     ∷ Ok (t.while_ (at 5) (t.compare Ne (t.local 6) t.null) (t.skip (at 6)))
     ∷ Ok (t.return_ (at 5) (Some t.null))
-    ∷ Ok (t.call (at 5) (Some (record { local = 4; ty = Int I32 })) 4 (at 9) (t.narrow I32 (t.local 0) ∷ t.null ∷ [])) ∷ []
+    ∷ Ok (t.call (at 5) (Some (record { local = 4; ty = Int I32 })) 4 (at 9) (t.narrow I32 (t.local 0) ∷ t.null ∷ []))
+    ∷ []
 done = refl
 
 abbrev refused : TypeCode → Option (List ℕ) → Result t.TypedStmtTree Fault
@@ -193,13 +217,19 @@ refused code x = Err (fault code (at 5) x)
 -- break; continue;
 faults :
     map here_is (sets (codes "y") one_ ∷ lock (at 5) (named (codes "y")) ∷ call (at 5) None (named (codes "y")) [] ∷
-    call (at 5) (Some (named (codes "x"))) (named (codes "f")) (one_ ∷ []) ∷ sets (codes "p") (x_ (codes "x")) ∷ sets (codes "p") (x_ (codes "d")) ∷
-    call (at 5) (Some (named (codes "x"))) (named (codes "v")) [] ∷ print (at 5) (x_ (codes "p")) ∷ return_ (at 5) (Some (x_ (codes "x"))) ∷
-    lock (at 5) (named (codes "x")) ∷ call (at 5) None (named (codes "x")) [] ∷ sets (codes "x") (x_ (codes "L")) ∷ sets (codes "f") one_ ∷
+    call (at 5) (Some (named (codes "x"))) (named (codes "f")) (one_ ∷ []) ∷ sets (codes "p") (x_ (codes "x")) ∷ sets
+    (codes "p") (x_ (codes "d")) ∷
+    call (at 5) (Some (named (codes "x"))) (named (codes "v")) [] ∷ print (at 5) (x_ (codes "p")) ∷ return_ (at 5)
+    (Some (x_ (codes "x"))) ∷
+    lock (at 5) (named (codes "x")) ∷ call (at 5) None (named (codes "x")) [] ∷ sets (codes "x") (x_ (codes "L")) ∷ sets
+    (codes "f") one_ ∷
     assign (at 5) (to_index (named (codes "t")) zero_) None one_ ∷ assign (at 5) (to_deref (x_ (codes "x"))) None one_ ∷
-    assign (at 5) (to_index (named (codes "x")) zero_) None one_ ∷ assign (at 5) (to_index (named (codes "p")) (x_ (codes "p"))) None one_ ∷
-    call (at 5) (Some (named (codes "g"))) (named (codes "f")) (one_ ∷ zero_ ∷ []) ∷ sets (codes "x") (x_ (codes "b")) ∷ sets (codes "b") one_ ∷
-    sets (codes "p") (address (named (codes "g"))) ∷ sets (codes "p") (address (named (codes "p"))) ∷ break_ (at 5) ∷ continue_ (at 5) ∷ [])
+    assign (at 5) (to_index (named (codes "x")) zero_) None one_ ∷ assign (at 5)
+    (to_index (named (codes "p")) (x_ (codes "p"))) None one_ ∷
+    call (at 5) (Some (named (codes "g"))) (named (codes "f")) (one_ ∷ zero_ ∷ []) ∷ sets (codes "x") (x_ (codes "b"))
+    ∷ sets (codes "b") one_ ∷
+    sets (codes "p") (address (named (codes "g"))) ∷ sets (codes "p") (address (named (codes "p"))) ∷ break_
+    (at 5) ∷ continue_ (at 5) ∷ [])
     ≡ refused T1 (Some (codes "y")) ∷ refused T1 (Some (codes "y")) ∷ refused T1 (Some (codes "y")) ∷
     refused T4 (Some (codes "f")) ∷ refused T3 None ∷ refused T3 None ∷
     refused T3 None ∷ refused T3 None ∷ refused T3 None ∷
@@ -212,11 +242,15 @@ faults = refl
 
 -- two causes: t[0] = y; x[0] = p; g = f(p); x = f(p); if (y) break; for (int y = 1; y; y = p) break;
 orders :
-    map here_is (assign (at 5) (to_index (named (codes "t")) zero_) None (x_ (codes "y")) ∷ assign (at 5) (to_index (named (codes "x")) zero_) None (x_ (codes "p")) ∷
-    call (at 5) (Some (named (codes "g"))) (named (codes "f")) (x_ (codes "p") ∷ []) ∷ call (at 5) (Some (named (codes "x"))) (named (codes "f")) (x_ (codes "p") ∷ []) ∷
+    map here_is (assign (at 5) (to_index (named (codes "t")) zero_) None (x_ (codes "y")) ∷ assign (at 5)
+    (to_index (named (codes "x")) zero_) None (x_ (codes "p")) ∷
+    call (at 5) (Some (named (codes "g"))) (named (codes "f")) (x_ (codes "p") ∷ []) ∷ call (at 5)
+    (Some (named (codes "x"))) (named (codes "f")) (x_ (codes "p") ∷ []) ∷
     if_ (at 5) (x_ (codes "y")) (break_ (at 6)) absent ∷
-    for_ (at 4) (present (declare (at 9) (Int I32) (named (codes "y")) (value one_))) (Some (x_ (codes "y"))) (present (sets (codes "y") (x_ (codes "p")))) (break_ (at 6)) ∷ [])
-    ≡ refused T1 (Some (codes "y")) ∷ refused T5 None ∷ refused T5 None ∷ refused T4 (Some (codes "f")) ∷ refused T1 (Some (codes "y")) ∷ refused T3 None ∷ []
+    for_ (at 4) (present (declare (at 9) (Int I32) (named (codes "y")) (value one_))) (Some (x_ (codes "y")))
+    (present (sets (codes "y") (x_ (codes "p")))) (break_ (at 6)) ∷ [])
+    ≡ refused T1 (Some (codes "y")) ∷ refused T5 None ∷ refused T5 None ∷ refused T4 (Some (codes "f")) ∷ refused T1
+    (Some (codes "y")) ∷ refused T3 None ∷ []
 orders = refl
 
 -- scopes: int y; int y;   int y; { int *y; y = 0; } y = 1;   { int y; } y = 1;   char x = x;   int f; f();   int L;
@@ -231,16 +265,22 @@ abbrev refused_list : TypeCode → Place → Option (List ℕ) → Result t.Type
 refused_list code p x = Err (fault code p x)
 
 scopes :
-    map several (one_more (local_ (Int I32) (codes "y") nothing) (one_more (local_ (Int I32) (codes "y") nothing) no_more)
-    ∷ one_more (local_ (Int I32) (codes "y") nothing) (one_more (block (at 5) (one_more (local_ (Ptr I32) (codes "y") nothing) (one_more (sets (codes "y") zero_) no_more)))
+    map several (one_more (local_ (Int I32) (codes "y") nothing)
+    (one_more (local_ (Int I32) (codes "y") nothing) no_more)
+    ∷ one_more (local_ (Int I32) (codes "y") nothing)
+    (one_more
+    (block (at 5) (one_more (local_ (Ptr I32) (codes "y") nothing) (one_more (sets (codes "y") zero_) no_more)))
     (one_more (sets (codes "y") one_) no_more))
-    ∷ one_more (block (at 5) (one_more (local_ (Int I32) (codes "y") nothing) no_more)) (one_more (sets (codes "y") one_) no_more)
+    ∷ one_more (block (at 5) (one_more (local_ (Int I32) (codes "y") nothing) no_more))
+    (one_more (sets (codes "y") one_) no_more)
     ∷ one_more (local_ (Int I8) (codes "x") (value (x_ (codes "x")))) no_more
     ∷ one_more (local_ (Int I32) (codes "f") nothing) (one_more (call (at 5) None (named (codes "f")) []) no_more)
     ∷ one_more (local_ (Int I32) (codes "L") nothing) (one_more (lock (at 5) (named (codes "L"))) no_more)
     ∷ one_more (local_ (Array I32 0) (codes "y") nothing) no_more ∷ [])
     ≡ refused_list T2 (at 9) (Some (codes "y"))
-    ∷ Ok (t.one_more (t.skip (at 9)) (t.one_more (t.block (at 5) (t.one_more (t.skip (at 9)) (t.one_more (t.assign (at 5) (t.to_local 10) t.null) t.no_more)))
+    ∷ Ok (t.one_more (t.skip (at 9))
+    (t.one_more
+    (t.block (at 5) (t.one_more (t.skip (at 9)) (t.one_more (t.assign (at 5) (t.to_local 10) t.null) t.no_more)))
     (t.one_more (t.assign (at 5) (t.to_local 9) (t.narrow I32 (t.literal 1))) t.no_more)))
     ∷ refused_list T1 (at 9) (Some (codes "y"))
     ∷ Ok (t.one_more (t.assign (at 9) (t.to_local 9) (t.narrow I8 (t.local 9))) t.no_more)

@@ -23,11 +23,13 @@ or_none (Some x) = refl
 
 -- one put
 
-put_by : (old new : Option Entity) (x : Entity) (there here : Bool) → new ≡ cond there (Some x) old → there ≡ here → (here ≡ true → is_some old ≡ false) →
+put_by : (old new : Option Entity) (x : Entity) (there here : Bool) → new ≡ cond there (Some x) old → there ≡ here →
+    (here ≡ true → is_some old ≡ false) →
     option_map entity_of new ≡ option_or (option_map entity_of old) (cond here (Some (entity_of x)) None)
 put_by old new x true true is same none = put_here old (none refl)
   where
-    put_here : (old : Option Entity) → is_some old ≡ false → option_map entity_of new ≡ option_or (option_map entity_of old) (Some (entity_of x))
+    put_here : (old : Option Entity) → is_some old ≡ false →
+        option_map entity_of new ≡ option_or (option_map entity_of old) (Some (entity_of x))
     put_here None none = ap (option_map entity_of) is
     put_here (Some y) none = absurd (cc none)
 put_by old new x true false is same none = absurd (cc same)
@@ -41,11 +43,14 @@ either_way a b false true is also = sym is ∙ ap (bytes_eq a) (same_name b a al
 either_way a b false false is also = refl
 
 -- a name that isn't there is put
-pub put_new : (old new : List (Bor (List ℕ) × Entity)) (name : List ℕ) (x : Entity) → is_some (lookup (λ key. bytes_eq name key.now) old) ≡ false →
-    ((q : List ℕ) → lookup (λ key. bytes_eq q key.now) new ≡ cond (bytes_eq name q) (Some x) (lookup (λ key. bytes_eq q key.now) old)) →
+pub put_new : (old new : List (Bor (List ℕ) × Entity)) (name : List ℕ) (x : Entity) →
+    is_some (lookup (λ key. bytes_eq name key.now) old) ≡ false →
+    ((q : List ℕ) → lookup (λ key. bytes_eq q key.now) new ≡ cond (bytes_eq name q) (Some x)
+    (lookup (λ key. bytes_eq q key.now) old)) →
     (q : List ℕ) → named new q ≡ option_or (named old q) (cond (bytes_eq q name) (Some (entity_of x)) None)
 put_new old new name x none updated q =
-    put_by (lookup (λ key. bytes_eq q key.now) old) (lookup (λ key. bytes_eq q key.now) new) x (bytes_eq name q) (bytes_eq q name) (updated q)
+    put_by (lookup (λ key. bytes_eq q key.now) old) (lookup (λ key. bytes_eq q key.now) new) x (bytes_eq name q)
+    (bytes_eq q name) (updated q)
     (either_way name q (bytes_eq name q) (bytes_eq q name) refl refl)
     (λ same. ap (λ q. is_some (lookup (λ key. bytes_eq q key.now) old)) (same_name q name same) ∙ none)
 
@@ -53,24 +58,33 @@ put_new old new name x none updated q =
 
 -- the table has the cells so far, and these are left
 abbrev pub HasCells : List (Bor (List ℕ) × Entity) → (left all : List CellRow) → Type 0
-HasCells entries left all = (q : List ℕ) → option_or (named entries q) (option_map entity_of_cell (find (λ row. bytes_eq q row.name) left)) ≡ option_map entity_of_cell (find (λ row. bytes_eq q row.name) all)
+HasCells entries left all = (q : List ℕ) → option_or (named entries q)
+    (option_map entity_of_cell (find (λ row. bytes_eq q row.name) left)) ≡ option_map entity_of_cell
+    (find (λ row. bytes_eq q row.name) all)
 
 -- functions of a module
 
 abbrev pub at_place : (unit place : ℕ) → List Decl → (q : List ℕ) → Option env.Entity
-at_place unit place ds q = option_map (λ n. function_entity (unit, n)) (position_from (is_named q) place (functions_of ds))
+at_place unit place ds q = option_map (λ n. function_entity (unit, n))
+    (position_from (is_named q) place (functions_of ds))
 
 -- the table has a module's functions so far, and these declarations are left after this many functions
-abbrev pub HasFunctions : (unit : ℕ) (before now : List (Bor (List ℕ) × Entity)) (place : ℕ) (left all : List Decl) → Type 0
-HasFunctions unit before now place left all = (q : List ℕ) → option_or (named now q) (at_place unit place left q) ≡ option_or (named before q) (at_place unit 0 all q)
+abbrev pub HasFunctions : (unit : ℕ) (before now : List (Bor (List ℕ) × Entity)) (place : ℕ) (left all : List Decl) →
+    Type 0
+HasFunctions unit before now place left all = (q : List ℕ) →
+    option_or (named now q) (at_place unit place left q) ≡ option_or (named before q) (at_place unit 0 all q)
 
-pub functions_done : (unit place : ℕ) (before now : List (Bor (List ℕ) × Entity)) (all : List Decl) → HasFunctions unit before now place [] all →
-    (q : List ℕ) → named now q ≡ option_or (named before q) (option_map (λ n. function_entity (unit, n)) (position (is_named q) (functions_of all)))
+pub functions_done : (unit place : ℕ) (before now : List (Bor (List ℕ) × Entity)) (all : List Decl) →
+    HasFunctions unit before now place [] all →
+    (q : List ℕ) → named now q ≡ option_or (named before q)
+    (option_map (λ n. function_entity (unit, n)) (position (is_named q) (functions_of all)))
 functions_done unit place before now all has q =
-    or_none (named now q) ∙ has q ∙ ap (λ o. option_or (named before q) (option_map (λ n. function_entity (unit, n)) o)) (sym (position_from-zero (is_named q) (functions_of all)))
+    or_none (named now q) ∙ has q ∙ ap (λ o. option_or (named before q) (option_map (λ n. function_entity (unit, n)) o))
+    (sym (position_from-zero (is_named q) (functions_of all)))
 
 -- functions of modules
 
 -- the table has the functions of the modules so far, and these are left, of which the first has this number
 abbrev pub HasModules : List (Bor (List ℕ) × Entity) → (unit : ℕ) → (left all : List (List Decl)) → Type 0
-HasModules entries unit left all = (q : List ℕ) → option_or (named entries q) (option_map function_entity (place_from unit left q)) ≡ option_map function_entity (place_from 0 all q)
+HasModules entries unit left all = (q : List ℕ) → option_or (named entries q)
+    (option_map function_entity (place_from unit left q)) ≡ option_map function_entity (place_from 0 all q)

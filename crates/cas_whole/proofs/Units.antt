@@ -24,13 +24,21 @@ pub typed_decls : (t : Typed) (m : TypedModuleTree) → IsTypedAs t m → decls_
 typed_decls t m is = ap (λ tree. map decl_of tree.items) is.module_tree ∙ map-map decl_of item_tree t.filled.items
 
 -- the functions that items define after these declarations are few
-few_items : {before : List Decl} {items : List ItemTree} {rs : List TypedFunTree} → AreItems before items rs → function_count before ≤ most_functions → function_count (before ++ map decl_of items) ≤ most_functions
+few_items : {before : List Decl} {items : List ItemTree} {rs : List TypedFunTree} → AreItems before items rs →
+    function_count before ≤ most_functions → function_count (before ++ map decl_of items) ≤ most_functions
 few_items (AreItems.no_item before) few = subst (λ ds. function_count ds ≤ most_functions) (sym (append-nil before)) few
-few_items (AreItems.a_global before d vs p rest rs is more) few = subst (λ ds. function_count ds ≤ most_functions) (append_assoc before (d ∷ []) (map decl_of rest)) (few_items more is.functions)
-few_items (AreItems.a_prototype before d hs p rest rs is more) few = subst (λ ds. function_count ds ≤ most_functions) (append_assoc before (d ∷ []) (map decl_of rest)) (few_items more is.functions)
-few_items (AreItems.a_function before f rest r rs is one more) few = subst (λ ds. function_count ds ≤ most_functions) (append_assoc before (f.decl ∷ []) (map decl_of rest)) (few_items more is.functions)
+few_items (AreItems.a_global before d vs p rest rs is more) few =
+    subst (λ ds. function_count ds ≤ most_functions) (append_assoc before (d ∷ []) (map decl_of rest))
+    (few_items more is.functions)
+few_items (AreItems.a_prototype before d hs p rest rs is more) few =
+    subst (λ ds. function_count ds ≤ most_functions) (append_assoc before (d ∷ []) (map decl_of rest))
+    (few_items more is.functions)
+few_items (AreItems.a_function before f rest r rs is one more) few =
+    subst (λ ds. function_count ds ≤ most_functions) (append_assoc before (f.decl ∷ []) (map decl_of rest))
+    (few_items more is.functions)
 
-few_declared : (m : TypedModuleTree) → AreItems [] m.module_tree.items m.functions → length (functions_of (decls_of m)) ≤ most_functions
+few_declared : (m : TypedModuleTree) → AreItems [] m.module_tree.items m.functions →
+    length (functions_of (decls_of m)) ≤ most_functions
 few_declared m are = few_items are (omega arith)
 
 pub typed_few : (t : Typed) (m : TypedModuleTree) → IsTypedAs t m → length (functions_of (decls_in t)) < 2 ^ 32
@@ -58,25 +66,30 @@ typed_one [] [] (o ∷ others) are also = absurd also
 typed_one [] (m ∷ ms) others are also = absurd are
 typed_one (t ∷ ts) [] others are also = absurd are
 typed_one (t ∷ ts) (m ∷ ms) [] are also = absurd also
-typed_one (t ∷ ts) (m ∷ ms) (o ∷ others) are also = λ i. typed_once t m o are.0 also.0 i ∷ typed_one ts ms others are.1 also.1 i
+typed_one (t ∷ ts) (m ∷ ms) (o ∷ others) are also = λ i. typed_once t m o are.0 also.0 i ∷ typed_one ts ms others are.1
+    also.1 i
 
 -- a module of the code is a resolved one, and the other way round
 
-pub module_at : (ts : List Typed) (ms : List TypedModuleTree) (n : ℕ) (t : Typed) → AreTyped ts ms → slice_get ts n ≡ Some t → (m : TypedModuleTree) × (slice_get ms n ≡ Some m) × IsTypedAs t m
+pub module_at : (ts : List Typed) (ms : List TypedModuleTree) (n : ℕ) (t : Typed) → AreTyped ts ms →
+    slice_get ts n ≡ Some t → (m : TypedModuleTree) × (slice_get ms n ≡ Some m) × IsTypedAs t m
 module_at [] ms n t are is = absurd (cc is)
 module_at (t ∷ ts) [] n x are is = absurd are
 module_at (t ∷ ts) (m ∷ ms) zero x are is = let same : t ≡ x = cc is in (m, refl, subst (λ t. IsTypedAs t m) same are.0)
 module_at (t ∷ ts) (m ∷ ms) (suc n) x are is = module_at ts ms n x are.1 is
 
-pub resolved_at : (ts : List Typed) (ms : List TypedModuleTree) (n : ℕ) (m : TypedModuleTree) → AreTyped ts ms → slice_get ms n ≡ Some m → (t : Typed) × (slice_get ts n ≡ Some t) × IsTypedAs t m
+pub resolved_at : (ts : List Typed) (ms : List TypedModuleTree) (n : ℕ) (m : TypedModuleTree) → AreTyped ts ms →
+    slice_get ms n ≡ Some m → (t : Typed) × (slice_get ts n ≡ Some t) × IsTypedAs t m
 resolved_at ts [] n m are is = absurd (cc is)
 resolved_at [] (m ∷ ms) n x are is = absurd are
-resolved_at (t ∷ ts) (m ∷ ms) zero x are is = let same : m ≡ x = cc is in (t, refl, subst (λ m. IsTypedAs t m) same are.0)
+resolved_at (t ∷ ts) (m ∷ ms) zero x are is = let same : m ≡ x =
+    cc is in (t, refl, subst (λ m. IsTypedAs t m) same are.0)
 resolved_at (t ∷ ts) (m ∷ ms) (suc n) x are is = resolved_at ts ms n x are.1 is
 
 -- there are always resolved modules
 
-with_more : (t : Typed) (ts : List Typed) → (m : TypedModuleTree) × IsTypedAs t m → ∥ ((ms : List TypedModuleTree) × AreTyped ts ms) ∥₁ → ∥ ((ms : List TypedModuleTree) × AreTyped (t ∷ ts) ms) ∥₁
+with_more : (t : Typed) (ts : List Typed) → (m : TypedModuleTree) × IsTypedAs t m →
+    ∥ ((ms : List TypedModuleTree) × AreTyped ts ms) ∥₁ → ∥ ((ms : List TypedModuleTree) × AreTyped (t ∷ ts) ms) ∥₁
 with_more t ts one more = ∥∥₁_map more (λ all. (one.0 ∷ all.0, (one.1, all.1)))
 
 pub typed_there : (ts : List Typed) → ∥ ((ms : List TypedModuleTree) × AreTyped ts ms) ∥₁

@@ -11,8 +11,10 @@ use Rattle.cas_whole.specs.Whole.{AreTyped}
 abbrev pub words_in : Typed → List ℕ
 words_in t = flat_map item_words (map item_tree t.filled.items)
 
-pub words_same : (ts : List Typed) (ms : List TypedModuleTree) → AreTyped ts ms → flat_map words_in ts ≡ initial_words ms
+pub words_same : (ts : List Typed) (ms : List TypedModuleTree) → AreTyped ts ms →
+    flat_map words_in ts ≡ initial_words ms
 words_same [] [] are = refl
 words_same [] (m ∷ ms) are = absurd are
 words_same (t ∷ ts) [] are = absurd are
-words_same (t ∷ ts) (m ∷ ms) are = λ i. flat_map item_words ((sym are.0.module_tree i).items) ++ words_same ts ms are.1 i
+words_same (t ∷ ts) (m ∷ ms) are = λ i. flat_map item_words ((sym are.0.module_tree i).items)
+    ++ words_same ts ms are.1 i

@@ -14,7 +14,8 @@ word_is (Some (function f)) w h = cc
 word_is (Some outside) w h = cc
 word_is (Some (shared first n guard)) w h = cc
 word_is (Some (table first n)) w h = cc
-word_is (Some (lock n)) w h = same_or_not n w (λ t e. ap (λ k. Some (lock k)) e) (λ t e. let no : true ≡ false = sym h ∙ t in absurd (cc no))
+word_is (Some (lock n)) w h = same_or_not n w (λ t e. ap (λ k. Some (lock k)) e)
+    (λ t e. let no : true ≡ false = sym h ∙ t in absurd (cc no))
 
 pub word_here : (w : ℕ) → is_word (Some (lock w)) w ≡ true
 word_here w = same_or_not w w (λ t e. t) (λ t e. absurd (e refl))
@@ -41,10 +42,12 @@ tell false f g = g refl
 
 -- what isn't in a set isn't its first, nor behind it
 not_first : {C : Type 0} (k : ℕ) (s : Locks) (l : ℕ) → has (k ∷ s) l ≡ false → k ≡ l → C
-not_first k s l h e = same_or_not k l (λ t d. let no : true ≡ false = sym t ∙ first_out (k == l) (has s l) h in absurd (cc no)) (λ t d. absurd (d e))
+not_first k s l h e = same_or_not k l (λ t d. let no : true ≡ false = sym t ∙ first_out (k == l) (has s l) h in
+    absurd (cc no)) (λ t d. absurd (d e))
 
 module _ (entity : ℕ → Option Entity) where
-  pub count-having : (s : Locks) (l w : ℕ) → has s l ≡ false → count entity (having s l) w ≡ truth (is_word (entity l) w) + count entity s w
+  pub count-having : (s : Locks) (l w : ℕ) → has s l ≡ false →
+      count entity (having s l) w ≡ truth (is_word (entity l) w) + count entity s w
   count-having [] l w h = refl
   count-having (m ∷ s) l w h =
       having_cases (λ t. count entity t w ≡ truth (is_word (entity l) w) + count entity (m ∷ s) w) m s l
@@ -52,7 +55,8 @@ module _ (entity : ℕ → Option Entity) where
       (λ u. refl)
       (λ u. let rest = count-having s l w (second_out (m == l) (has s l) h) in omega (arith, rest))
 
-  pub count-without : (s : Locks) (l w : ℕ) → has s l ≡ true → count entity s w ≡ truth (is_word (entity l) w) + count entity (without s l) w
+  pub count-without : (s : Locks) (l w : ℕ) → has s l ≡ true →
+      count entity s w ≡ truth (is_word (entity l) w) + count entity (without s l) w
   count-without [] l w h = absurd (cc h)
   count-without (m ∷ s) l w h =
       without_cases (λ t. count entity (m ∷ s) w ≡ truth (is_word (entity l) w) + count entity t w) m s l
@@ -79,7 +83,8 @@ module _ (entity : ℕ → Option Entity) where
 
   -- where one lock at most has the word, it is counted once
   pub count_once : (n : ℕ) (s : Locks) (w : ℕ) → IsAscendingFrom n s →
-      ((l m : ℕ) → has s l ≡ true → has s m ≡ true → entity l ≡ Some (lock w) → entity m ≡ Some (lock w) → l ≡ m) → count entity s w ≤ 1
+      ((l m : ℕ) → has s l ≡ true → has s m ≡ true → entity l ≡ Some (lock w) → entity m ≡ Some (lock w) → l ≡ m) →
+      count entity s w ≤ 1
   count_once n [] w h f = omega arith
   count_once n (m ∷ s) w h f =
       tell (is_word (entity m) w)
@@ -87,7 +92,8 @@ module _ (entity : ℕ → Option Entity) where
       (λ c e. let is : truth (is_word (entity m) w) ≡ 1 = ap truth t in omega (arith, is, e))
       (λ c e. let r = count_some s w (omega (arith, e)) in
       let here : has (m ∷ s) m ≡ true = same_or_not m m (λ c e. ap (λ b. (b || has s m)) c) (λ c e. absurd (e refl)) in
-      let there : has (m ∷ s) r.0 ≡ true = same_or_not m r.0 (λ c e. ap (λ b. (b || has s r.0)) c) (λ c e. ap (λ b. (b || has s r.0)) c ∙ r.1) in
+      let there : has (m ∷ s) r.0 ≡ true = same_or_not m r.0 (λ c e. ap (λ b. (b || has s r.0)) c)
+      (λ c e. ap (λ b. (b || has s r.0)) c ∙ r.1) in
       let again : m ≡ r.0 = f m r.0 here there (word_is (entity m) w t) r.2 in
       let out : has s r.0 ≡ false = not_before (suc m) s r.0 h.1 (omega (arith, again)) in
       let no : true ≡ false = sym r.1 ∙ out in absurd (cc no)))

@@ -86,8 +86,10 @@ guarded_by is = shown (played (env_with guarded) is (Some (two guarded)))
 
 -- one thread after the other; and while a thread has the lock the other may not take it
 guarded_rows :
-    map guarded_by ((0 ∷ 0 ∷ 0 ∷ 0 ∷ 1 ∷ 1 ∷ 1 ∷ 1 ∷ []) ∷ (1 ∷ 1 ∷ 1 ∷ 1 ∷ 1 ∷ 0 ∷ 0 ∷ 0 ∷ []) ∷ (1 ∷ 1 ∷ []) ∷ (1 ∷ 0 ∷ []) ∷ (0 ∷ 0 ∷ 0 ∷ 1 ∷ []) ∷ (0 ∷ 0 ∷ 0 ∷ 0 ∷ 0 ∷ 0 ∷ []) ∷ [])
-    ≡ Some ((0, 1) ∷ (1, 2) ∷ [], 1 ∷ 2 ∷ [], None ∷ None ∷ []) ∷ Some ((1, 1) ∷ (0, 2) ∷ [], 1 ∷ 2 ∷ [], Some 0 ∷ None ∷ [])
+    map guarded_by ((0 ∷ 0 ∷ 0 ∷ 0 ∷ 1 ∷ 1 ∷ 1 ∷ 1 ∷ []) ∷ (1 ∷ 1 ∷ 1 ∷ 1 ∷ 1 ∷ 0 ∷ 0 ∷ 0 ∷ []) ∷ (1 ∷ 1 ∷ []) ∷
+    (1 ∷ 0 ∷ []) ∷ (0 ∷ 0 ∷ 0 ∷ 1 ∷ []) ∷ (0 ∷ 0 ∷ 0 ∷ 0 ∷ 0 ∷ 0 ∷ []) ∷ [])
+    ≡ Some ((0, 1) ∷ (1, 2) ∷ [], 1 ∷ 2 ∷ [], None ∷ None ∷ []) ∷ Some
+    ((1, 1) ∷ (0, 2) ∷ [], 1 ∷ 2 ∷ [], Some 0 ∷ None ∷ [])
     ∷ Some ([], 1 ∷ 1 ∷ [], Some 1 ∷ None ∷ []) ∷ None ∷ None ∷ None ∷ []
 guarded_rows = refl
 
@@ -109,25 +111,31 @@ enabled (act.Bad why) hs h = absurd (cc h)
 -- threads that are played further, after an interleaving
 module _ (e : Env) (first v : World) where
   abbrev GoesOn : List ℕ → Type 0
-  GoesOn is = (w : World) (done : List ℕ) → Interleaves e first done w → played e is (Some w) ≡ Some v → Interleaves e first (done ++ is) v
+  GoesOn is = (w : World) (done : List ℕ) → Interleaves e first done w → played e is (Some w) ≡ Some v →
+      Interleaves e first (done ++ is) v
 
   nowhere_on : {C : Type 0} (is : List ℕ) → played e is None ≡ Some v → C
   nowhere_on is h = absurd (cc h)
 
-  moves_on : (i : ℕ) (is : List ℕ) (w : World) (done : List ℕ) (s : Step) → Interleaves e first done w → IsNext e w i s → (b : Bool) → may_take s.act w.holders ≡ b →
+  moves_on : (i : ℕ) (is : List ℕ) (w : World) (done : List ℕ) (s : Step) → Interleaves e first done w →
+      IsNext e w i s → (b : Bool) → may_take s.act w.holders ≡ b →
       played e is (moved w i s b) ≡ Some v → GoesOn is → Interleaves e first (done ++ i ∷ is) v
   moves_on i is w done s before next false take h rest = nowhere_on is h
   moves_on i is w done s before next true take h rest =
       let may : MayStep e w i s = record { next = next; enabled = enabled s.act w.holders take } in
-      subst (λ xs. Interleaves e first xs v) (append_assoc done (i ∷ []) is) (rest (world_after w i s) (done ++ i ∷ []) (and_step before i s may) h)
+      subst (λ xs. Interleaves e first xs v) (append_assoc done (i ∷ []) is)
+      (rest (world_after w i s) (done ++ i ∷ []) (and_step before i s may) h)
 
-  steps_on : (i : ℕ) (is : List ℕ) (w : World) (done : List ℕ) (c : Config) → Interleaves e first done w → slice_get w.threads i ≡ Some c → (o : Option Step) → step e w.words c ≡ o →
+  steps_on : (i : ℕ) (is : List ℕ) (w : World) (done : List ℕ) (c : Config) → Interleaves e first done w →
+      slice_get w.threads i ≡ Some c → (o : Option Step) → step e w.words c ≡ o →
       played e is (stepped w i o) ≡ Some v → GoesOn is → Interleaves e first (done ++ i ∷ is) v
   steps_on i is w done c before there None steps h rest = nowhere_on is h
   steps_on i is w done c before there (Some s) steps h rest =
-      moves_on i is w done s before (record { config = c; stands = there; steps = steps }) (may_take s.act w.holders) refl h rest
+      moves_on i is w done s before (record { config = c; stands = there; steps = steps }) (may_take s.act w.holders)
+      refl h rest
 
-  turns_on : (i : ℕ) (is : List ℕ) (w : World) (done : List ℕ) → Interleaves e first done w → (o : Option Config) → slice_get w.threads i ≡ o →
+  turns_on : (i : ℕ) (is : List ℕ) (w : World) (done : List ℕ) → Interleaves e first done w → (o : Option Config) →
+      slice_get w.threads i ≡ o →
       played e is (turned e w i o) ≡ Some v → GoesOn is → Interleaves e first (done ++ i ∷ is) v
   turns_on i is w done before None there h rest = nowhere_on is h
   turns_on i is w done before (Some c) there h rest = steps_on i is w done c before there (step e w.words c) refl h rest
@@ -139,7 +147,8 @@ module _ (e : Env) (first v : World) where
   plays_on (i ∷ is) w done before h = turns_on i is w done before (slice_get w.threads i) refl h (plays_on is)
 
 -- what is played from a world is reached from it
-played_reaches : (e : Env) (first v : World) (is : List ℕ) → played e is (Some first) ≡ Some v → Interleaves e first is v
+played_reaches : (e : Env) (first v : World) (is : List ℕ) → played e is (Some first) ≡ Some v →
+    Interleaves e first is v
 played_reaches e first v is h = plays_on e first v is first [] at_first h
 
 -- g = 1;

@@ -103,38 +103,47 @@ module _ {O : Type 0} (sight : EvalContext O) (x : ContItem) (cont : List ContIt
   jumps_move None h = tt
   jumps_move (Some others) h = shorter x others cont h
 
-  either_moves : (some others : List ContItem) (is : Bool) → (some ≡ x ∷ cont → ⊥) → (others ≡ x ∷ cont → ⊥) → Away (gives (continues (either some others is)))
+  either_moves : (some others : List ContItem) (is : Bool) → (some ≡ x ∷ cont → ⊥) → (others ≡ x ∷ cont → ⊥) →
+      Away (gives (continues (either some others is)))
   either_moves some others true h k = h
   either_moves some others false h k = k
 
-  chooses_move : (c : Option TypedExprTree) (some others : List ContItem) → (some ≡ x ∷ cont → ⊥) → (others ≡ x ∷ cont → ⊥) → Away (chooses sight c some others)
+  chooses_move : (c : Option TypedExprTree) (some others : List ContItem) → (some ≡ x ∷ cont → ⊥) →
+      (others ≡ x ∷ cont → ⊥) → Away (chooses sight c some others)
   chooses_move None some others h k = h
   chooses_move (Some c) some others h k =
-      every_then (Moves (x ∷ cont)) (test_of sight c) (λ is. gives (continues (either some others is))) (λ is. either_moves some others is h k)
+      every_then (Moves (x ∷ cont)) (test_of sight c) (λ is. gives (continues (either some others is)))
+      (λ is. either_moves some others is h k)
 
   returned_moves : (a : Option TypedExprTree) → Away (returned sight a)
   returned_moves None = tt
   returned_moves (Some a) = every_then (Moves (x ∷ cont)) (value_of sight a) (λ v. gives (returns (Some v))) (λ v. tt)
 
   -- statements that begin instead of the item
-  begins_less : (b : TypedStmtTree) (n : ℕ) → size b < n → ((m : ℕ) → m < n → 2 + m ≡ mark x → ⊥) → begin b ∷ cont ≡ x ∷ cont → ⊥
+  begins_less : (b : TypedStmtTree) (n : ℕ) → size b < n → ((m : ℕ) → m < n → 2 + m ≡ mark x → ⊥) →
+      begin b ∷ cont ≡ x ∷ cont → ⊥
   begins_less b n less others = differ (begin b ∷ cont) (x ∷ cont) (λ l m. others (size b) less m)
 
-  all_move : (bs : TypedStmtList) → ((m : ℕ) → m < suc (size_of_all bs) → 2 + m ≡ mark x → ⊥) → begin_all bs cont ≡ x ∷ cont → ⊥
+  all_move : (bs : TypedStmtList) → ((m : ℕ) → m < suc (size_of_all bs) → 2 + m ≡ mark x → ⊥) →
+      begin_all bs cont ≡ x ∷ cont → ⊥
   all_move no_more others = past
   all_move (one_more b no_more) others = begins_less b (suc (size b + 0)) (omega arith) others
-  all_move (one_more b (one_more c bs)) others = longer x (begin b) (begin c ∷ begin_all bs cont) cont (omega (arith, all_longer bs cont))
+  all_move (one_more b (one_more c bs)) others = longer x (begin b) (begin c ∷ begin_all bs cont) cont
+      (omega (arith, all_longer bs cont))
 
-  part_moves : (b : TypedStmtOption) (n : ℕ) → size_of_part b < n → ((m : ℕ) → m < n → 2 + m ≡ mark x → ⊥) → begin_part b cont ≡ x ∷ cont → ⊥
+  part_moves : (b : TypedStmtOption) (n : ℕ) → size_of_part b < n → ((m : ℕ) → m < n → 2 + m ≡ mark x → ⊥) →
+      begin_part b cont ≡ x ∷ cont → ⊥
   part_moves absent n less others = past
   part_moves (present b) n less others = begins_less b n less others
 
-  for_moves : (p : _) (i : TypedStmtOption) (c : Option TypedExprTree) (u : TypedStmtOption) (a : TypedStmtTree) → 0 < mark x → begin_part i (loop p c u a ∷ cont) ≡ x ∷ cont → ⊥
+  for_moves : (p : _) (i : TypedStmtOption) (c : Option TypedExprTree) (u : TypedStmtOption) (a : TypedStmtTree) →
+      0 < mark x → begin_part i (loop p c u a ∷ cont) ≡ x ∷ cont → ⊥
   for_moves p absent c u a some = differ (loop p c u a ∷ cont) (x ∷ cont) (λ l m. absurd (omega (arith, some, m)))
   for_moves p (present b) c u a some = longer x (begin b) (loop p c u a ∷ cont) cont (omega arith)
 
   -- a statement's step, where the item is told from what the step may begin with
-  statement_moves : (a : TypedStmtTree) → 0 < mark x → ((m : ℕ) → m < size a → 2 + m ≡ mark x → ⊥) → Away (statement_effect sight a cont)
+  statement_moves : (a : TypedStmtTree) → 0 < mark x → ((m : ℕ) → m < size a → 2 + m ≡ mark x → ⊥) →
+      Away (statement_effect sight a cont)
   statement_moves (t.skip p) some others = past
   statement_moves (t.assign p target a) some others =
       every_then (Moves (x ∷ cont)) (target_of sight target) (λ c. and_then (value_of sight a) (λ v. into c v cont))
@@ -142,13 +151,16 @@ module _ {O : Type 0} (sight : EvalContext O) (x : ContItem) (cont : List ContIt
   statement_moves (t.block p bs) some others = all_move bs others
   statement_moves (t.if_ p c a otherwise) some others =
       chooses_move (Some c) (begin a ∷ cont) (begin_part otherwise cont)
-      (begins_less a (suc (size a + size_of_part otherwise)) (omega arith) others) (part_moves otherwise (suc (size a + size_of_part otherwise)) (omega arith) others)
-  statement_moves (t.while_ p c a) some others = chooses_move (Some c) (begin a ∷ begun p c a ∷ cont) cont (longer x (begin a) (begun p c a ∷ cont) cont (omega arith)) past
+      (begins_less a (suc (size a + size_of_part otherwise)) (omega arith) others)
+      (part_moves otherwise (suc (size a + size_of_part otherwise)) (omega arith) others)
+  statement_moves (t.while_ p c a) some others = chooses_move (Some c) (begin a ∷ begun p c a ∷ cont) cont
+      (longer x (begin a) (begun p c a ∷ cont) cont (omega arith)) past
   statement_moves (t.do_ p a c) some others = longer x (begin a) (begun p c a ∷ cont) cont (omega arith)
   statement_moves (t.for_ p i c u a) some others = for_moves p i c u a some
   statement_moves (t.break_ p) some others = jumps_move (after_break cont) (broken_fewer cont)
   statement_moves (t.continue_ p) some others = jumps_move (after_continue cont) (continued_fewer cont)
-  statement_moves (t.call p kept g at args) some others = every_then (Moves (x ∷ cont)) (values_of sight args) (λ vs. gives (calls g vs kept cont)) (λ vs. tt)
+  statement_moves (t.call p kept g at args) some others =
+      every_then (Moves (x ∷ cont)) (values_of sight args) (λ vs. gives (calls g vs kept cont)) (λ vs. tt)
   statement_moves (t.return_ p a) some others = returned_moves a
   statement_moves (t.lock p g) some others = past
   statement_moves (t.unlock p g) some others = past
@@ -157,16 +169,21 @@ module _ {O : Type 0} (sight : EvalContext O) (x : ContItem) (cont : List ContIt
       (λ v. every_then (Moves (x ∷ cont)) (word_in v) (λ n. gives (prints n cont)) (λ n. past))
 
 -- each item's step leaves others
-effect_moves : {O : Type 0} (sight : EvalContext O) (ret : Ty) (cont : List ContItem) → Every (Moves cont) (effect_of sight ret cont)
+effect_moves : {O : Type 0} (sight : EvalContext O) (ret : Ty) (cont : List ContItem) →
+    Every (Moves cont) (effect_of sight ret cont)
 effect_moves sight ret [] = tt
-effect_moves sight ret (begin a ∷ cont) = statement_moves sight (begin a) cont a (omega arith) (λ m less e. absurd (omega (arith, less, e)))
+effect_moves sight ret (begin a ∷ cont) = statement_moves sight (begin a) cont a (omega arith)
+    (λ m less e. absurd (omega (arith, less, e)))
 effect_moves sight ret (begun p c a ∷ cont) =
-    chooses_move sight (begun p c a) cont (Some c) (begin a ∷ begun p c a ∷ cont) cont (longer (begun p c a) (begin a) (begun p c a ∷ cont) cont (omega arith)) (past sight (begun p c a) cont)
+    chooses_move sight (begun p c a) cont (Some c) (begin a ∷ begun p c a ∷ cont) cont
+    (longer (begun p c a) (begin a) (begun p c a ∷ cont) cont (omega arith)) (past sight (begun p c a) cont)
 effect_moves sight ret (loop p c u a ∷ cont) =
     chooses_move sight (loop p c u a) cont c (begin a ∷ next p u ∷ loop p c u a ∷ cont) cont
-    (longer (loop p c u a) (begin a) (next p u ∷ loop p c u a ∷ cont) cont (omega arith)) (past sight (loop p c u a) cont)
+    (longer (loop p c u a) (begin a) (next p u ∷ loop p c u a ∷ cont) cont (omega arith))
+    (past sight (loop p c u a) cont)
 effect_moves sight ret (next p absent ∷ cont) = past sight (next p absent) cont
-effect_moves sight ret (next p (present a) ∷ cont) = statement_moves sight (next p (present a)) cont a (omega arith) (λ m less e. absurd (omega (arith, e)))
+effect_moves sight ret (next p (present a) ∷ cont) = statement_moves sight (next p (present a)) cont a (omega arith)
+    (λ m less e. absurd (omega (arith, e)))
 
 -- the thread's step
 
@@ -182,11 +199,13 @@ module _ (e : Env) (h : StepContext) where
   away : (cont : List ContItem) → (cont ≡ h.newest.cont → ⊥) → doing h cont ≡ h.newest ∷ h.older → ⊥
   away cont moves same = moves (ap newest_cont same)
 
-  global_moves : (rs : List ℕ) (it : Option Entity) (i n : ℕ) (cont : List ContItem) → (cont ≡ h.newest.cont → ⊥) → Lands MovesOn (global_step e h rs it i n cont)
+  global_moves : (rs : List ℕ) (it : Option Entity) (i n : ℕ) (cont : List ContItem) → (cont ≡ h.newest.cont → ⊥) →
+      Lands MovesOn (global_step e h rs it i n cont)
   global_moves rs None i n cont moves = tt
   global_moves rs (Some (function f)) i n cont moves = tt
   global_moves rs (Some outside) i n cont moves = tt
-  global_moves rs (Some (shared first len guard)) i n cont moves = word_moves (slice_get h.words (first + i)) (first + i)
+  global_moves rs (Some (shared first len guard)) i n cont moves =
+      word_moves (slice_get h.words (first + i)) (first + i)
     where
       word_moves : (before : Option ℕ) (number : ℕ) → Lands MovesOn (word_step e h rs before number n cont)
       word_moves None number = tt
@@ -194,28 +213,36 @@ module _ (e : Env) (h : StepContext) where
   global_moves rs (Some (table first len)) i n cont moves = tt
   global_moves rs (Some (lock w)) i n cont moves = tt
 
-  store_moves : (rs : List ℕ) (before : Option (Value Object)) (o : Object) (i : ℕ) (v : Value Object) (cont : List ContItem) → (cont ≡ h.newest.cont → ⊥) →
+  store_moves : (rs : List ℕ) (before : Option (Value Object)) (o : Object) (i : ℕ) (v : Value Object)
+      (cont : List ContItem) → (cont ≡ h.newest.cont → ⊥) →
       Lands MovesOn (store_step e h rs before o i v cont)
   store_moves rs None o i v cont moves = tt
   store_moves rs (Some old) o i v cont moves = λ taken. away cont moves
 
-  call_moves : (rs : List ℕ) (it : Option Entity) (vs : List (Value Object)) (target : Option Destination) (cont : List ContItem) → Lands MovesOn (call_step e h rs it vs target cont)
+  call_moves : (rs : List ℕ) (it : Option Entity) (vs : List (Value Object)) (target : Option Destination)
+      (cont : List ContItem) → Lands MovesOn (call_step e h rs it vs target cont)
   call_moves rs None vs target cont = tt
-  call_moves rs (Some (function f)) vs target cont = λ taken same. let count = ap length same in absurd (omega (arith, count))
+  call_moves rs (Some (function f)) vs target cont = λ taken same. let count =
+      ap length same in absurd (omega (arith, count))
   call_moves rs (Some outside) vs target cont = tt
   call_moves rs (Some (shared first len guard)) vs target cont = tt
   call_moves rs (Some (table first len)) vs target cont = tt
   call_moves rs (Some (lock w)) vs target cont = tt
 
-  return_to_moves : (rs : List ℕ) (older : List Activation) (memory : Option (List Block)) → length older ≤ length h.older → Lands MovesOn (return_to e h rs older memory)
+  return_to_moves : (rs : List ℕ) (older : List Activation) (memory : Option (List Block)) →
+      length older ≤ length h.older → Lands MovesOn (return_to e h rs older memory)
   return_to_moves rs older None few = tt
-  return_to_moves rs older (Some memory) few = λ taken same. let count = ap length same in absurd (omega (arith, few, count))
+  return_to_moves rs older (Some memory) few = λ taken same. let count =
+      ap length same in absurd (omega (arith, few, count))
 
-  return_moves : (rs : List ℕ) (older : List Activation) (v : Option (Value Object)) → length older ≤ length h.older → Lands MovesOn (return_step e h rs older v)
+  return_moves : (rs : List ℕ) (older : List Activation) (v : Option (Value Object)) → length older ≤ length h.older →
+      Lands MovesOn (return_step e h rs older v)
   return_moves rs [] v few = λ taken same. let count = ap length same in absurd (omega (arith, count))
-  return_moves rs (a ∷ older) v few = return_to_moves rs (a ∷ older) (memory_keeping (memory_without h.config.memory h.newest.serial) a.serial h.newest.target v) few
+  return_moves rs (a ∷ older) v few = return_to_moves rs (a ∷ older)
+      (memory_keeping (memory_without h.config.memory h.newest.serial) a.serial h.newest.target v) few
 
-  lock_moves : (rs : List ℕ) (it : Option Entity) (act_on : ℕ → _) (cont : List ContItem) → (cont ≡ h.newest.cont → ⊥) → Lands MovesOn (lock_step e h rs it act_on cont)
+  lock_moves : (rs : List ℕ) (it : Option Entity) (act_on : ℕ → _) (cont : List ContItem) → (cont ≡ h.newest.cont → ⊥) →
+      Lands MovesOn (lock_step e h rs it act_on cont)
   lock_moves rs None act_on cont moves = tt
   lock_moves rs (Some (function f)) act_on cont moves = tt
   lock_moves rs (Some outside) act_on cont moves = tt
@@ -239,9 +266,11 @@ module _ (e : Env) (h : StepContext) where
   here_moves =
       let asks = effect_of (eval_context_of e h) (e.function h.newest.function).ret h.newest.cont in
       doing_moves (answered (entity_in e h) (slice_get h.words) (cells_at h.config.memory) asks)
-      (answered_so (Moves h.newest.cont) (entity_in e h) (slice_get h.words) (cells_at h.config.memory) asks (effect_moves (eval_context_of e h) (e.function h.newest.function).ret h.newest.cont))
+      (answered_so (Moves h.newest.cont) (entity_in e h) (slice_get h.words) (cells_at h.config.memory) asks
+      (effect_moves (eval_context_of e h) (e.function h.newest.function).ret h.newest.cont))
 
-pub moved_by : (e : Env) (ws : List ℕ) (c : Config) (s : Step) (activations : List Activation) → step_of e ws c activations ≡ Some s → IsTaken s.act → s.next.activations ≡ activations → ⊥
+pub moved_by : (e : Env) (ws : List ℕ) (c : Config) (s : Step) (activations : List Activation) →
+    step_of e ws c activations ≡ Some s → IsTaken s.act → s.next.activations ≡ activations → ⊥
 moved_by e ws c s [] is taken same = absurd (cc is)
 moved_by e ws c s (a ∷ older) is taken same =
     let h : StepContext = record { config = c; newest = a; older = older; words = ws } in

@@ -31,40 +31,56 @@ pub record Laws : Type 0 where
   pub entries : EntriesHoldNone
   pub footprints : FootprintsAreNamed
 
-module _ (laws : Laws) (modules : List TypedModuleTree) (entries : List (List ℕ)) (program : IsProgram modules entries) (checked : All IsChecked modules) where
+module _ (laws : Laws) (modules : List TypedModuleTree) (entries : List (List ℕ)) (program : IsProgram modules entries)
+    (checked : All IsChecked modules) where
   pub joins : Joins modules (env_of modules)
   joins = record {
     bodies = bodies_walk modules entries program checked (laws.well_formed modules entries program) laws.bodies;
-    calls = calls_there modules entries program checked (laws.well_formed modules entries program) laws.names laws.functions;
-    guards = guards_there modules entries program checked (laws.well_formed modules entries program) laws.shared_ones laws.guards;
+    calls = calls_there modules entries program checked (laws.well_formed modules entries program)
+        laws.names laws.functions;
+    guards = guards_there modules entries program checked (laws.well_formed modules entries program)
+        laws.shared_ones laws.guards;
   }
 
-  entered : (i : ℕ) (f : FunctionAt) → slice_get (entries_of modules entries) i ≡ Some f → HoldsNone modules (env_of modules) joins laws.footprints f
+  entered : (i : ℕ) (f : FunctionAt) → slice_get (entries_of modules entries) i ≡ Some f →
+      HoldsNone modules (env_of modules) joins laws.footprints f
   entered i f there =
-      let (unit, it, at_place, none) = laws.entries modules entries program i f there in
-      (unit, it, at_place, λ w. ap (λ s. counted modules (env_of modules) f.unit s w) (own_is modules entries program checked (laws.well_formed modules entries program) f unit it at_place ∙ ap set_of none))
+      let (unit, it, at_place, none) = laws.entries modules entries program i f there in (
+        unit,
+        it,
+        at_place,
+        λ w. ap (λ s. counted modules (env_of modules) f.unit s w)
+            (own_is modules entries program checked (laws.well_formed modules entries program) f unit it at_place
+            ∙ ap set_of none),
+      )
 
-  reached : (w : World) → Reaches (env_of modules) (program_world modules entries) w → IsOwned modules (env_of modules) w
-  reached w r = held_reached modules (env_of modules) joins laws.footprints (entries_of modules entries) (initial_words modules) w entered r
+  reached : (w : World) → Reaches (env_of modules) (program_world modules entries) w →
+      IsOwned modules (env_of modules) w
+  reached w r = held_reached modules (env_of modules) joins laws.footprints (entries_of modules entries)
+      (initial_words modules) w entered r
 
-  step_in : (w : World) (i : ℕ) (s : Step) → Reaches (env_of modules) (program_world modules entries) w → IsNext (env_of modules) w i s →
+  step_in : (w : World) (i : ℕ) (s : Step) → Reaches (env_of modules) (program_world modules entries) w →
+      IsNext (env_of modules) w i s →
       Kept modules (env_of modules) joins laws.footprints w.holders i s
   step_in w i s r next = held_step modules (env_of modules) joins laws.footprints w i s (reached w r) next
 
   -- the guard of a word that a step touches, and that the thread is its holder
-  pub touched : (w : World) (i n : ℕ) (s : Step) → Reaches (env_of modules) (program_world modules entries) w → IsNext (env_of modules) w i s → Touches s n →
+  pub touched : (w : World) (i n : ℕ) (s : Step) → Reaches (env_of modules) (program_world modules entries) w →
+      IsNext (env_of modules) w i s → Touches s n →
       (l : ℕ) × IsGuarded modules (env_of modules) joins laws.footprints n l × (slice_get w.holders l ≡ Some (Some i))
   touched w i n s r next t =
       let kept = step_in w i s r next in
       let (l, guarded, some) = kept.touches n t in
       (l, guarded, owner_is (slice_get w.holders l) i (omega (arith, some, kept.held_before l)))
 
-  pub unlocked : (w : World) (i l : ℕ) (s : Step) → Reaches (env_of modules) (program_world modules entries) w → IsNext (env_of modules) w i s → s.act ≡ act.Unlock l →
+  pub unlocked : (w : World) (i l : ℕ) (s : Step) → Reaches (env_of modules) (program_world modules entries) w →
+      IsNext (env_of modules) w i s → s.act ≡ act.Unlock l →
       slice_get w.holders l ≡ Some (Some i)
   unlocked w i l s r next is =
       let kept = step_in w i s r next in
       let after : PartsAfter (act.Unlock l) kept.old (parts modules (env_of modules) s.next.activations kept.sets) =
-      subst (λ a. PartsAfter a kept.old (parts modules (env_of modules) s.next.activations kept.sets)) is kept.parts_are in
+      subst (λ a. PartsAfter a kept.old (parts modules (env_of modules) s.next.activations kept.sets))
+      is kept.parts_are in
       owner_is (slice_get w.holders l) i (omega (arith, after.0, kept.held_before l))
 
 pub worlds_are_owned : Laws → WorldsAreOwned
@@ -80,7 +96,8 @@ touches_are_guarded laws modules entries program checked w i n s r next t =
     (l, (g.unit, g.item, g.first, g.count, g.entity, g.from, g.below), mine)
 
 pub unlocks_are_of_holders : Laws → UnlocksAreOfHolders
-unlocks_are_of_holders laws modules entries program checked w i l s r next is = unlocked laws modules entries program checked w i l s r next is
+unlocks_are_of_holders laws modules entries program checked w i l s r next is =
+    unlocked laws modules entries program checked w i l s r next is
 
 -- a word's guard has one holder
 same_lock : (l k : ℕ) → Some l ≡ Some k → l ≡ k
@@ -91,7 +108,11 @@ same_thread i j h = cc
 
 pub races_absent : TouchesAreGuarded → GuardsAgree → RacesAbsent
 races_absent guarded agree modules entries program checked w i j s t n r apart first second races =
-    let (l, (a, g, start, count, here, from, below), mine) = guarded modules entries program checked w i n s r first.next races.0 in
-    let (k, (b, h, begin, size, there, after, before), other) = guarded modules entries program checked w j n t r second.next races.1 in
-    let same = same_lock l k (agree modules entries program a g start count b h begin size n (Some l) (Some k) here there (from, below) (after, before)) in
+    let (l, (a, g, start, count, here, from, below), mine) =
+    guarded modules entries program checked w i n s r first.next races.0 in
+    let (k, (b, h, begin, size, there, after, before), other) =
+    guarded modules entries program checked w j n t r second.next races.1 in
+    let same =
+    same_lock l k (agree modules entries program a g start count b h begin size n (Some l) (Some k) here there
+    (from, below) (after, before)) in
     apart (same_thread i j (sym mine ∙ ap (slice_get w.holders) same ∙ other))

@@ -44,11 +44,13 @@ kinds_length (k ∷ ks) [] h = absurd h
 kinds_length (k ∷ ks) (n ∷ ns) h = ap suc (kinds_length ks ns h.1)
 
 -- where one of two lists that are as long has an element, the other has one
-as_long : {X Y : Type 0} (xs : List X) (ys : List Y) (i : ℕ) (x : X) → length ys ≡ length xs → slice_get xs i ≡ Some x → (y : Y) × (slice_get ys i ≡ Some y)
+as_long : {X Y : Type 0} (xs : List X) (ys : List Y) (i : ℕ) (x : X) → length ys ≡ length xs → slice_get xs i ≡ Some x →
+    (y : Y) × (slice_get ys i ≡ Some y)
 as_long [] ys i x same h = absurd (cc h)
 as_long (z ∷ xs) [] i x same h = absurd (cc same)
 as_long (z ∷ xs) (y ∷ ys) zero x same h = (y, refl)
-as_long (z ∷ xs) (y ∷ ys) (suc i) x same h = let less : length ys ≡ length xs = omega (arith, same) in as_long xs ys i x less h
+as_long (z ∷ xs) (y ∷ ys) (suc i) x same h = let less : length ys ≡ length xs =
+    omega (arith, same) in as_long xs ys i x less h
 
 holders_length : (a : Act) (i : ℕ) (hs : List (Option ℕ)) → length (holders_after a i hs) ≡ length hs
 holders_length (act.Lock l) i hs = set_length hs l (Some i)
@@ -71,7 +73,8 @@ module _ (e : Env) (h : StepContext) where
   abbrev pub IsOnItem : Step → Type 0
   IsOnItem s = (l : ℕ) → IsOnLock s.act l → (item : ℕ) × (entity_in e h item ≡ Some (lock l))
 
-  on_global : (rs : List ℕ) (it : Option Entity) (i n : ℕ) (cont : List ContItem) → Lands IsOnItem (global_step e h rs it i n cont)
+  on_global : (rs : List ℕ) (it : Option Entity) (i n : ℕ) (cont : List ContItem) →
+      Lands IsOnItem (global_step e h rs it i n cont)
   on_global rs None i n cont = tt
   on_global rs (Some (function f)) i n cont = tt
   on_global rs (Some outside) i n cont = tt
@@ -83,11 +86,13 @@ module _ (e : Env) (h : StepContext) where
   on_global rs (Some (table first len)) i n cont = tt
   on_global rs (Some (lock w)) i n cont = tt
 
-  on_store : (rs : List ℕ) (before : Option (Value Object)) (o : Object) (i : ℕ) (v : Value Object) (cont : List ContItem) → Lands IsOnItem (store_step e h rs before o i v cont)
+  on_store : (rs : List ℕ) (before : Option (Value Object)) (o : Object) (i : ℕ) (v : Value Object)
+      (cont : List ContItem) → Lands IsOnItem (store_step e h rs before o i v cont)
   on_store rs None o i v cont = tt
   on_store rs (Some old) o i v cont = λ l is. absurd is
 
-  on_call : (rs : List ℕ) (it : Option Entity) (vs : List (Value Object)) (target : Option Destination) (cont : List ContItem) → Lands IsOnItem (call_step e h rs it vs target cont)
+  on_call : (rs : List ℕ) (it : Option Entity) (vs : List (Value Object)) (target : Option Destination)
+      (cont : List ContItem) → Lands IsOnItem (call_step e h rs it vs target cont)
   on_call rs None vs target cont = tt
   on_call rs (Some (function f)) vs target cont = λ l is. absurd is
   on_call rs (Some outside) vs target cont = tt
@@ -95,15 +100,19 @@ module _ (e : Env) (h : StepContext) where
   on_call rs (Some (table first len)) vs target cont = tt
   on_call rs (Some (lock w)) vs target cont = tt
 
-  on_return_to : (rs : List ℕ) (older : List Activation) (memory : Option (List Block)) → Lands IsOnItem (return_to e h rs older memory)
+  on_return_to : (rs : List ℕ) (older : List Activation) (memory : Option (List Block)) →
+      Lands IsOnItem (return_to e h rs older memory)
   on_return_to rs older None = tt
   on_return_to rs older (Some memory) = λ l is. absurd is
 
-  on_return : (rs : List ℕ) (older : List Activation) (v : Option (Value Object)) → Lands IsOnItem (return_step e h rs older v)
+  on_return : (rs : List ℕ) (older : List Activation) (v : Option (Value Object)) →
+      Lands IsOnItem (return_step e h rs older v)
   on_return rs [] v = λ l is. absurd is
-  on_return rs (a ∷ older) v = on_return_to rs (a ∷ older) (memory_keeping (memory_without h.config.memory h.newest.serial) a.serial h.newest.target v)
+  on_return rs (a ∷ older) v = on_return_to rs (a ∷ older)
+      (memory_keeping (memory_without h.config.memory h.newest.serial) a.serial h.newest.target v)
 
-  on_lock : (rs : List ℕ) (item : ℕ) (it : Option Entity) (act_on : ℕ → Act) (cont : List ContItem) → ((w l : ℕ) → IsOnLock (act_on w) l → w ≡ l) → entity_in e h item ≡ it →
+  on_lock : (rs : List ℕ) (item : ℕ) (it : Option Entity) (act_on : ℕ → Act) (cont : List ContItem) →
+      ((w l : ℕ) → IsOnLock (act_on w) l → w ≡ l) → entity_in e h item ≡ it →
       Lands IsOnItem (lock_step e h rs it act_on cont)
   on_lock rs item None act_on cont same there = tt
   on_lock rs item (Some (function f)) act_on cont same there = tt
@@ -125,10 +134,13 @@ module _ (e : Env) (h : StepContext) where
   on_doing (got rs (prints n cont)) = λ l is. absurd is
 
   on_here : Lands IsOnItem (newest_step e h)
-  on_here = on_doing (answered (entity_in e h) (slice_get h.words) (cells_at h.config.memory) (effect_of (eval_context_of e h) (e.function h.newest.function).ret h.newest.cont))
+  on_here =
+      on_doing (answered (entity_in e h) (slice_get h.words) (cells_at h.config.memory)
+      (effect_of (eval_context_of e h) (e.function h.newest.function).ret h.newest.cont))
 
 -- the lock that a thread's step is on is that of an item
-on_item : (e : Env) (ws : List ℕ) (c : Config) (s : Step) (l : ℕ) (activations : List Activation) → step_of e ws c activations ≡ Some s → IsOnLock s.act l →
+on_item : (e : Env) (ws : List ℕ) (c : Config) (s : Step) (l : ℕ) (activations : List Activation) →
+    step_of e ws c activations ≡ Some s → IsOnLock s.act l →
     (n item : ℕ) × (e.entity n item ≡ Some (lock l))
 on_item e ws c s l [] is on = absurd (cc is)
 on_item e ws c s l (a ∷ older) is on =
@@ -162,7 +174,8 @@ started_with e k (f ∷ fs) (suc i) c is =
 some_none : {X : Type 0} (x : X) (xs : List X) → x ∷ xs ≡ [] → ⊥
 some_none x xs h = cc h
 
-module _ (facts : Facts) (modules : List TypedModuleTree) (entries : List (List ℕ)) (program : IsProgram modules entries) (few : length entries ≤ 2 ^ 32) where
+module _ (facts : Facts) (modules : List TypedModuleTree) (entries : List (List ℕ))
+    (program : IsProgram modules entries) (few : length entries ≤ 2 ^ 32) where
   abbrev e : Env
   e = env_of modules
 
@@ -176,45 +189,64 @@ module _ (facts : Facts) (modules : List TypedModuleTree) (entries : List (List 
     sound : (i : ℕ) (c : Config) → slice_get w.threads i ≡ Some c → IsSound modules e c
 
   fit_first : Fit (program_world modules entries)
-  fit_first = record { words = (facts.words modules entries program).1; holders = free_length (length (initial_words modules)) ∙ (facts.words modules entries program).0; sound = each }
+  fit_first =
+      record {
+        words = (facts.words modules entries program).1;
+        holders = free_length (length (initial_words modules))
+            ∙ (facts.words modules entries program).0;
+        sound = each;
+      }
     where
       at_entries : AreEntries modules e (entries_of modules entries)
       at_entries = facts.entered modules entries program few
 
-      each : (i : ℕ) (c : Config) → slice_get (started e 0 (entries_of modules entries)) i ≡ Some c → IsSound modules e c
+      each : (i : ℕ) (c : Config) → slice_get (started e 0 (entries_of modules entries)) i ≡ Some c →
+          IsSound modules e c
       each i c is =
           let (f, there, same) = started_with e 0 (entries_of modules entries) i c is in
           let fits : IsReachable e (entries_of modules entries) (start e f (word i ∷ [])) = at_start i f there in
           let number : 0 + i ≡ i = omega (arith) in
           let begins : start e f (word i ∷ []) ≡ c = subst (λ n. start e f (word n ∷ []) ≡ c) number same in
-          subst (IsSound modules e) begins (facts.sound modules e (entries_of modules entries) (start e f (word i ∷ [])) well_formed at_entries fits)
+          subst (IsSound modules e) begins (facts.sound modules e (entries_of modules entries) (start e f (word i ∷ []))
+          well_formed at_entries fits)
 
   -- the next step of a thread that has an activation
-  next_of : (w : World) (c : Config) → Fit w → IsSound modules e c → (a : Activation) (older : List Activation) → c.activations ≡ a ∷ older →
+  next_of : (w : World) (c : Config) → Fit w → IsSound modules e c → (a : Activation) (older : List Activation) →
+      c.activations ≡ a ∷ older →
       (s : Step) × (step e w.words c ≡ Some s) × IsSound modules e s.next × IsWellTypedStore e s.words
   next_of w c fit sound a older there = facts.steps modules e w.words c a older well_formed sound fit.words there
 
   -- behind a step the thread is sound and the words fit
-  behind : (w : World) (c : Config) (s : Step) → Fit w → IsSound modules e c → (activations : List Activation) → c.activations ≡ activations → step e w.words c ≡ Some s →
+  behind : (w : World) (c : Config) (s : Step) → Fit w → IsSound modules e c → (activations : List Activation) →
+      c.activations ≡ activations → step e w.words c ≡ Some s →
       IsSound modules e s.next × IsWellTypedStore e s.words
-  behind w c s fit sound [] there is = let no : None ≡ Some s = sym (ap (step_of e w.words c) there) ∙ is in absurd (cc no)
+  behind w c s fit sound [] there is = let no : None ≡ Some s = sym (ap (step_of e w.words c) there)
+      ∙ is in absurd (cc no)
   behind w c s fit sound (a ∷ older) there is =
       let (r, steps, sound_next, words_fit) = next_of w c fit sound a older there in
       let same : r ≡ s = cc (sym steps ∙ is) in
       subst (λ x. IsSound modules e x.next × IsWellTypedStore e x.words) same (sound_next, words_fit)
 
   fit_after : (w : World) (i : ℕ) (s : Step) → Fit w → MayStep e w i s → Fit (world_after w i s)
-  fit_after w i s fit may = record { words = now.1; holders = holders_length s.act i w.holders ∙ fit.holders; sound = each }
+  fit_after w i s fit may = record {
+    words = now.1;
+    holders = holders_length s.act i w.holders
+        ∙ fit.holders;
+    sound = each;
+  }
     where
       now : IsSound modules e s.next × IsWellTypedStore e s.words
-      now = let c = may.next.config in behind w c s fit (fit.sound i c may.next.stands) c.activations refl may.next.steps
+      now = let c = may.next.config in behind w c s fit (fit.sound i c may.next.stands)
+          c.activations refl may.next.steps
 
       each : (j : ℕ) (d : Config) → slice_get (slice_set w.threads i s.next) j ≡ Some d → IsSound modules e d
       each j d is =
           same_or_not j i
           (λ t same.
-          let here : slice_get (slice_set w.threads i s.next) i ≡ Some d = subst (λ k. slice_get (slice_set w.threads i s.next) k ≡ Some d) same is in
-          let same_next : Some s.next ≡ Some d = sym (set_here w.threads i may.next.config s.next may.next.stands) ∙ here in
+          let here : slice_get (slice_set w.threads i s.next) i ≡ Some d =
+          subst (λ k. slice_get (slice_set w.threads i s.next) k ≡ Some d) same is in
+          let same_next : Some s.next ≡ Some d = sym (set_here w.threads i may.next.config s.next may.next.stands)
+          ∙ here in
           lands_is (IsSound modules e) (Some s.next) d now.0 same_next)
           (λ t n. fit.sound j d (sym (set_elsewhere w.threads i j s.next n) ∙ is))
 
@@ -223,18 +255,23 @@ module _ (facts : Facts) (modules : List TypedModuleTree) (entries : List (List 
   fit_along w threads (and_step {w = v} before i s may) = fit_after v i s (fit_along v _ before) may
 
   -- the word of a lock has a place among the holders
-  lock_is_there : (w : World) → Fit w → (n item l : ℕ) → e.entity n item ≡ Some (lock l) → (holder : Option ℕ) × (slice_get w.holders l ≡ Some holder)
+  lock_is_there : (w : World) → Fit w → (n item l : ℕ) → e.entity n item ≡ Some (lock l) → (holder : Option ℕ)
+      × (slice_get w.holders l ≡ Some holder)
   lock_is_there w fit n item l there =
       let (d, (decls, unit_at, item_at), form) = facts.declared modules entries program n item l there in
       let (unit, module_at, decls_are) = unmapped decls_of modules n decls unit_at in
-      let stands : StandsFor modules e d.form (e.entity n item) = well_formed.entities n item unit d module_at (ap (λ ds. slice_get ds item) decls_are ∙ item_at) in
+      let stands : StandsFor modules e d.form (e.entity n item) =
+      well_formed.entities n item unit d module_at (ap (λ ds. slice_get ds item) decls_are ∙ item_at) in
       let kind : slice_get e.kinds l ≡ Some None =
-      subst (λ x. StandsFor modules e Lock x) there (subst (λ f. StandsFor modules e f (e.entity n item)) form stands) in
+      subst (λ x. StandsFor modules e Lock x) there (subst (λ f. StandsFor modules e f (e.entity n item)) form stands)
+      in
       as_long e.kinds w.holders l None fit.holders kind
 
-  on_lock_there : (w : World) → Fit w → (i : ℕ) (s : Step) (l : ℕ) → IsNext e w i s → IsOnLock s.act l → (holder : Option ℕ) × (slice_get w.holders l ≡ Some holder)
+  on_lock_there : (w : World) → Fit w → (i : ℕ) (s : Step) (l : ℕ) → IsNext e w i s → IsOnLock s.act l →
+      (holder : Option ℕ) × (slice_get w.holders l ≡ Some holder)
   on_lock_there w fit i s l next on =
-      let (n, item, there) = on_item e w.words next.config s l next.config.activations next.steps on in lock_is_there w fit n item l there
+      let (n, item, there) = on_item e w.words next.config s l next.config.activations next.steps on in
+      lock_is_there w fit n item l there
 
   fitting : (w : World) → Fit w → IsSoundWorld modules e w
   fitting w fit = record {
@@ -253,25 +290,30 @@ module _ (facts : Facts) (modules : List TypedModuleTree) (entries : List (List 
 
 -- a thread stands at its end exactly if it has ended
 
-lock_goes_on : (s : Step) (l : ℕ) (o : Option (Option ℕ)) (holder : Option ℕ) → o ≡ Some holder → at_lock s l o ≡ ended → ⊥
+lock_goes_on : (s : Step) (l : ℕ) (o : Option (Option ℕ)) (holder : Option ℕ) → o ≡ Some holder →
+    at_lock s l o ≡ ended → ⊥
 lock_goes_on s l None holder there h = cc there
 lock_goes_on s l (Some None) holder there h = cc h
 lock_goes_on s l (Some (Some i)) holder there h = cc h
 
-step_goes_on : (hs : List (Option ℕ)) (s : Step) (a : Act) → ((l : ℕ) → a ≡ act.Lock l → (holder : Option ℕ) × (slice_get hs l ≡ Some holder)) → at_step hs s a ≡ ended → ⊥
-step_goes_on hs s (act.Lock l) locks_there h = let there = locks_there l refl in lock_goes_on s l (slice_get hs l) there.0 there.1 h
+step_goes_on : (hs : List (Option ℕ)) (s : Step) (a : Act) →
+    ((l : ℕ) → a ≡ act.Lock l → (holder : Option ℕ) × (slice_get hs l ≡ Some holder)) → at_step hs s a ≡ ended → ⊥
+step_goes_on hs s (act.Lock l) locks_there h = let there =
+    locks_there l refl in lock_goes_on s l (slice_get hs l) there.0 there.1 h
 step_goes_on hs s act.Quiet locks_there h = cc h
 step_goes_on hs s (act.Unlock l) locks_there h = cc h
 step_goes_on hs s (act.Out n) locks_there h = cc h
 step_goes_on hs s act.Done locks_there h = cc h
 step_goes_on hs s (act.Bad why) locks_there h = cc h
 
-module _ (modules : List TypedModuleTree) (e : Env) (w : World) (fits : IsSoundWorld modules e w) (i : ℕ) (c : Config) (stands : slice_get w.threads i ≡ Some c) where
+module _ (modules : List TypedModuleTree) (e : Env) (w : World) (fits : IsSoundWorld modules e w) (i : ℕ) (c : Config)
+    (stands : slice_get w.threads i ≡ Some c) where
   -- a thread with an activation doesn't stand at its end
   goes_on_there : (a : Activation) (older : List Activation) → c.activations ≡ a ∷ older → state_of e w i ≡ ended → ⊥
   goes_on_there a older there h =
       let (s, next) = fits.steps i c a older stands there in
-      let told : state_of e w i ≡ at_step w.holders s s.act = ap (at_config e w) next.stands ∙ ap (at_next w.holders) next.steps in
+      let told : state_of e w i ≡ at_step w.holders s s.act = ap (at_config e w) next.stands
+      ∙ ap (at_next w.holders) next.steps in
       step_goes_on w.holders s s.act (λ l takes. fits.locks i l s next takes) (sym told ∙ h)
 
   ended_there : (activations : List Activation) → c.activations ≡ activations → state_of e w i ≡ ended → HasEnded w i
@@ -291,4 +333,5 @@ pub worlds_are_sound : Facts → WorldsAreSound
 worlds_are_sound facts modules entries program few w reached = worlds_fit_in facts modules entries program few w reached
 
 pub ends_are_told : WorldsAreSound → EndsAreReported
-ends_are_told fit modules entries program few w i c reached stands = ends_told modules (env_of modules) w (fit modules entries program few w reached) i c stands
+ends_are_told fit modules entries program few w i c reached stands =
+    ends_told modules (env_of modules) w (fit modules entries program few w reached) i c stands

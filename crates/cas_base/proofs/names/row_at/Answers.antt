@@ -1,9 +1,10 @@
-use Rattle.std.proofs.Common.{lit<}
-use Rattle.std.proofs.lemmas.Iterator.Splits.{YieldsList-from_str_split}
-use Rattle.std.proofs.lemmas.Iterator.Consumers.{nth_from_yields_List}
+use Rattle.std.proofs.Common.{◌∙◌, sym, ap}
+use Rattle.std.specs.Option.{option_map}
+use Rattle.cas_base.proofs.NameRows.{checked_row}
 use Rattle.cas_base.proofs.names.row_at.Goals as goal
 
 pub returns : goal.returns
 returns c =
-    nth_from_yields_List c.nth.result _ c.args.k c.nth.ensures.ran
-    (YieldsList-from_str_split 32 c.args.text.now (lit< tt) c.split.ensures.text c.split.ensures.has_more c.split.ensures.pattern)
+    ap (option_map (λ s. s.now)) c.ok.ensures.value
+    ∙ checked_row _ c.args.k c.args.text.now _ c.from_utf8.result c.utf8.text (sym c.in_ok-row.ensures)
+    c.from_utf8.ensures.cases

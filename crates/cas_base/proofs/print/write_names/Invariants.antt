@@ -5,4 +5,5 @@ use Rattle.cas_base.proofs.print.write_names.Given as goal
 
 abbrev pub invariant-loop-name : goal.invariant-loop-name
 invariant-loop-name g l =
-    IsPlainFormatter l.initial.f → HasWritten g.W.Write.write_str_gives l.initial.f (flat_map (λ name. codes " " ++ name) (take l.name-index l.names)) l.f
+    IsPlainFormatter l.initial.f → HasWritten g.W.Write.write_str_gives l.initial.f
+    (flat_map (λ name. codes " " ++ name) (take l.name-index l.names)) l.f

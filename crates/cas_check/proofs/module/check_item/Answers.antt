@@ -12,8 +12,10 @@ pub returns-in_ok-check_function-in-Some-clause-steps : goal.returns-in_ok-check
 returns-in_ok-check_function-in-Some-clause-steps c = λ before behind items rs whole count are.
     let ds = c.args.table.now in
     let step = defined_step ds before (fun_tree c.in-Define.fun) items c.in-Some.function.now c.in-Some.left.now rs
-    (subst (λ (fs : List TypedFun). AreFunctionsOf rs fs) c.in-Some.ensures.cases.0 are) c.in_ok-check_function-in-Some.ensures in (
+    (subst (λ (fs : List TypedFun). AreFunctionsOf rs fs) c.in-Some.ensures.cases.0 are)
+    c.in_ok-check_function-in-Some.ensures in (
       step.0,
       step.1,
-      subst (λ (it : Item). items_fault ds before (item_tree it ∷ items) rs ≡ items_fault ds (before ++ decl_of (item_tree it) ∷ []) items step.0) (sym c.in-Define.is) step.2,
+      subst (λ (it : Item). items_fault ds before (item_tree it ∷ items) rs ≡ items_fault ds
+          (before ++ decl_of (item_tree it) ∷ []) items step.0) (sym c.in-Define.is) step.2,
     )

@@ -13,5 +13,6 @@ check_items-requires-clause-fit c =
     let typed = c.args.typed.now in
     subst (λ (fs : List TypedFun). FunctionsFit c.in_ok-table.table fs) (sym c.functions.ensures)
     (typed_fit c.in_ok-table.table (module_tree typed.filled) typed.functions
-    (c.in_ok-table.ensures ∙ ap (λ (items : List Item). map decl_of (map item_tree items)) (c.as_slice-items.ensures ∙ ap (λ (m : Module). m.items) c.module.ensures))
+    (c.in_ok-table.ensures ∙ ap (λ (items : List Item). map decl_of (map item_tree items))
+    (c.as_slice-items.ensures ∙ ap (λ (m : Module). m.items) c.module.ensures))
     typed.typed)

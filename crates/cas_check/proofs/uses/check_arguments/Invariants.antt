@@ -6,7 +6,8 @@ use Rattle.cas_check.proofs.uses.check_arguments.Given as goal
 
 abbrev pub invariant-each : goal.invariant-each
 invariant-each l = (next : Flow) →
-    guarded l.table l.set (argument_uses (map typed_expr_tree l.rest)) next ≡ guarded l.table l.set (argument_uses (map typed_expr_tree l.args)) next
+    guarded l.table l.set (argument_uses (map typed_expr_tree l.rest)) next ≡ guarded l.table l.set
+    (argument_uses (map typed_expr_tree l.args)) next
 
 abbrev pub decreases-each : goal.decreases-each
 decreases-each l = length l.rest

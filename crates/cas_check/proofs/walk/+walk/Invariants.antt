@@ -44,4 +44,5 @@ decreases-turns_from l = 8 * (length l.body.rows.now - l.n) + 3
 abbrev pub invariant-walk_all-loop-part : goal.invariant-walk_all-loop-part
 invariant-walk_all-loop-part l = (m : ℕ) (bs : TypedStmtList) → AreRows l.body.rows.now m bs l.parts →
     (k : ℕ) × (rest : TypedStmtList) × AreRows l.body.rows.now k rest (drop l.part-index l.parts)
-    × (flow_all l.body.table.now l.body.own.now (optional_head l.head) bs (Some l.set) ≡ flow_all l.body.table.now l.body.own.now (optional_head l.head) rest (onward l.set l.onward))
+    × (flow_all l.body.table.now l.body.own.now (optional_head l.head) bs
+    (Some l.set) ≡ flow_all l.body.table.now l.body.own.now (optional_head l.head) rest (onward l.set l.onward))

@@ -11,6 +11,7 @@ use Rattle.cas_command.proofs.options.each_is_of_world.Goals as goal
 
 pub returns : goal.returns
 returns c =
-    all_from_yields_List (λ (g : Given). list_any (bytes_eq g.option.now) w.world_options) _ _ _ c.all.ensures.ran (YieldsList-from_slice c.args.options.now cc)
+    all_from_yields_List (λ (g : Given). list_any (bytes_eq g.option.now) w.world_options) _ _ _ c.all.ensures.ran
+    (YieldsList-from_slice c.args.options.now cc)
     (λ x b q k. search (rules, tests))
     ∙ list_all-map (λ (g : w.Given). list_any (bytes_eq g.option) w.world_options) given_view c.args.options.now

@@ -6,7 +6,8 @@ use Rattle.cas_command.proofs.values.are_few.Given as goal
 abbrev pub invariant-each : goal.invariant-each
 invariant-each l = record {
   within : l.left ≤ 10000000;
-  summed : sum_by (λ item. item.1) (map item_view l.rest) + (10000000 - l.left) ≡ sum_by (λ item. item.1) (map item_view l.items);
+  summed : sum_by (λ item. item.1) (map item_view l.rest) + (10000000 - l.left) ≡ sum_by (λ item. item.1)
+      (map item_view l.items);
 }
 
 abbrev pub decreases-each : goal.decreases-each

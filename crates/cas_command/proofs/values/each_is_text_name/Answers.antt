@@ -7,5 +7,6 @@ use Rattle.cas_command.proofs.values.each_is_text_name.Goals as goal
 
 pub returns : goal.returns
 returns c =
-    all_from_yields_List (λ (name : Bor (List ℕ)). is_text_name name.now) _ _ _ c.all.ensures.ran (YieldsList-from_slice c.args.names.now cc) (λ x b q k. search (rules, tests))
+    all_from_yields_List (λ (name : Bor (List ℕ)). is_text_name name.now) _ _ _ c.all.ensures.ran
+    (YieldsList-from_slice c.args.names.now cc) (λ x b q k. search (rules, tests))
     ∙ list_all-map is_text_name (λ (name : Bor (List ℕ)). name.now) c.args.names.now

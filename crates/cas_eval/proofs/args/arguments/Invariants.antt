@@ -8,7 +8,8 @@ use Rattle.cas_eval.proofs.args.arguments.Given as goal
 abbrev pub invariant-each : goal.invariant-each
 invariant-each l =
     answer (eval_state l.context) (values_of (eval_context (eval_state l.context)) (map typed_expr_tree l.args))
-    ≡ map_answer (λ vs. map value_of l.values.items ++ vs) (answer (eval_state l.context) (values_of (eval_context (eval_state l.context)) (map typed_expr_tree l.rest)))
+    ≡ map_answer (λ vs. map value_of l.values.items ++ vs)
+    (answer (eval_state l.context) (values_of (eval_context (eval_state l.context)) (map typed_expr_tree l.rest)))
 
 abbrev pub decreases-each : goal.decreases-each
 decreases-each l = length l.rest

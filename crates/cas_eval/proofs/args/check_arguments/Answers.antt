@@ -12,8 +12,11 @@ pub returns-in_err-evaluate : goal.returns-in_err-evaluate
 returns-in_err-evaluate c =
     let r = eval_state c.args.context.now in
     let is : c.each.rest.now ≡ c.in-Some.arg.now ∷ c.in-Some.others.now = c.in-Some.ensures.cases.0 in
-    unchecked c.from_residual.result c.in_err-evaluate.field-0.0 r (typed_expr_tree c.in-Some.arg.now) (map typed_expr_tree c.in-Some.others.now) c.from_residual.ensures.1 c.in_err-evaluate.ensures
-    ∙ sym (c.each.invariant ∙ ap (λ (l : List TypedExpr). map_answer nothing (answer r (values_of (eval_context r) (map typed_expr_tree l)))) is)
+    unchecked c.from_residual.result c.in_err-evaluate.field-0.0 r (typed_expr_tree c.in-Some.arg.now)
+    (map typed_expr_tree c.in-Some.others.now) c.from_residual.ensures.1 c.in_err-evaluate.ensures
+    ∙ sym (c.each.invariant
+    ∙ ap (λ (l : List TypedExpr). map_answer nothing
+    (answer r (values_of (eval_context r) (map typed_expr_tree l)))) is)
 
 pub each-preserved : goal.each-preserved
 each-preserved c =
@@ -21,11 +24,13 @@ each-preserved c =
     let is : c.each.rest.now ≡ c.in-Some.arg.now ∷ c.in-Some.others.now = c.in-Some.ensures.cases.0 in
     c.each.invariant
     ∙ ap (λ (l : List TypedExpr). map_answer nothing (answer r (values_of (eval_context r) (map typed_expr_tree l)))) is
-    ∙ value_checked r (typed_expr_tree c.in-Some.arg.now) (map typed_expr_tree c.in-Some.others.now) (value_of c.in_ok-evaluate.field-0) c.in_ok-evaluate.ensures
+    ∙ value_checked r (typed_expr_tree c.in-Some.arg.now) (map typed_expr_tree c.in-Some.others.now)
+    (value_of c.in_ok-evaluate.field-0) c.in_ok-evaluate.ensures
 
 pub returns : goal.returns
 returns c =
     let r = eval_state c.args.context.now in
     sym (c.each.invariant
-    ∙ ap (λ (l : List TypedExpr). map_answer nothing (answer r (values_of (eval_context r) (map typed_expr_tree l)))) (is_empty c.each.rest.now c.in_default.ensures.cases)
+    ∙ ap (λ (l : List TypedExpr). map_answer nothing (answer r (values_of (eval_context r) (map typed_expr_tree l))))
+    (is_empty c.each.rest.now c.in_default.ensures.cases)
     ∙ none_unchecked r)

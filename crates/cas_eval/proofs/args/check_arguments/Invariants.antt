@@ -7,8 +7,10 @@ use Rattle.cas_eval.proofs.args.check_arguments.Given as goal
 
 abbrev pub invariant-each : goal.invariant-each
 invariant-each l =
-    map_answer nothing (answer (eval_state l.context) (values_of (eval_context (eval_state l.context)) (map typed_expr_tree l.args)))
-    ≡ map_answer nothing (answer (eval_state l.context) (values_of (eval_context (eval_state l.context)) (map typed_expr_tree l.rest)))
+    map_answer nothing
+    (answer (eval_state l.context) (values_of (eval_context (eval_state l.context)) (map typed_expr_tree l.args)))
+    ≡ map_answer nothing
+    (answer (eval_state l.context) (values_of (eval_context (eval_state l.context)) (map typed_expr_tree l.rest)))
 
 abbrev pub decreases-each : goal.decreases-each
 decreases-each l = length l.rest

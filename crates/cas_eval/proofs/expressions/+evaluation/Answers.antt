@@ -13,7 +13,8 @@ pointer_plus-returns-in_err-first t c =
 pub pointer_plus-returns-in_err-second : goal.pointer_plus-returns-in_err-second
 pointer_plus-returns-in_err-second t c =
     ok_then (eval_state c.args.context.now) _ _ _ _ c.in_ok-first.ensures
-    (stops value_of _ _ (eval_state c.args.context.now) _ _ c.from_residual-in_err-second.ensures.1 c.in_err-second.ensures)
+    (stops value_of _ _ (eval_state c.args.context.now) _ _ c.from_residual-in_err-second.ensures.1
+    c.in_err-second.ensures)
 
 pub pointer_plus-returns : goal.pointer_plus-returns
 pointer_plus-returns t c =
@@ -28,7 +29,8 @@ plus_pointer-returns-in_err-first t c =
 pub plus_pointer-returns-in_err-second : goal.plus_pointer-returns-in_err-second
 plus_pointer-returns-in_err-second t c =
     ok_then (eval_state c.args.context.now) _ _ _ _ c.in_ok-first.ensures
-    (stops value_of _ _ (eval_state c.args.context.now) _ _ c.from_residual-in_err-second.ensures.1 c.in_err-second.ensures)
+    (stops value_of _ _ (eval_state c.args.context.now) _ _ c.from_residual-in_err-second.ensures.1
+    c.in_err-second.ensures)
 
 pub plus_pointer-returns : goal.plus_pointer-returns
 plus_pointer-returns t c =
@@ -43,7 +45,8 @@ pointer_minus-returns-in_err-first t c =
 pub pointer_minus-returns-in_err-second : goal.pointer_minus-returns-in_err-second
 pointer_minus-returns-in_err-second t c =
     ok_then (eval_state c.args.context.now) _ _ _ _ c.in_ok-first.ensures
-    (stops value_of _ _ (eval_state c.args.context.now) _ _ c.from_residual-in_err-second.ensures.1 c.in_err-second.ensures)
+    (stops value_of _ _ (eval_state c.args.context.now) _ _ c.from_residual-in_err-second.ensures.1
+    c.in_err-second.ensures)
 
 pub pointer_minus-returns : goal.pointer_minus-returns
 pointer_minus-returns t c =
@@ -58,7 +61,8 @@ pointer_difference-returns-in_err-first t c =
 pub pointer_difference-returns-in_err-second : goal.pointer_difference-returns-in_err-second
 pointer_difference-returns-in_err-second t c =
     ok_then (eval_state c.args.context.now) _ _ _ _ c.in_ok-first.ensures
-    (stops value_of _ _ (eval_state c.args.context.now) _ _ c.from_residual-in_err-second.ensures.1 c.in_err-second.ensures)
+    (stops value_of _ _ (eval_state c.args.context.now) _ _ c.from_residual-in_err-second.ensures.1
+    c.in_err-second.ensures)
 
 pub pointer_difference-returns : goal.pointer_difference-returns
 pointer_difference-returns t c =
@@ -73,7 +77,8 @@ compare-returns-in_err-first t c =
 pub compare-returns-in_err-second : goal.compare-returns-in_err-second
 compare-returns-in_err-second t c =
     ok_then (eval_state c.args.context.now) _ _ _ _ c.in_ok-first.ensures
-    (stops value_of _ _ (eval_state c.args.context.now) _ _ c.from_residual-in_err-second.ensures.1 c.in_err-second.ensures)
+    (stops value_of _ _ (eval_state c.args.context.now) _ _ c.from_residual-in_err-second.ensures.1
+    c.in_err-second.ensures)
 
 pub compare-returns : goal.compare-returns
 compare-returns t c =
@@ -88,7 +93,8 @@ binary_of-returns-in_err-first t c =
 pub binary_of-returns-in_err-second : goal.binary_of-returns-in_err-second
 binary_of-returns-in_err-second t c =
     ok_then (eval_state c.args.context.now) _ _ _ _ c.in_ok-first.ensures
-    (stops value_of _ _ (eval_state c.args.context.now) _ _ c.from_residual-in_err-second.ensures.1 c.in_err-second.ensures)
+    (stops value_of _ _ (eval_state c.args.context.now) _ _ c.from_residual-in_err-second.ensures.1
+    c.in_err-second.ensures)
 
 pub binary_of-returns : goal.binary_of-returns
 binary_of-returns t c =
@@ -121,7 +127,8 @@ element-returns-in_err-index t c =
 pub element-returns-in_err-place : goal.element-returns-in_err-place
 element-returns-in_err-place t c =
     ok_then (eval_state c.args.context.now) _ _ _ _ c.in_ok-index.ensures
-    (stops value_of _ _ (eval_state c.args.context.now) _ _ c.from_residual-in_err-place.ensures.1 c.in_err-place.ensures)
+    (stops value_of _ _ (eval_state c.args.context.now) _ _ c.from_residual-in_err-place.ensures.1
+    c.in_err-place.ensures)
 
 pub element-returns : goal.element-returns
 element-returns t c =
@@ -136,7 +143,8 @@ behind-returns-in_err-value t c =
 pub behind-returns-in_err-pointed : goal.behind-returns-in_err-pointed
 behind-returns-in_err-pointed t c =
     ok_then (eval_state c.args.context.now) _ _ _ _ c.in_ok-value.ensures
-    (stops value_of _ _ (eval_state c.args.context.now) _ _ c.from_residual-in_err-pointed.ensures.1 (c.in_err-pointed.ensures (eval_state c.args.context.now)))
+    (stops value_of _ _ (eval_state c.args.context.now) _ _ c.from_residual-in_err-pointed.ensures.1
+    (c.in_err-pointed.ensures (eval_state c.args.context.now)))
 
 pub behind-returns : goal.behind-returns
 behind-returns t c =
@@ -151,13 +159,15 @@ truth_of-returns-in_err-value t c =
 pub truth_of-returns-in_err-condition : goal.truth_of-returns-in_err-condition
 truth_of-returns-in_err-condition t c =
     ok_then (eval_state c.args.context.now) _ _ _ _ c.in_ok-value.ensures
-    (stops value_of _ _ (eval_state c.args.context.now) _ _ c.from_residual-in_err-condition.ensures.1 (c.in_err-condition.ensures (eval_state c.args.context.now)))
+    (stops value_of _ _ (eval_state c.args.context.now) _ _ c.from_residual-in_err-condition.ensures.1
+    (c.in_err-condition.ensures (eval_state c.args.context.now)))
 
 pub truth_of-returns : goal.truth_of-returns
 truth_of-returns t c =
     ok_then (eval_state c.args.context.now) _ _ _ _ c.in_ok-value.ensures
     (ok_then (eval_state c.args.context.now) _ _ _ _ (c.in_ok-condition.ensures (eval_state c.args.context.now))
-    (ap (λ n. Ok (word n)) c.truth.ensures ∙ sym (given (eval_state c.args.context.now) (word (o.truth c.in_ok-condition.field-0)))))
+    (ap (λ n. Ok (word n)) c.truth.ensures
+    ∙ sym (given (eval_state c.args.context.now) (word (o.truth c.in_ok-condition.field-0)))))
 
 pub and_also-returns-in_err-first : goal.and_also-returns-in_err-first
 and_also-returns-in_err-first t c =
@@ -166,18 +176,21 @@ and_also-returns-in_err-first t c =
 pub and_also-returns-in_err-condition : goal.and_also-returns-in_err-condition
 and_also-returns-in_err-condition t c =
     ok_then (eval_state c.args.context.now) _ _ _ _ c.in_ok-first.ensures
-    (stops value_of _ _ (eval_state c.args.context.now) _ _ c.from_residual-in_err-condition.ensures.1 (c.in_err-condition.ensures (eval_state c.args.context.now)))
+    (stops value_of _ _ (eval_state c.args.context.now) _ _ c.from_residual-in_err-condition.ensures.1
+    (c.in_err-condition.ensures (eval_state c.args.context.now)))
 
 pub and_also-returns-then-branch : goal.and_also-returns-then-branch
 and_also-returns-then-branch t c =
     ok_then (eval_state c.args.context.now) _ _ _ _ c.in_ok-first.ensures
-    (ok_then (eval_state c.args.context.now) _ _ _ _ (known c.in_ok-condition.field-0 true (c.in_ok-condition.ensures (eval_state c.args.context.now)) c.if-branch.true)
+    (ok_then (eval_state c.args.context.now) _ _ _ _ (known c.in_ok-condition.field-0 true
+    (c.in_ok-condition.ensures (eval_state c.args.context.now)) c.if-branch.true)
     (c.truth_of.ensures))
 
 pub and_also-returns-else-branch : goal.and_also-returns-else-branch
 and_also-returns-else-branch t c =
     ok_then (eval_state c.args.context.now) _ _ _ _ c.in_ok-first.ensures
-    (ok_then (eval_state c.args.context.now) _ _ _ _ (known c.in_ok-condition.field-0 false (c.in_ok-condition.ensures (eval_state c.args.context.now)) c.if-branch.false)
+    (ok_then (eval_state c.args.context.now) _ _ _ _ (known c.in_ok-condition.field-0 false
+    (c.in_ok-condition.ensures (eval_state c.args.context.now)) c.if-branch.false)
     (sym (given (eval_state c.args.context.now) (word 0))))
 
 pub or_else-returns-in_err-first : goal.or_else-returns-in_err-first
@@ -187,18 +200,21 @@ or_else-returns-in_err-first t c =
 pub or_else-returns-in_err-condition : goal.or_else-returns-in_err-condition
 or_else-returns-in_err-condition t c =
     ok_then (eval_state c.args.context.now) _ _ _ _ c.in_ok-first.ensures
-    (stops value_of _ _ (eval_state c.args.context.now) _ _ c.from_residual-in_err-condition.ensures.1 (c.in_err-condition.ensures (eval_state c.args.context.now)))
+    (stops value_of _ _ (eval_state c.args.context.now) _ _ c.from_residual-in_err-condition.ensures.1
+    (c.in_err-condition.ensures (eval_state c.args.context.now)))
 
 pub or_else-returns-then-branch : goal.or_else-returns-then-branch
 or_else-returns-then-branch t c =
     ok_then (eval_state c.args.context.now) _ _ _ _ c.in_ok-first.ensures
-    (ok_then (eval_state c.args.context.now) _ _ _ _ (known c.in_ok-condition.field-0 true (c.in_ok-condition.ensures (eval_state c.args.context.now)) c.if-branch.true)
+    (ok_then (eval_state c.args.context.now) _ _ _ _ (known c.in_ok-condition.field-0 true
+    (c.in_ok-condition.ensures (eval_state c.args.context.now)) c.if-branch.true)
     (sym (given (eval_state c.args.context.now) (word 1))))
 
 pub or_else-returns-else-branch : goal.or_else-returns-else-branch
 or_else-returns-else-branch t c =
     ok_then (eval_state c.args.context.now) _ _ _ _ c.in_ok-first.ensures
-    (ok_then (eval_state c.args.context.now) _ _ _ _ (known c.in_ok-condition.field-0 false (c.in_ok-condition.ensures (eval_state c.args.context.now)) c.if-branch.false)
+    (ok_then (eval_state c.args.context.now) _ _ _ _ (known c.in_ok-condition.field-0 false
+    (c.in_ok-condition.ensures (eval_state c.args.context.now)) c.if-branch.false)
     (c.truth_of.ensures))
 
 pub choose-returns-in_err-first : goal.choose-returns-in_err-first
@@ -208,16 +224,19 @@ choose-returns-in_err-first t c =
 pub choose-returns-in_err-condition : goal.choose-returns-in_err-condition
 choose-returns-in_err-condition t c =
     ok_then (eval_state c.args.context.now) _ _ _ _ c.in_ok-first.ensures
-    (stops value_of _ _ (eval_state c.args.context.now) _ _ c.from_residual-in_err-condition.ensures.1 (c.in_err-condition.ensures (eval_state c.args.context.now)))
+    (stops value_of _ _ (eval_state c.args.context.now) _ _ c.from_residual-in_err-condition.ensures.1
+    (c.in_err-condition.ensures (eval_state c.args.context.now)))
 
 pub choose-returns-then-branch : goal.choose-returns-then-branch
 choose-returns-then-branch t c =
     ok_then (eval_state c.args.context.now) _ _ _ _ c.in_ok-first.ensures
-    (ok_then (eval_state c.args.context.now) _ _ _ _ (known c.in_ok-condition.field-0 true (c.in_ok-condition.ensures (eval_state c.args.context.now)) c.if-branch.true)
+    (ok_then (eval_state c.args.context.now) _ _ _ _ (known c.in_ok-condition.field-0 true
+    (c.in_ok-condition.ensures (eval_state c.args.context.now)) c.if-branch.true)
     (c.evaluate-then-branch.ensures))
 
 pub choose-returns-else-branch : goal.choose-returns-else-branch
 choose-returns-else-branch t c =
     ok_then (eval_state c.args.context.now) _ _ _ _ c.in_ok-first.ensures
-    (ok_then (eval_state c.args.context.now) _ _ _ _ (known c.in_ok-condition.field-0 false (c.in_ok-condition.ensures (eval_state c.args.context.now)) c.if-branch.false)
+    (ok_then (eval_state c.args.context.now) _ _ _ _ (known c.in_ok-condition.field-0 false
+    (c.in_ok-condition.ensures (eval_state c.args.context.now)) c.if-branch.false)
     (c.evaluate-else-branch.ensures))

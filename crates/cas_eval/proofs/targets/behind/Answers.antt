@@ -13,13 +13,15 @@ returns-in_err-value c =
 pub returns-in_err-place : goal.returns-in_err-place
 returns-in_err-place c =
     ok_then (eval_state c.args.context.now) _ _ _ _ c.in_ok-value.ensures
-    (stops cell_view _ _ (eval_state c.args.context.now) _ _ c.from_residual-in_err-place.ensures.1 (c.in_err-place.ensures (eval_state c.args.context.now)))
+    (stops cell_view _ _ (eval_state c.args.context.now) _ _ c.from_residual-in_err-place.ensures.1
+    (c.in_err-place.ensures (eval_state c.args.context.now)))
 
 pub returns-in_err-cell : goal.returns-in_err-cell
 returns-in_err-cell c =
     ok_then (eval_state c.args.context.now) _ _ _ _ c.in_ok-value.ensures
     (ok_then (eval_state c.args.context.now) _ _ _ _ (c.in_ok-place.ensures (eval_state c.args.context.now))
-    (stops cell_view _ _ (eval_state c.args.context.now) _ _ c.from_residual-in_err-cell.ensures.1 c.in_err-cell.ensures))
+    (stops cell_view _ _ (eval_state c.args.context.now) _ _ c.from_residual-in_err-cell.ensures.1
+    c.in_err-cell.ensures))
 
 pub returns : goal.returns
 returns c =

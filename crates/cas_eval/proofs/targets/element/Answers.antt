@@ -12,7 +12,8 @@ returns-in_err-value c =
 pub returns-in_err-place : goal.returns-in_err-place
 returns-in_err-place c =
     ok_then (eval_state c.args.context.now) _ _ _ _ c.in_ok-value.ensures
-    (stops cell_view _ _ (eval_state c.args.context.now) _ _ c.from_residual-in_err-place.ensures.1 c.in_err-place.ensures)
+    (stops cell_view _ _ (eval_state c.args.context.now) _ _ c.from_residual-in_err-place.ensures.1
+    c.in_err-place.ensures)
 
 pub returns : goal.returns
 returns c =

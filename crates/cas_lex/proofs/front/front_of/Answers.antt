@@ -4,7 +4,8 @@ use Rattle.cas_lex.specs.Front.{front, front_at, name_at}
 use Rattle.cas_lex.proofs.Names.{list_all-take_while}
 use Rattle.cas_lex.proofs.front.front_of.Goals as goal
 
-front-name : (text : List ℕ) → 0 < length text → is_first_byte (get_or text 0 0) ≡ true → front text ≡ name_at (take_while is_name_byte text)
+front-name : (text : List ℕ) → 0 < length text → is_first_byte (get_or text 0 0) ≡ true →
+    front text ≡ name_at (take_while is_name_byte text)
 unfolding front_at
 front-name [] some first = absurd (omega arith)
 front-name (b ∷ bs) some first = rw first refl

@@ -7,7 +7,8 @@ use Rattle.cas_lex.proofs.lexing.tokens_of.Given as goal
 abbrev pub invariant-fronts : goal.invariant-fronts
 invariant-fronts l = record {
   -- what lexes the rest lexes the whole
-  lexed : (tokens : List Token) (stop : Stop) → Lexed l.place l.rest tokens stop → Lexed start l.text (l.tokens.items ++ tokens) stop;
+  lexed : (tokens : List Token) (stop : Stop) → Lexed l.place l.rest tokens stop →
+      Lexed start l.text (l.tokens.items ++ tokens) stop;
   lines : l.place.line + length l.rest ≤ length l.text + 1;
   columns : l.place.col + length l.rest ≤ length l.text + 1;
 }

@@ -3,4 +3,5 @@ use Rattle.std.specs.Io.KnownBytes.{Appends}
 use Rattle.cas_outside.proofs.system.write_all.Given as goal
 
 abbrev pub invariant-loop : goal.invariant-loop
-invariant-loop g l = (written : List ℕ) × (l.bytes ≡ written ++ l.rest) × Appends (g.W.Write.contents l.initial.writer) (g.W.Write.contents l.writer) written
+invariant-loop g l = (written : List ℕ) × (l.bytes ≡ written ++ l.rest)
+    × Appends (g.W.Write.contents l.initial.writer) (g.W.Write.contents l.writer) written

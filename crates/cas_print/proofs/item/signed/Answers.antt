@@ -10,4 +10,5 @@ pub returns : goal.returns
 returns c rest =
     IfOk-equal _ _ _ _ (c.integer.ensures rest)
     (rw c.cast_signed.ensures
-    (ap (λ (n : ℕ). followed_by c.args.page.now (printed_integer (signed n) rest)) (of_z-to_z {w = w32} {n = c.args.word} c.ranges.word)))
+    (ap (λ (n : ℕ). followed_by c.args.page.now (printed_integer (signed n) rest))
+    (of_z-to_z {w = w32} {n = c.args.word} c.ranges.word)))

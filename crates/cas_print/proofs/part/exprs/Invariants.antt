@@ -7,7 +7,8 @@ use Rattle.cas_print.specs.Expressions.{behind_commas, printed_expr}
 use Rattle.cas_print.proofs.part.exprs.Given as goal
 
 abbrev pub invariant-loop-next : goal.invariant-loop-next
-invariant-loop-next l = (rest : List Piece) → followed_by l.page (behind_commas printed_expr (map expr_tree l.others) rest)
+invariant-loop-next l = (rest : List Piece) → followed_by l.page
+    (behind_commas printed_expr (map expr_tree l.others) rest)
     ≡ followed_by l.initial.page (behind_commas printed_expr (map expr_tree l.initial.others) rest)
 
 abbrev pub decreases-loop-next : goal.decreases-loop-next

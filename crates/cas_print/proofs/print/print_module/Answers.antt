@@ -17,5 +17,6 @@ returns-clause-canonical c =
 
 pub returns-clause-read_again : goal.returns-clause-read_again
 returns-clause-read_again c bytes tree read alike =
-    subst (λ (printed : List ℕ). (other : ModuleTree) × IsReadAs printed other × IsAlike other (module_tree c.args.module.now))
+    subst (λ (printed : List ℕ). (other : ModuleTree) × IsReadAs printed other
+    × IsAlike other (module_tree c.args.module.now))
     (sym (returns-clause-canonical c)) (alike_is_read bytes tree (module_tree c.args.module.now) read alike)

@@ -16,7 +16,8 @@ stmt-returns-in-Call t c rest = IfOk-equal _ _ _ _ (c.simple-in-Call.ensures res
 pub stmt-returns-in-Block : goal.stmt-returns-in-Block
 stmt-returns-in-Block t c rest =
     IfOk-equal _ _ _ _ (c.block.ensures rest)
-    (ap (followed_by c.args.page.now) (printed-block c.args.stmt.now c.in-Block.inner c.deref.result.now rest c.in-Block.is c.deref.ensures.value))
+    (ap (followed_by c.args.page.now)
+    (printed-block c.args.stmt.now c.in-Block.inner c.deref.result.now rest c.in-Block.is c.deref.ensures.value))
 
 pub stmt-returns-in_ok-for_head-in-For : goal.stmt-returns-in_ok-for_head-in-For
 stmt-returns-in_ok-for_head-in-For t c rest =
@@ -24,4 +25,5 @@ stmt-returns-in_ok-for_head-in-For t c rest =
     IfOk-equal _ _ _ _ (c.stmt-in-For.ensures rest)
     (c.in_ok-for_head-in-For.ensures _
     ∙ ap (followed_by c.args.page.now)
-    (printed-for c.args.stmt.now c.in-For.first c.in-For.condition c.in-For.after c.in-For.body _ rest c.in-For.is same))
+    (printed-for c.args.stmt.now c.in-For.first c.in-For.condition c.in-For.after c.in-For.body _ rest c.in-For.is
+    same))

@@ -7,5 +7,6 @@ use Rattle.cas_print.specs.Statements.{printed_stmts}
 use Rattle.cas_print.proofs.stmt.+stmt.Given as goal
 
 abbrev pub invariant-stmts-loop-inner : goal.invariant-stmts-loop-inner
-invariant-stmts-loop-inner l = (rest : List Piece) → followed_by l.page (printed_stmts (stmt_trees (drop l.inner-index l.stmts)) rest)
+invariant-stmts-loop-inner l = (rest : List Piece) → followed_by l.page
+    (printed_stmts (stmt_trees (drop l.inner-index l.stmts)) rest)
     ≡ followed_by l.initial.page (printed_stmts (stmt_trees l.stmts) rest)

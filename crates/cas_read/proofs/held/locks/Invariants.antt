@@ -8,7 +8,8 @@ use Rattle.cas_read.proofs.held.locks.Given as goal
 
 abbrev pub invariant-locks : goal.invariant-locks
 invariant-locks l = record {
-  follows : (o : Opening) (tys : List Ty) (xs : List (Option Ident)) (items : List ItemTree) → verdict l.tokens (WantHeld o tys xs [] items) [] ≡ verdict l.rest (WantHeld o tys xs l.all.items items) [];
+  follows : (o : Opening) (tys : List Ty) (xs : List (Option Ident)) (items : List ItemTree) →
+      verdict l.tokens (WantHeld o tys xs [] items) [] ≡ verdict l.rest (WantHeld o tys xs l.all.items items) [];
   shorter : length l.rest ≤ length l.tokens;
 }
 

@@ -7,5 +7,6 @@ use Rattle.cas_read.proofs.item.item.Goals as goal
 
 pub returns-in_default-clause-follows : goal.returns-in_default-clause-follows
 returns-in_default-clause-follows c = λ items.
-    let e : begins_item c.args.tokens.now c.args.defined items ≡ verdict c.args.tokens.now (WantKind None) (ReturnKind c.args.defined items ∷ []) = grind (arith, common_steps) in
+    let e : begins_item c.args.tokens.now c.args.defined items ≡ verdict c.args.tokens.now (WantKind None)
+    (ReturnKind c.args.defined items ∷ []) = grind (arith, common_steps) in
     rw e (c.typed_function.ensures.follows items)

@@ -7,5 +7,6 @@ use Rattle.cas_read.proofs.item.next_item.Goals as goal
 
 pub returns-in_default-kind-clause-follows : goal.returns-in_default-kind-clause-follows
 returns-in_default-kind-clause-follows c = λ items.
-    let e : verdict c.args.tokens.now (InItems items) [] ≡ begins_item c.args.tokens.now true items = grind (arith, common_steps) in
+    let e : verdict c.args.tokens.now (InItems items) [] ≡ begins_item c.args.tokens.now true items =
+    grind (arith, common_steps) in
     rw e (c.item-in_default-kind.ensures.follows items)

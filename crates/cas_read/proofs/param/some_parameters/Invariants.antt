@@ -6,7 +6,8 @@ use Rattle.cas_read.proofs.param.some_parameters.Given as goal
 
 abbrev pub invariant-parameters : goal.invariant-parameters
 invariant-parameters l = record {
-  follows : (o : Opening) (items : List ItemTree) → verdict l.tokens (WantParameter o [] [] items) [] ≡ verdict l.rest (WantParameter o l.types.items l.names.items items) [];
+  follows : (o : Opening) (items : List ItemTree) → verdict l.tokens (WantParameter o [] [] items) [] ≡ verdict l.rest
+      (WantParameter o l.types.items l.names.items items) [];
   shorter : length l.rest ≤ length l.tokens;
 }
 

@@ -14,4 +14,5 @@ pub returns-in-None : goal.returns-in-None
 returns-in-None c =
     let found = c.in-None.ensures.lookup in
     let none : c.args.left ≡ 0 = omega (arith, found.3) in
-    sym (ap (λ (left : ℕ). place_left c.args.tokens.now c.args.end left) none ∙ place_left_end c.args.tokens.now c.args.end)
+    sym (ap (λ (left : ℕ). place_left c.args.tokens.now c.args.end left) none
+    ∙ place_left_end c.args.tokens.now c.args.end)

@@ -10,5 +10,6 @@ returns-in-Ok-items c =
     let value = c.as_slice.ensures.value in
     let items = c.of.ensures in
     let read = c.in-Ok-items.ensures.follows in
-    let told : verdict c.in-Ok.tokens.items (InItems []) [] ≡ Ok (map item_tree c.of.result) = rw (sym value, items) read in
+    let told : verdict c.in-Ok.tokens.items (InItems []) [] ≡ Ok (map item_tree c.of.result) =
+    rw (sym value, items) read in
     reads_items c.args.bytes.now c.in-Ok.tokens.items (record { items = c.of.result }) c.in-Ok.ensures.tokens told

@@ -7,5 +7,6 @@ use Rattle.cas_read.proofs.values.value_or_end.Goals as goal
 
 pub returns-in_default-clause-follows : goal.returns-in_default-clause-follows
 returns-in_default-clause-follows c = λ s d x n vs items.
-    let e : verdict c.args.tokens.now (MoreCells (data_of s d c.args.kind) x n vs items) [] ≡ verdict c.args.tokens.now (WantCells (data_of s d c.args.kind) x n vs items) [] = grind (arith, common_steps) in
+    let e : verdict c.args.tokens.now (MoreCells (data_of s d c.args.kind) x n vs items) [] ≡ verdict c.args.tokens.now
+    (WantCells (data_of s d c.args.kind) x n vs items) [] = grind (arith, common_steps) in
     rw e (c.further_value.ensures.follows s d x n vs items)

@@ -8,7 +8,9 @@ use Rattle.cas_read.proofs.values.values.Given as goal
 
 abbrev pub invariant-values : goal.invariant-values
 invariant-values l = record {
-  follows : (s : Sort) (d : Bool) (x : Ident) (n : ℕ) (items : List ItemTree) → verdict l.tokens (WantCells (data_of s d l.kind) x n [] items) [] ≡ verdict l.rest (HaveCells (data_of s d l.kind) x n l.all.items items) [];
+  follows : (s : Sort) (d : Bool) (x : Ident) (n : ℕ) (items : List ItemTree) →
+      verdict l.tokens (WantCells (data_of s d l.kind) x n [] items) [] ≡ verdict l.rest
+      (HaveCells (data_of s d l.kind) x n l.all.items items) [];
   shorter : length l.rest < length l.tokens;
 }
 

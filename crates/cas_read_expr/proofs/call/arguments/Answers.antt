@@ -6,5 +6,6 @@ use Rattle.cas_read_expr.proofs.call.arguments.Goals as goal
 
 pub returns-in_default-clause-follows : goal.returns-in_default-clause-follows
 returns-in_default-clause-follows c = λ caller st.
-    let e : verdict c.args.tokens.now (WantArguments caller) st ≡ verdict c.args.tokens.now WantOutermost (Argument caller [] ∷ st) = grind (arith, common_steps) in
+    let e : verdict c.args.tokens.now (WantArguments caller) st ≡ verdict c.args.tokens.now WantOutermost
+    (Argument caller [] ∷ st) = grind (arith, common_steps) in
     rw e (c.some_arguments.ensures.follows caller st)

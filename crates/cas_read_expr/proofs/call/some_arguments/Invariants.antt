@@ -6,7 +6,8 @@ use Rattle.cas_read_expr.proofs.call.some_arguments.Given as goal
 
 abbrev pub invariant-loop-all : goal.invariant-loop-all
 invariant-loop-all l = record {
-  follows : (caller : Caller) (st : List Frame) → verdict l.tokens WantOutermost (Argument caller [] ∷ st) ≡ verdict l.rest WantOutermost (Argument caller (map expr_tree l.all.items) ∷ st);
+  follows : (caller : Caller) (st : List Frame) → verdict l.tokens WantOutermost (Argument caller [] ∷ st)
+      ≡ verdict l.rest WantOutermost (Argument caller (map expr_tree l.all.items) ∷ st);
   shorter : length l.rest ≤ length l.tokens;
 }
 

@@ -39,7 +39,8 @@ decreases-branches l = 4 * length l.tokens.now + 3
 
 abbrev pub invariant-expr-loop-between : goal.invariant-expr-loop-between
 invariant-expr-loop-between l = record {
-  follows : (st : List Frame) → verdict l.tokens (WantExpr l.fn.used l.least) st ≡ verdict l.rest (HaveExpr l.used l.least (expr_tree l.left)) st;
+  follows : (st : List Frame) → verdict l.tokens (WantExpr l.fn.used l.least) st ≡ verdict l.rest
+      (HaveExpr l.used l.least (expr_tree l.left)) st;
   shorter : length l.rest < length l.tokens;
 }
 

@@ -6,7 +6,9 @@ use Rattle.cas_read_stmt.proofs.local.locals.Given as goal
 
 abbrev pub invariant-locals : goal.invariant-locals
 invariant-locals l = record {
-  follows : (n : ℕ) (st : List Frame) → verdict l.tokens (WantLocal l.kind) (Locals n l.kind (stmt_trees l.initial.all.items) ∷ st) ≡ verdict l.rest (WantLocal l.kind) (Locals n l.kind (stmt_trees l.all.items) ∷ st);
+  follows : (n : ℕ) (st : List Frame) → verdict l.tokens (WantLocal l.kind)
+      (Locals n l.kind (stmt_trees l.initial.all.items) ∷ st) ≡ verdict l.rest (WantLocal l.kind)
+      (Locals n l.kind (stmt_trees l.all.items) ∷ st);
   shorter : length l.rest ≤ length l.tokens;
 }
 

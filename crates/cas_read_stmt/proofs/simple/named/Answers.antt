@@ -8,5 +8,6 @@ use Rattle.cas_read_stmt.proofs.simple.named.Goals as goal
 pub returns-in_default-clause-follows : goal.returns-in_default-clause-follows
 returns-in_default-clause-follows c = λ st.
     let x = c.args.name in
-    let e : verdict c.args.tokens.now (AfterName x) st ≡ verdict c.args.tokens.now (AfterTarget x.place (to_name x)) st = grind (arith, common_steps) in
+    let e : verdict c.args.tokens.now (AfterName x) st ≡ verdict c.args.tokens.now (AfterTarget x.place (to_name x))
+    st = grind (arith, common_steps) in
     rw e (c.changed-in_default.ensures.follows st)

@@ -36,7 +36,8 @@ decreases-for_loop l = 6 * length l.tokens.now + 2
 
 abbrev pub invariant-list-stmts : goal.invariant-list-stmts
 invariant-list-stmts l = record {
-  follows : (st : List Frame) → verdict l.tokens (InList l.around no_more) st ≡ verdict l.rest (InList l.around (stmt_trees l.all.items)) st;
+  follows : (st : List Frame) → verdict l.tokens (InList l.around no_more) st ≡ verdict l.rest
+      (InList l.around (stmt_trees l.all.items)) st;
   shorter : length l.rest ≤ length l.tokens;
 }
 

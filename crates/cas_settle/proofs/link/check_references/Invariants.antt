@@ -6,5 +6,7 @@ use Rattle.cas_settle.proofs.link.check_references.Given as goal
 
 abbrev pub invariant-loop-decls : goal.invariant-loop-decls
 invariant-loop-decls l =
-    first_fault (λ decl. reference_fault decl (definition_of (decls_in l.definitions) decl.name)) (references (all_decls (drop l.decls-index l.decls-items)))
-    ≡ first_fault (λ decl. reference_fault decl (definition_of (decls_in l.definitions) decl.name)) (references (all_decls l.decls-items))
+    first_fault (λ decl. reference_fault decl (definition_of (decls_in l.definitions) decl.name))
+    (references (all_decls (drop l.decls-index l.decls-items)))
+    ≡ first_fault (λ decl. reference_fault decl (definition_of (decls_in l.definitions) decl.name))
+    (references (all_decls l.decls-items))

@@ -16,7 +16,8 @@ returns-in-Ok c = λ ms names h program thread is words begins s steps.
 pub returns-in-Bad : goal.returns-in-Bad
 returns-in-Bad c = λ ms names h program thread is words begins s steps.
     let fails = c.in-Err.ensures ms names h program thread is words begins in
-    (bad_steps (env_of ms) h s c.args.program.now.modules c.args.config.now c.args.words.now c.in-Bad.why thread words (fails ∙ ap Err c.in-Bad.is) steps).0
+    (bad_steps (env_of ms) h s c.args.program.now.modules c.args.config.now c.args.words.now c.in-Bad.why thread words
+    (fails ∙ ap Err c.in-Bad.is) steps).0
 
 pub returns-in-Stuck : goal.returns-in-Stuck
 returns-in-Stuck c = λ ms names h program thread is words begins s steps.

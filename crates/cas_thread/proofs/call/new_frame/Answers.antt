@@ -12,10 +12,13 @@ returns-clause-cont c = λ it is.
     let at : AreAt c.as_slice-rows.result.now it.body c.as_slice-parts.result.now =
     subst (λ ns. AreAt c.as_slice-rows.result.now it.body ns) (sym c.as_slice-parts.ensures)
     (subst (λ rs. AreAt rs it.body f.body) (sym rows) (rows_at f.rows 0 it.body f.body is.rows)) in
-    let none : IsContinuation c.as_slice-rows.result.now (reverse c.in_ok-cont.cont.items) [] = rw c.in_ok-cont.ensures.items tt in
-    subst (λ rs. IsContinuation rs (reverse c.begin_each.new.cont.items) (begin_all it.body [])) rows (c.begin_each.ensures.shows it.body [] at none)
+    let none : IsContinuation c.as_slice-rows.result.now (reverse c.in_ok-cont.cont.items) [] =
+    rw c.in_ok-cont.ensures.items tt in
+    subst (λ rs. IsContinuation rs (reverse c.begin_each.new.cont.items) (begin_all it.body [])) rows
+    (c.begin_each.ensures.shows it.body [] at none)
 
 pub returns-clause-room : goal.returns-clause-room
 returns-clause-room c = λ it is.
     let size = ap length c.as_slice-rows.ensures in
-    all_fit (vec_capacity c.begin_each.new.cont) it.body [] (omega (arith, size, is.size, c.begin_each.ensures.room, c.in_ok-cont.ensures.capacity)) tt
+    all_fit (vec_capacity c.begin_each.new.cont) it.body []
+    (omega (arith, size, is.size, c.begin_each.ensures.room, c.in_ok-cont.ensures.capacity)) tt

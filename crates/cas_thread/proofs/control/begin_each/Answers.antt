@@ -17,6 +17,7 @@ loop-left-preserved c =
       within = omega arith;
       room = omega arith;
       capacity = omega arith;
-      shows = puts_push c.args.rows.now (reverse c.args.cont.now.items) l.cont.items c.push_reserved.new.self.items c.args.parts.now l.left (l.left - 1)
+      shows = puts_push c.args.rows.now (reverse c.args.cont.now.items) l.cont.items c.push_reserved.new.self.items
+          c.args.parts.now l.left (l.left - 1)
           (omega arith) (omega arith) c.push_reserved.ensures.items l.invariant.shows;
     }

@@ -9,7 +9,9 @@ invariant-loop-left l = record {
   within : l.left ≤ length l.parts;
   room : vec_len l.cont + l.left ≤ vec_capacity l.cont;
   capacity : vec_capacity l.cont ≡ vec_capacity l.initial.cont;
-  shows : (bs : TypedStmtList) (it : List ContItem) → AreAt l.rows bs (drop l.left l.parts) → IsContinuation l.rows (reverse l.initial.cont.items) it → IsContinuation l.rows (reverse l.cont.items) (begin_all bs it);
+  shows : (bs : TypedStmtList) (it : List ContItem) → AreAt l.rows bs (drop l.left l.parts) →
+      IsContinuation l.rows (reverse l.initial.cont.items) it →
+      IsContinuation l.rows (reverse l.cont.items) (begin_all bs it);
 }
 
 abbrev pub decreases-loop-left : goal.decreases-loop-left

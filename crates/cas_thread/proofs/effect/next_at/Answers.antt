@@ -8,7 +8,8 @@ pub returns-in-Some-Some : goal.returns-in-Some-Some
 returns-in-Some-Some c = λ p u cont ret at.
     let rows = c.args.rows.now in
     let part = subst (IsPart rows u) c.in-Some-Some.field-0-is (c.in-Some-Some.ensures.some p u at) in
-    next_present (eval_state c.args.context.now) rows p ret c.in-Some-Some.next c.first_at.result c.first_at.ensures u cont part
+    next_present (eval_state c.args.context.now) rows p ret c.in-Some-Some.next c.first_at.result c.first_at.ensures u
+    cont part
 
 pub returns-in-Some-None : goal.returns-in-Some-None
 returns-in-Some-None c = λ p u cont ret at.

@@ -17,7 +17,8 @@ returns-in_err-item c = λ words ms names k s program thread steps.
     let h : StepContext = record { config = k; newest = n.0; older = n.1; words = words } in
     let some = c.in_ok-frame.ensures.some in
     let f = c.in_ok-frame.frame.now in
-    let frame = newest_frame ts (reverse c.args.config.now.frames.items) some.0 f k.activations n.1 n.0 some.1 thread.frames_are n.2 in
+    let frame = newest_frame ts (reverse c.args.config.now.frames.items) some.0 f k.activations n.1 n.0 some.1
+    thread.frames_are n.2 in
     let rows = c.rows_of-rows.ensures ∙ ap (λ (ts' : List Typed). rows_at ts' f.unit f.place) c.modules.ensures in
     let shows : IsContinuation c.rows_of-rows.result.now (reverse c.as_slice.result.now) n.0.cont =
     subst (λ xs. IsContinuation c.rows_of-rows.result.now (reverse xs) n.0.cont) (sym c.as_slice.ensures.value)

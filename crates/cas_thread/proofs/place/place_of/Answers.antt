@@ -16,17 +16,21 @@ use Rattle.cas_thread.proofs.Top.{newest_of, step_at}
 use Rattle.cas_thread.proofs.place.place_of.Goals as goal
 
 pub unreachable-requires : goal.unreachable-requires
-unreachable-requires c = ∥∥₁_elim c.requires (λ x y. absurd x) (λ (w : IsUnfinished c.args.program.now c.args.config.now).
+unreachable-requires c = ∥∥₁_elim c.requires (λ x y. absurd x)
+    (λ (w : IsUnfinished c.args.program.now c.args.config.now).
     let ts = c.args.program.now.modules in
     let some = c.in-Some.ensures.some in
     let f = c.in-Some.frame.now in
-    let frame = newest_frame ts (reverse c.args.config.now.frames.items) some.0 f w.c.activations w.older w.newest some.1 w.is_thread.frames_are w.going in
+    let frame = newest_frame ts (reverse c.args.config.now.frames.items) some.0 f w.c.activations w.older w.newest
+    some.1 w.is_thread.frames_are w.going in
     let x = is_there ts w.modules f.unit f.place w.is_program.typed frame.there in
     cc (c.in-None-function.ensures.there w.modules w.names x.0 x.1 w.is_program x.2))
 
 pub unreachable-requires-in-None : goal.unreachable-requires-in-None
-unreachable-requires-in-None c = ∥∥₁_elim c.requires (λ x y. absurd x) (λ (w : IsUnfinished c.args.program.now c.args.config.now).
-    no_frames c.args.program.now.modules (reverse c.args.config.now.frames.items) w.c.activations w.older w.newest c.in-None.ensures.none w.is_thread.frames_are w.going)
+unreachable-requires-in-None c = ∥∥₁_elim c.requires (λ x y. absurd x)
+    (λ (w : IsUnfinished c.args.program.now c.args.config.now).
+    no_frames c.args.program.now.modules (reverse c.args.config.now.frames.items) w.c.activations w.older w.newest
+    c.in-None.ensures.none w.is_thread.frames_are w.going)
 
 pub returns : goal.returns
 returns c = λ words ms names k s program thread steps.
@@ -38,7 +42,8 @@ returns c = λ words ms names k s program thread steps.
     let stands = stands_here e h s (step_at e words k n.0 n.1 s n.2 steps) in
     let some = c.in-Some.ensures.some in
     let f = c.in-Some.frame.now in
-    let frame = newest_frame ts (reverse c.args.config.now.frames.items) some.0 f k.activations n.1 n.0 some.1 thread.frames_are n.2 in
+    let frame = newest_frame ts (reverse c.args.config.now.frames.items) some.0 f k.activations n.1 n.0 some.1
+    thread.frames_are n.2 in
     let found = c.in-Some-function.ensures.found ms names program in
     let rows = c.rows_of-rows.ensures ∙ ap (λ (ts' : List Typed). rows_at ts' f.unit f.place) c.modules.ensures in
     let shows : IsContinuation c.rows_of-rows.result.now (reverse c.as_slice.result.now) cont =

@@ -18,23 +18,30 @@ pub unreachable-requires : goal.unreachable-requires
 unreachable-requires c =
     let p = c.args.program.now in
     let at = c.in-Some.at in
-    let entry : slice_get p.entries c.args.thread ≡ Some at = ap (λ (es : List (ℕ × ℕ)). slice_get es c.args.thread) (sym c.entries.ensures) ∙ sym c.in-Some.ensures in
-    let none : typed_at p.modules at.0 at.1 ≡ None = ap (λ (ts : List Typed). typed_at ts at.0 at.1) (sym c.modules.ensures) ∙ c.in-None-function_at.ensures.none in
-    ∥∥₁_elim p.program (λ x y. absurd x) (λ (w : (ms : List TypedModuleTree) × (names : List (List ℕ)) × IsProgramOf p ms names).
+    let entry : slice_get p.entries c.args.thread ≡ Some at =
+    ap (λ (es : List (ℕ × ℕ)). slice_get es c.args.thread) (sym c.entries.ensures) ∙ sym c.in-Some.ensures in
+    let none : typed_at p.modules at.0 at.1 ≡ None = ap (λ (ts : List Typed). typed_at ts at.0 at.1)
+    (sym c.modules.ensures) ∙ c.in-None-function_at.ensures.none in
+    ∥∥₁_elim p.program (λ x y. absurd x)
+    (λ (w : (ms : List TypedModuleTree) × (names : List (List ℕ)) × IsProgramOf p ms names).
     entry_found p w.0 w.1 w.2 c.args.thread at entry c.entries_are_entered.ensures.none_held none)
 
 pub unreachable-requires-in-None : goal.unreachable-requires-in-None
 unreachable-requires-in-None c =
     let p = c.args.program.now in
-    entry_is_there p.entries c.args.thread c.requires (ap (λ (es : List (ℕ × ℕ)). slice_get es c.args.thread) (sym c.entries.ensures) ∙ sym c.in-None.ensures)
+    entry_is_there p.entries c.args.thread c.requires (ap (λ (es : List (ℕ × ℕ)). slice_get es c.args.thread)
+    (sym c.entries.ensures) ∙ sym c.in-None.ensures)
 
 pub returns : goal.returns
 returns c =
     let p = c.args.program.now in
     let at = c.in-Some.at in
-    let entry : slice_get p.entries c.args.thread ≡ Some at = ap (λ (es : List (ℕ × ℕ)). slice_get es c.args.thread) (sym c.entries.ensures) ∙ sym c.in-Some.ensures in
-    let there = ap (λ (ts : List Typed). typed_at ts at.0 at.1) (sym c.modules.ensures) ∙ c.in-Some-function_at.ensures.some in
+    let entry : slice_get p.entries c.args.thread ≡ Some at =
+    ap (λ (es : List (ℕ × ℕ)). slice_get es c.args.thread) (sym c.entries.ensures) ∙ sym c.in-Some.ensures in
+    let there = ap (λ (ts : List Typed). typed_at ts at.0 at.1) (sym c.modules.ensures)
+    ∙ c.in-Some-function_at.ensures.some in
     ok_map c.started_at.result (λ config begins. λ ms names f program is.
     let found = entry_is p ms names program c.args.thread at entry in
     let same : stands_at at ≡ f = cc (found, is) in
-    subst (λ (g : FunctionAt). IsThread p config (start (env_of ms) g (word c.args.thread ∷ []))) same (begins p.modules ms program.typed there)) c.started_at.ensures
+    subst (λ (g : FunctionAt). IsThread p config (start (env_of ms) g (word c.args.thread ∷ []))) same
+    (begins p.modules ms program.typed there)) c.started_at.ensures

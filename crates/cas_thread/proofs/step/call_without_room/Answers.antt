@@ -16,7 +16,8 @@ returns-in-Ok-clause-quiet c = λ ms names h program thread is words begins s st
 pub returns-in-Err-Bad-clause-taken : goal.returns-in-Err-Bad-clause-taken
 returns-in-Err-Bad-clause-taken c = λ ms names h program thread is words begins s steps.
     let fails = c.in-Err-Bad.ensures ms names h program thread is words begins in
-    bad_steps (env_of ms) h s c.args.program.now.modules c.args.config.now c.args.words.now c.in-Err-Bad.why thread words (fails ∙ ap Err c.in-Err-Bad.field-0-is) steps
+    bad_steps (env_of ms) h s c.args.program.now.modules c.args.config.now c.args.words.now c.in-Err-Bad.why thread
+    words (fails ∙ ap Err c.in-Err-Bad.field-0-is) steps
 
 pub returns-in-Err-Stuck-clause-taken : goal.returns-in-Err-Stuck-clause-taken
 returns-in-Err-Stuck-clause-taken c = λ ms names h program thread is words begins s steps.

@@ -8,15 +8,19 @@ use Rattle.cas_turn.proofs.standing.wait_of.Goals as goal
 pub returns-in-Some-holder_of-clause-waits : goal.returns-in-Some-holder_of-clause-waits
 returns-in-Some-holder_of-clause-waits c = λ words ms names d s program thread is.
     let told = c.next_lock.ensures words ms names d s program thread is in
-    let held = c.holder_of.ensures in
-    (lock_taken s.act c.in-Some.lock (sym told ∙ c.in-Some.is), holder_is (slice_get c.args.holders.now c.in-Some.lock) c.in-Some-holder_of.holder (sym held ∙ c.in-Some-holder_of.is))
+    let held = c.holder_of.ensures in (
+      lock_taken s.act c.in-Some.lock (sym told ∙ c.in-Some.is),
+      holder_is (slice_get c.args.holders.now c.in-Some.lock)
+          c.in-Some-holder_of.holder (sym held ∙ c.in-Some-holder_of.is),
+    )
 
 pub returns-in-None-holder_of-clause-free : goal.returns-in-None-holder_of-clause-free
 returns-in-None-holder_of-clause-free c = λ words ms names d s program thread is l takes.
     let told = c.next_lock.ensures words ms names d s program thread is in
     let same = sym c.in-Some.is ∙ told ∙ ap lock_of takes in
     let lock : c.in-Some.lock ≡ l = cc same in
-    subst (λ n. holder_in (slice_get c.args.holders.now n) ≡ None) lock (sym c.holder_of.ensures ∙ c.in-None-holder_of.is)
+    subst (λ n. holder_in (slice_get c.args.holders.now n) ≡ None) lock
+    (sym c.holder_of.ensures ∙ c.in-None-holder_of.is)
 
 pub returns-in-None-clause-free : goal.returns-in-None-clause-free
 returns-in-None-clause-free c = λ words ms names d s program thread is l takes.

@@ -4,7 +4,8 @@ use Rattle.cas_turn.proofs.turn.has_room.Goals as goal
 
 pub returns-clause-room : goal.returns-clause-room
 returns-clause-room c = true_not c.puts_out.result c.puts_out.ensures.other
-    (λ other ms names d s program thread is n out. absurd (other n (c.act_of.ensures ms names d s program thread is ∙ out)))
+    (λ other ms names d s program thread is n out. absurd
+    (other n (c.act_of.ensures ms names d s program thread is ∙ out)))
 
 pub returns-clause-full : goal.returns-clause-full
 returns-clause-full c = false_not c.puts_out.result c.puts_out.ensures.out

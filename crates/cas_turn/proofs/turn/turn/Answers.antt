@@ -28,4 +28,5 @@ run-requires-clause-stands c =
     stands p k c.args.shared.now.words.items c.args.holders.now c.requires.there c.requires.may goes_on
 
 pub run-requires-clause-goes_on : goal.run-requires-clause-goes_on
-run-requires-clause-goes_on c = told_to_go_on c.args.program.now c.args.config.now c.has_ended.result c.has_ended.ensures c.if-has_ended.false
+run-requires-clause-goes_on c = told_to_go_on c.args.program.now c.args.config.now c.has_ended.result
+    c.has_ended.ensures c.if-has_ended.false

@@ -24,25 +24,75 @@ decreases-block l = 4 * goal.size-block l + 2
 
 abbrev pub decreases-while_loop : goal.decreases-while_loop
 decreases-while_loop l =
-    4 * goal.size-part (record { the-lifetimes = ([], ([], ([], tt {0}))); scopes = l.scopes; made = l.made; within = l.within; stmt = l.body }) + 2
+    4 * goal.size-part
+    (record {
+      the-lifetimes = ([], ([], ([], tt {0})));
+      scopes = l.scopes;
+      made = l.made;
+      within = l.within;
+      stmt =
+          l.body;
+    }) + 2
 
 abbrev pub decreases-do_loop : goal.decreases-do_loop
 decreases-do_loop l = 4 * goal.size-do_loop l + 2
 
 abbrev pub decreases-branches : goal.decreases-branches
 decreases-branches l =
-    4 * max (goal.size-part (record { the-lifetimes = ([], ([], ([], tt {0}))); scopes = l.scopes; made = l.made; within = l.within; stmt = l.first }))
-    (goal.size-optional_part (record { the-lifetimes = ([], ([], ([], tt {0}))); scopes = l.scopes; made = l.made; within = l.within; stmt = l.second })) + 3
+    4 * max (goal.size-part
+    (record {
+      the-lifetimes = ([], ([], ([], tt {0})));
+      scopes = l.scopes;
+      made = l.made;
+      within = l.within;
+      stmt =
+          l.first;
+    }))
+    (goal.size-optional_part
+    (record {
+      the-lifetimes = ([], ([], ([], tt {0})));
+      scopes = l.scopes;
+      made = l.made;
+      within = l.within;
+      stmt =
+          l.second;
+    })) + 3
 
 abbrev pub decreases-for_loop : goal.decreases-for_loop
 decreases-for_loop l =
-    4 * max (goal.size-part (record { the-lifetimes = ([], ([], ([], tt {0}))); scopes = l.scopes; made = l.made; within = l.within; stmt = l.body }))
-    (max (goal.size-first_part (record { the-lifetimes = ([], ([], ([], tt {0}))); scopes = l.scopes; made = l.made; within = l.within; stmt = l.first }))
-    (goal.size-optional_part (record { the-lifetimes = ([], ([], ([], tt {0}))); scopes = l.scopes; made = l.made; within = l.within; stmt = l.next }))) + 3
+    4 * max (goal.size-part
+    (record {
+      the-lifetimes = ([], ([], ([], tt {0})));
+      scopes = l.scopes;
+      made = l.made;
+      within = l.within;
+      stmt =
+          l.body;
+    }))
+    (max (goal.size-first_part
+    (record {
+      the-lifetimes = ([], ([], ([], tt {0})));
+      scopes = l.scopes;
+      made = l.made;
+      within = l.within;
+      stmt =
+          l.first;
+    }))
+    (goal.size-optional_part
+    (record {
+      the-lifetimes = ([], ([], ([], tt {0})));
+      scopes = l.scopes;
+      made = l.made;
+      within = l.within;
+      stmt =
+          l.next;
+    }))) + 3
 
 -- the statements so far are walked through, and the locals of the rest are to come
 abbrev pub invariant-list-loop-stmt : goal.invariant-list-loop-stmt
 invariant-list-loop-stmt l = record {
-  walking : Walking l.within.ret l.within.in_loop l.fn.scopes (stmt_trees l.stmts) l.fn.made.rows.items l.scopes (stmt_trees (drop l.stmt-index l.stmts)) l.made.rows.items l.numbers.items;
-  locals : l.made.locals.items ++ locals_of_list (stmt_trees (drop l.stmt-index l.stmts)) ≡ l.fn.made.locals.items ++ locals_of_list (stmt_trees l.stmts);
+  walking : Walking l.within.ret l.within.in_loop l.fn.scopes (stmt_trees l.stmts) l.fn.made.rows.items l.scopes
+      (stmt_trees (drop l.stmt-index l.stmts)) l.made.rows.items l.numbers.items;
+  locals : l.made.locals.items ++ locals_of_list (stmt_trees (drop l.stmt-index l.stmts))
+      ≡ l.fn.made.locals.items ++ locals_of_list (stmt_trees l.stmts);
 }

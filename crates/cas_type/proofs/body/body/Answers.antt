@@ -6,4 +6,5 @@ use Rattle.cas_type.proofs.body.body.Goals as goal
 
 pub returns-clause-decls : goal.returns-clause-decls
 returns-clause-decls c =
-    ap (λ (scope : Scope). scope.decls) c.in_ok-body.ensures.scope ∙ (leaves-after_list c.args.scopes.now (stmt_trees c.args.stmts.now)).decls
+    ap (λ (scope : Scope). scope.decls) c.in_ok-body.ensures.scope
+    ∙ (leaves-after_list c.args.scopes.now (stmt_trees c.args.stmts.now)).decls

@@ -6,7 +6,8 @@ use Rattle.cas_type.proofs.counts.count_exprs.Given as goal
 
 abbrev pub invariant-each : goal.invariant-each
 invariant-each l = record {
-  counted : capped (l.count + nodes_of_exprs (map expr_tree l.rest)) ≡ capped (l.before + nodes_of_exprs (map expr_tree l.exprs));
+  counted : capped (l.count + nodes_of_exprs (map expr_tree l.rest)) ≡ capped
+      (l.before + nodes_of_exprs (map expr_tree l.exprs));
   within : l.count < 2 ^ 64;
 }
 

@@ -13,7 +13,8 @@ returns c bs rows size =
     let r : TypedFunTree = record { item = c.args.item; locals = locals_in bs 0 0 (local_types f); body = bs } in
     let there = c.as_slice-2.ensures in
     let tys : c.deref-2.result.now ≡ local_types f =
-    c.deref-2.ensures.value ∙ c.in_ok-tys.ensures ∙ (λ i. c.parameter_types.ensures i ++ (c.as_slice.ensures ∙ c.requires) i) in
+    c.deref-2.ensures.value ∙ c.in_ok-tys.ensures
+    ∙ (λ i. c.parameter_types.ensures i ++ (c.as_slice.ensures ∙ c.requires) i) in
     let locals = c.in_ok-locals.ensures bs c.args.walked.body
     (subst (λ rs. AreRows rs 0 bs c.args.walked.body) (sym there) rows)
     (ap length there ∙ size) ∙ ap (locals_in bs 0 0) tys in (

@@ -6,4 +6,5 @@ use Rattle.cas_type.proofs.marks.marks.Goals as goal
 pub returns : goal.returns
 returns c =
     let over : c.each.rest.now ≡ [] = grind (arith, common_steps) in
-    ap (λ ms. marked_all ms c.each.marks.items) (sym over) ∙ c.each.invariant ∙ marks_are c.args.numbers.now c.args.count
+    ap (λ ms. marked_all ms c.each.marks.items) (sym over) ∙ c.each.invariant
+    ∙ marks_are c.args.numbers.now c.args.count

@@ -10,26 +10,33 @@ returns-in-Some-clause-same c =
     let found = c.in-Some.ensures.lookup in
     let f = c.in-Some.function.now in
     same_if c.body_at.result c.args.typed.now c.args.place f
-    (ap (λ fs. slice_get fs c.args.place) (sym c.functions.ensures) ∙ slice_get_read c.functions.result.now (length c.functions.result.now) c.args.place f refl found.3.0 found.1)
-    (c.body_at.ensures ∙ ap (λ items. body_of f (slice_get items f.item)) (c.as_slice.ensures ∙ ap (λ m. m.items) c.module.ensures))
+    (ap (λ fs. slice_get fs c.args.place) (sym c.functions.ensures)
+    ∙ slice_get_read c.functions.result.now (length c.functions.result.now) c.args.place f refl found.3.0 found.1)
+    (c.body_at.ensures ∙ ap (λ items. body_of f (slice_get items f.item))
+    (c.as_slice.ensures ∙ ap (λ m. m.items) c.module.ensures))
 
 pub returns-in-Some-clause-found : goal.returns-in-Some-clause-found
 returns-in-Some-clause-found c =
     let found = c.in-Some.ensures.lookup in
     let f = c.in-Some.function.now in
     found_if c.body_at.result c.args.typed.now c.args.place f
-    (ap (λ fs. slice_get fs c.args.place) (sym c.functions.ensures) ∙ slice_get_read c.functions.result.now (length c.functions.result.now) c.args.place f refl found.3.0 found.1)
-    (c.body_at.ensures ∙ ap (λ items. body_of f (slice_get items f.item)) (c.as_slice.ensures ∙ ap (λ m. m.items) c.module.ensures))
+    (ap (λ fs. slice_get fs c.args.place) (sym c.functions.ensures)
+    ∙ slice_get_read c.functions.result.now (length c.functions.result.now) c.args.place f refl found.3.0 found.1)
+    (c.body_at.ensures ∙ ap (λ items. body_of f (slice_get items f.item))
+    (c.as_slice.ensures ∙ ap (λ m. m.items) c.module.ensures))
 
 pub returns-in-Some-clause-there : goal.returns-in-Some-clause-there
 returns-in-Some-clause-there c =
     let found = c.in-Some.ensures.lookup in
     let f = c.in-Some.function.now in
     there_if c.body_at.result c.args.typed.now c.args.place f
-    (ap (λ fs. slice_get fs c.args.place) (sym c.functions.ensures) ∙ slice_get_read c.functions.result.now (length c.functions.result.now) c.args.place f refl found.3.0 found.1)
-    (c.body_at.ensures ∙ ap (λ items. body_of f (slice_get items f.item)) (c.as_slice.ensures ∙ ap (λ m. m.items) c.module.ensures))
+    (ap (λ fs. slice_get fs c.args.place) (sym c.functions.ensures)
+    ∙ slice_get_read c.functions.result.now (length c.functions.result.now) c.args.place f refl found.3.0 found.1)
+    (c.body_at.ensures ∙ ap (λ items. body_of f (slice_get items f.item))
+    (c.as_slice.ensures ∙ ap (λ m. m.items) c.module.ensures))
 
 pub returns-in-None-clause-there : goal.returns-in-None-clause-there
 returns-in-None-clause-there c =
     let found = c.in-None.ensures.lookup in λ r it typed at.
-    none_past c.args.typed.now c.args.place r it (ap (λ fs. slice_get fs c.args.place) (sym c.functions.ensures) ∙ slice_get_past c.functions.result.now c.args.place found.3) typed at
+    none_past c.args.typed.now c.args.place r it (ap (λ fs. slice_get fs c.args.place) (sym c.functions.ensures)
+    ∙ slice_get_past c.functions.result.now c.args.place found.3) typed at

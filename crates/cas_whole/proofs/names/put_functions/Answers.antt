@@ -7,6 +7,8 @@ use Rattle.cas_whole.proofs.names.put_functions.Goals as goal
 
 pub returns : goal.returns
 returns c =
-    functions_done c.args.unit c.items.place c.args.table.now.entries c.items.table.entries (decls_of_items c.args.items.now)
-    (subst (λ (xs : List Item). HasFunctions c.args.unit c.args.table.now.entries c.items.table.entries c.items.place (decls_of_items xs) (decls_of_items c.args.items.now))
+    functions_done c.args.unit c.items.place c.args.table.now.entries c.items.table.entries
+    (decls_of_items c.args.items.now)
+    (subst (λ (xs : List Item). HasFunctions c.args.unit c.args.table.now.entries c.items.table.entries c.items.place
+    (decls_of_items xs) (decls_of_items c.args.items.now))
     (nil_from_length c.items.rest.now c.in_default.ensures.cases) c.items.invariant.has)

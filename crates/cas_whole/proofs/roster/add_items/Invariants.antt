@@ -6,7 +6,8 @@ use Rattle.cas_whole.proofs.roster.add_items.Given as goal
 abbrev pub invariant-items : goal.invariant-items
 invariant-items l = record {
   some : 0 < length l.units;
-  added : (front : List (List Decl)) (unit : List Decl) → l.initial.units ≡ front ++ unit ∷ [] → (made : List Decl) × (l.units ≡ front ++ (unit ++ made) ∷ []) × (made ++ decls_of_items l.rest ≡ decls_of_items l.items);
+  added : (front : List (List Decl)) (unit : List Decl) → l.initial.units ≡ front ++ unit ∷ [] → (made : List Decl)
+      × (l.units ≡ front ++ (unit ++ made) ∷ []) × (made ++ decls_of_items l.rest ≡ decls_of_items l.items);
 }
 
 abbrev pub decreases-items : goal.decreases-items

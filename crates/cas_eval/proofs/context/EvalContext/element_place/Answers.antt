@@ -6,7 +6,8 @@ use Rattle.cas_eval.proofs.Numbers.{passed}
 use Rattle.cas_eval.proofs.context.EvalContext.element_place.Goals as goal
 
 pub returns-in_err-word_in : goal.returns-in_err-word_in
-returns-in_err-word_in c = stopped _ _ (eval_state c.args.self.now) _ _ c.from_residual.ensures.1 (c.in_err-word_in.ensures (eval_state c.args.self.now))
+returns-in_err-word_in c = stopped _ _ (eval_state c.args.self.now) _ _ c.from_residual.ensures.1
+    (c.in_err-word_in.ensures (eval_state c.args.self.now))
 
 pub returns-in-None : goal.returns-in-None
 returns-in-None c =

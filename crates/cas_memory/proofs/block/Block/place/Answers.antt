@@ -6,5 +6,6 @@ use Rattle.cas_memory.proofs.block.Block.place.Goals as goal
 pub overflow_add-result : goal.overflow_add-result
 overflow_add-result c =
     let b = c.args.self.now in
-    let within = span_within 0 (length b.cells.items) b.spans.items c.args.local c.in-Some.span b.whole (sym c.span.ensures ∙ c.in-Some.is) in
+    let within = span_within 0 (length b.cells.items) b.spans.items c.args.local c.in-Some.span b.whole
+    (sym c.span.ensures ∙ c.in-Some.is) in
     omega (arith, within, b.cells.ok, b.cells.small)

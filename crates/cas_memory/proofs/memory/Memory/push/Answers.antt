@@ -6,4 +6,5 @@ use Rattle.cas_memory.proofs.memory.Memory.push.Goals as goal
 pub invariant_of-self-2 : goal.invariant_of-self-2
 invariant_of-self-2 c =
     ascend_push c.self.inside.blocks.items c.push.new.self.items c.in_ok-block.block c.args.serial c.self.invariant
-    (subst (AreBefore c.args.serial) (sym c.self.view_is) c.requires) c.in_ok-push.ensures.items c.in_ok-block.ensures.serial
+    (subst (AreBefore c.args.serial) (sym c.self.view_is) c.requires)
+    c.in_ok-push.ensures.items c.in_ok-block.ensures.serial

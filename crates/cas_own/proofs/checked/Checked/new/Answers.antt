@@ -6,5 +6,8 @@ use Rattle.cas_own.proofs.checked.Checked.new.Goals as goal
 
 pub invariant_of-result : goal.invariant_of-result
 invariant_of-result c = record {
-  checked = ∥∥₁_map c.args.typed.typed (λ (w : (r : TypedModuleTree) × AreTypedAs (module_tree c.args.typed.filled) c.args.typed.functions r). (w.0, w.1, c.requires w.0 w.1));
+  checked =
+      ∥∥₁_map c.args.typed.typed
+      (λ (w : (r : TypedModuleTree) × AreTypedAs (module_tree c.args.typed.filled) c.args.typed.functions r).
+      (w.0, w.1, c.requires w.0 w.1));
 }

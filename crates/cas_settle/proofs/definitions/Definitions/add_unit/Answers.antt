@@ -12,7 +12,8 @@ use Rattle.cas_settle.proofs.definitions.Definitions.add_unit.Goals as goal
 
 pub add_decl-requires : goal.add_decl-requires
 add_decl-requires c =
-    let rest = drop-item c.args.decls.now c.loop-decl.decl-index c.decl-item.result c.loop-decl-test.true c.decl-item.is in
+    let rest = drop-item c.args.decls.now c.loop-decl.decl-index c.decl-item.result c.loop-decl-test.true c.decl-item.is
+    in
     omega (
       arith,
       c.loop-decl.invariant.counted,
@@ -45,15 +46,19 @@ loop-decl-preserved c =
     let found = c.loop-decl.self in
     let new = c.add_decl.new.self in
     let rest = drop-item c.args.decls.now c.loop-decl.decl-index decl c.loop-decl-test.true c.decl-item.is in
-    let none = option_map-none Twice (first_repeated (names_in found) (names_of (definitions (decl ∷ [])))) c.in_ok-place.ensures.refused in
+    let none = option_map-none Twice (first_repeated (names_in found) (names_of (definitions (decl ∷ []))))
+    c.in_ok-place.ensures.refused in
     record {
       found =
-          located_in-step found new c.args.unit c.loop-decl.place c.in_ok-place.place decl later c.in_ok-place.ensures.added c.in_ok-place.ensures.next
+          located_in-step found new c.args.unit c.loop-decl.place c.in_ok-place.place decl later
+          c.in_ok-place.ensures.added c.in_ok-place.ensures.next
           ∙ ap (λ ds. found ++ located_in c.args.unit c.loop-decl.place (words_of (decls_in found)) ds) (sym rest)
           ∙ c.loop-decl.invariant.found;
       repeated =
-          repeated-step found new c.args.unit c.loop-decl.place (decl ∷ []) (names_of (definitions later)) c.in_ok-place.ensures.added none
-          ∙ ap (first_repeated (names_in found)) (sym (ap (λ ds. names_of (definitions ds)) rest ∙ names_of-cons decl later))
+          repeated-step found new c.args.unit c.loop-decl.place (decl ∷ []) (names_of (definitions later))
+          c.in_ok-place.ensures.added none
+          ∙ ap (first_repeated (names_in found))
+          (sym (ap (λ ds. names_of (definitions ds)) rest ∙ names_of-cons decl later))
           ∙ c.loop-decl.invariant.repeated;
       counted = omega (
         arith,
@@ -68,10 +73,12 @@ pub returns-clause-added : goal.returns-clause-added
 returns-clause-added c =
     let over = drop_all c.loop-decl.decl-index c.args.decls.now c.loop-decl-test.false in
     sym (append-nil c.loop-decl.self)
-    ∙ ap (λ ds. c.loop-decl.self ++ located_in c.args.unit c.loop-decl.place (words_of (decls_in c.loop-decl.self)) ds) (sym over)
+    ∙ ap (λ ds. c.loop-decl.self ++ located_in c.args.unit c.loop-decl.place (words_of (decls_in c.loop-decl.self)) ds)
+    (sym over)
     ∙ c.loop-decl.invariant.found
 
 pub returns-clause-refused : goal.returns-clause-refused
 returns-clause-refused c =
     let over = drop_all c.loop-decl.decl-index c.args.decls.now c.loop-decl-test.false in
-    ap (option_map Twice) (sym c.loop-decl.invariant.repeated ∙ ap (λ ds. first_repeated (names_in c.loop-decl.self) (names_of (definitions ds))) over)
+    ap (option_map Twice) (sym c.loop-decl.invariant.repeated
+    ∙ ap (λ ds. first_repeated (names_in c.loop-decl.self) (names_of (definitions ds))) over)

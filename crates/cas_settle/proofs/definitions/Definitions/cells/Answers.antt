@@ -12,14 +12,17 @@ use Rattle.cas_settle.proofs.definitions.Definitions.cells.Goals as goal
 
 pub loop-definition-init : goal.loop-definition-init
 loop-definition-init c =
-    let row : Located → Option CellRow = λ item. cell_of (lock_word_in c.args.self.now) item.word item.decl.name item.decl.form in
+    let row : Located → Option CellRow = λ item. cell_of (lock_word_in c.args.self.now)
+    item.word item.decl.name item.decl.form in
     ap (λ cells. cells ++ filter_map row (map located c.into_iter-definition-iterator.result)) c.new-cells.ensures.items
-    ∙ ap (λ definitions. filter_map row (map located definitions)) (c.into_iter-definition-iterator.ensures.into_iter_gives ∙ c.values-definition-items.ensures.rest)
+    ∙ ap (λ definitions. filter_map row (map located definitions))
+    (c.into_iter-definition-iterator.ensures.into_iter_gives ∙ c.values-definition-items.ensures.rest)
     ∙ ap (filter_map row) (map-located c.self.inside.table.entries ∙ c.self.view_is)
 
 pub loop-definition-preserved : goal.loop-definition-preserved
 loop-definition-preserved c =
-    let row : Located → Option CellRow = λ item. cell_of (lock_word_in c.args.self.now) item.word item.decl.name item.decl.form in
+    let row : Located → Option CellRow = λ item. cell_of (lock_word_in c.args.self.now)
+    item.word item.decl.name item.decl.form in
     let more = filter_map row (map located c.next.new.self) in
     ap (λ cells. cells ++ more) c.in_ok-add_cell.ensures
     ∙ append-cons_option c.loop-definition.cells.items (row (located c.in-Some.definition.now)) more
@@ -28,7 +31,8 @@ loop-definition-preserved c =
 
 pub returns : goal.returns
 returns c =
-    let row : Located → Option CellRow = λ item. cell_of (lock_word_in c.args.self.now) item.word item.decl.name item.decl.form in
+    let row : Located → Option CellRow = λ item. cell_of (lock_word_in c.args.self.now)
+    item.word item.decl.name item.decl.form in
     c.of.ensures
     ∙ sym (append-nil c.loop-definition.cells.items)
     ∙ ap (λ rest. c.loop-definition.cells.items ++ filter_map row (map located rest)) (sym c.in-None.ensures.steps.0)

@@ -6,5 +6,6 @@ use Rattle.cas_settle.proofs.definitions.Definitions.cells.Given as goal
 
 abbrev pub invariant-loop-definition : goal.invariant-loop-definition
 invariant-loop-definition l =
-    l.cells.items ++ filter_map (λ item. cell_of (lock_word_in l.self) item.word item.decl.name item.decl.form) (map located l.definition-iterator)
+    l.cells.items ++ filter_map (λ item. cell_of (lock_word_in l.self) item.word item.decl.name item.decl.form)
+    (map located l.definition-iterator)
     ≡ cells_in l.self

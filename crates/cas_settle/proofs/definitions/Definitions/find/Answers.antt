@@ -10,7 +10,8 @@ use Rattle.cas_settle.proofs.definitions.Definitions.find.Goals as goal
 
 pub returns : goal.returns
 returns c =
-    let location : option_map (λ (found : Bor Definition). located found.now) c.get.result ≡ location_of c.args.self.now c.args.name.now =
+    let location : option_map (λ (found : Bor Definition). located found.now) c.get.result ≡ location_of c.args.self.now
+    c.args.name.now =
     option_map-copied located c.get.result
     ∙ ap (option_map located) c.get.ensures.value
     ∙ location_of-lookup c.args.name.now c.self.inside.table.entries c.self.invariant.keyed
@@ -18,7 +19,8 @@ returns c =
     record {
       location = location;
       decl =
-          sym (option_map-option_map (λ (found : Bor Definition). located found.now) (λ (item : Located). item.decl) c.get.result)
+          sym (option_map-option_map (λ (found : Bor Definition). located found.now) (λ (item : Located). item.decl)
+          c.get.result)
           ∙ ap (option_map (λ (item : Located). item.decl)) location
           ∙ definition_of-location c.args.name.now c.args.self.now;
     }

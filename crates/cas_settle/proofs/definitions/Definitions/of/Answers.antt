@@ -15,7 +15,8 @@ loop-unit-init c =
     let units = c.units-decls-items.result.now in
     record {
       found = ap (λ found. found ++ located_from 0 (words_of (decls_in found)) units) c.new-found.ensures;
-      repeated = ap (λ found. first_repeated (names_in found) (names_of (definitions (all_decls units)))) c.new-found.ensures;
+      repeated = ap (λ found. first_repeated (names_in found) (names_of (definitions (all_decls units))))
+          c.new-found.ensures;
     }
 
 pub returns-in_err-add_unit-clause-refused : goal.returns-in_err-add_unit-clause-refused
@@ -27,12 +28,14 @@ returns-in_err-add_unit-clause-refused c =
     passed_on c.from_residual.result c.in_err-add_unit.field-0.0
     (option_map Twice (first_repeated [] (names_of (definitions (all_decls c.args.units.now)))))
     c.from_residual.ensures.1
-    (λ other. ap (λ units. option_map Twice (first_repeated [] (names_of (definitions (all_decls units))))) (sym c.units-decls-items.ensures)
+    (λ other. ap (λ units. option_map Twice (first_repeated [] (names_of (definitions (all_decls units)))))
+    (sym c.units-decls-items.ensures)
     ∙ ap (option_map Twice) (sym c.loop-unit.invariant.repeated)
     ∙ twice-here (names_in c.loop-unit.found) (names_of (definitions decls)) (names_of (definitions (all_decls later)))
     (names_of (definitions (all_decls (drop c.loop-unit.unit units)))) c.in_err-add_unit.field-0.0
     (ap (λ us. names_of (definitions (all_decls us))) rest ∙ names_of-units decls later)
-    (ap (λ ds. option_map Twice (first_repeated (names_in c.loop-unit.found) (names_of (definitions ds)))) (sym c.as_slice.ensures)
+    (ap (λ ds. option_map Twice (first_repeated (names_in c.loop-unit.found) (names_of (definitions ds))))
+    (sym c.as_slice.ensures)
     ∙ c.in_err-add_unit.ensures.refused other))
 
 pub loop-unit-preserved : goal.loop-unit-preserved
@@ -45,9 +48,11 @@ loop-unit-preserved c =
     let later = drop (unit + 1) units in
     let rest = drop-item units unit decls c.loop-unit-test.true c.decls-item.is in
     let added : new ≡ found ++ located_in unit 0 (words_of (decls_in found)) decls =
-    c.in_ok-add_unit.ensures.added ∙ ap (λ ds. found ++ located_in unit 0 (words_of (decls_in found)) ds) c.as_slice.ensures in
+    c.in_ok-add_unit.ensures.added ∙ ap (λ ds. found ++ located_in unit 0 (words_of (decls_in found)) ds)
+    c.as_slice.ensures in
     let none = ap (λ ds. first_repeated (names_in found) (names_of (definitions ds))) (sym c.as_slice.ensures)
-    ∙ option_map-none Twice (first_repeated (names_in found) (names_of (definitions c.as_slice.result.now))) c.in_ok-add_unit.ensures.refused in
+    ∙ option_map-none Twice (first_repeated (names_in found) (names_of (definitions c.as_slice.result.now)))
+    c.in_ok-add_unit.ensures.refused in
     record {
       found =
           located_from-step found new unit (unit + 1) decls later added refl
@@ -55,7 +60,8 @@ loop-unit-preserved c =
           ∙ c.loop-unit.invariant.found;
       repeated =
           repeated-step found new unit 0 decls (names_of (definitions (all_decls later))) added none
-          ∙ ap (first_repeated (names_in found)) (sym (ap (λ us. names_of (definitions (all_decls us))) rest ∙ names_of-units decls later))
+          ∙ ap (first_repeated (names_in found))
+          (sym (ap (λ us. names_of (definitions (all_decls us))) rest ∙ names_of-units decls later))
           ∙ c.loop-unit.invariant.repeated;
     }
 
@@ -63,12 +69,15 @@ pub returns-clause-found : goal.returns-clause-found
 returns-clause-found c =
     let over = drop_all c.loop-unit.unit c.units-decls-items.result.now c.loop-unit-test.false in
     sym (append-nil c.loop-unit.found)
-    ∙ ap (λ us. c.loop-unit.found ++ located_from c.loop-unit.unit (words_of (decls_in c.loop-unit.found)) us) (sym over)
+    ∙ ap (λ us. c.loop-unit.found ++ located_from c.loop-unit.unit (words_of (decls_in c.loop-unit.found)) us)
+    (sym over)
     ∙ c.loop-unit.invariant.found
     ∙ ap (located_from 0 0) c.units-decls-items.ensures
 
 pub returns-clause-refused : goal.returns-clause-refused
 returns-clause-refused c =
     let over = drop_all c.loop-unit.unit c.units-decls-items.result.now c.loop-unit-test.false in
-    ap (λ units. option_map Twice (first_repeated [] (names_of (definitions (all_decls units))))) (sym c.units-decls-items.ensures)
-    ∙ ap (option_map Twice) (sym c.loop-unit.invariant.repeated ∙ ap (λ us. first_repeated (names_in c.loop-unit.found) (names_of (definitions (all_decls us)))) over)
+    ap (λ units. option_map Twice (first_repeated [] (names_of (definitions (all_decls units)))))
+    (sym c.units-decls-items.ensures)
+    ∙ ap (option_map Twice) (sym c.loop-unit.invariant.repeated
+    ∙ ap (λ us. first_repeated (names_in c.loop-unit.found) (names_of (definitions (all_decls us)))) over)

@@ -6,7 +6,8 @@ use Rattle.cas_settle.proofs.definitions.Definitions.of.Given as goal
 
 abbrev pub invariant-loop-unit : goal.invariant-loop-unit
 invariant-loop-unit l = record {
-  found : l.found ++ located_from l.unit (words_of (decls_in l.found)) (drop l.unit l.decls-items) ≡ located_from 0 0 l.decls-items;
+  found : l.found ++ located_from l.unit (words_of (decls_in l.found)) (drop l.unit l.decls-items)
+      ≡ located_from 0 0 l.decls-items;
   repeated : first_repeated (names_in l.found) (names_of (definitions (all_decls (drop l.unit l.decls-items))))
       ≡ first_repeated [] (names_of (definitions (all_decls l.decls-items)));
 }

@@ -25,7 +25,8 @@ returns-after-first-clause-defined c =
     ] in
     either
     ∙ ap (λ found. is_defined found || d.defined) (sym c.in-Some.is)
-    ∙ first_defined c.get.result ds d (c.get.ensures.defined ∙ ap (λ name. list_any (is_named name) (definitions ds)) c.as_str.ensures.text)
+    ∙ first_defined c.get.result ds d (c.get.ensures.defined
+    ∙ ap (λ name. list_any (is_named name) (definitions ds)) c.as_str.ensures.text)
 
 pub returns-in-None-clause-meaning : goal.returns-in-None-clause-meaning
 returns-in-None-clause-meaning c =
@@ -40,4 +41,5 @@ returns-in-None-clause-defined c =
     let ds = c.args.self.now in
     let d = c.args.decl.now in
     ap (λ found. is_defined found || d.defined) (sym c.in-None.is)
-    ∙ first_defined c.get.result ds d (c.get.ensures.defined ∙ ap (λ name. list_any (is_named name) (definitions ds)) c.as_str.ensures.text)
+    ∙ first_defined c.get.result ds d (c.get.ensures.defined
+    ∙ ap (λ name. list_any (is_named name) (definitions ds)) c.as_str.ensures.text)

@@ -9,7 +9,8 @@ use Rattle.cas_thread.proofs.config.Config.take.Goals as goal
 pub returns-in-Writes : goal.returns-in-Writes
 returns-in-Writes c = λ e h rs s stands is.
     let left = λ (truth : Bool). after truth h.newest.cont in
-    c.write.ensures e h rs s stands (doing_this e h rs s left c.args.effect (Writes c.in-Writes.item c.in-Writes.place c.in-Writes.word) c.in-Writes.is is)
+    c.write.ensures e h rs s stands (doing_this e h rs s left c.args.effect
+    (Writes c.in-Writes.item c.in-Writes.place c.in-Writes.word) c.in-Writes.is is)
 
 pub returns-in-Returns : goal.returns-in-Returns
 returns-in-Returns c = λ e h rs s stands is.
@@ -21,9 +22,11 @@ returns-in-Returns c = λ e h rs s stands is.
 pub returns-in-Locks : goal.returns-in-Locks
 returns-in-Locks c = λ e h rs s stands is.
     let left = λ (truth : Bool). after truth h.newest.cont in
-    c.locks.ensures.takes e h rs s c.args.words.now refl stands (doing_this e h rs s left c.args.effect (Locks c.in-Locks.item) c.in-Locks.is is)
+    c.locks.ensures.takes e h rs s c.args.words.now refl stands
+    (doing_this e h rs s left c.args.effect (Locks c.in-Locks.item) c.in-Locks.is is)
 
 pub returns-in-Unlocks : goal.returns-in-Unlocks
 returns-in-Unlocks c = λ e h rs s stands is.
     let left = λ (truth : Bool). after truth h.newest.cont in
-    c.locks-in-Unlocks.ensures.gives e h rs s c.args.words.now refl stands (doing_this e h rs s left c.args.effect (Unlocks c.in-Unlocks.item) c.in-Unlocks.is is)
+    c.locks-in-Unlocks.ensures.gives e h rs s c.args.words.now refl stands
+    (doing_this e h rs s left c.args.effect (Unlocks c.in-Unlocks.item) c.in-Unlocks.is is)

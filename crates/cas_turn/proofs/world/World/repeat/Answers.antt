@@ -12,7 +12,8 @@ returns-in_err-takes_turn-clause-cut c =
     rw p.1 (λ ms names w is.
     let v = turns (env_of ms) w (replicate c.loop-turn._turn c.args.thread) in
     let here = c.loop-turn.invariant.1 ms names w is in
-    turns_cut (env_of ms) w c.args.thread c.loop-turn._turn c.args.count (IsWorldOf c.takes_turn.new.self ms names) (omega (arith, c.loop-turn-test.true))
+    turns_cut (env_of ms) w c.args.thread c.loop-turn._turn c.args.count (IsWorldOf c.takes_turn.new.self ms names)
+    (omega (arith, c.loop-turn-test.true))
     (c.in_err-takes_turn.ensures.cut ms names v here) (c.in_err-takes_turn.ensures.wants ms names v here))
 
 pub returns-then-not-branch-clause-turns : goal.returns-then-not-branch-clause-turns
@@ -22,7 +23,8 @@ returns-then-not-branch-clause-turns c = λ ms names w is.
     let here = c.loop-turn.invariant.1 ms names w is in
     let behind = c.in_ok-takes_turn.ensures.turn ms names v here in
     let still = (rw c.if-not-branch.true at c.in_ok-takes_turn.ensures.still) ms names v here in
-    let all = turns_still e w c.args.thread c.loop-turn._turn c.args.count (omega (arith, c.loop-turn-test.true)) still in
+    let all = turns_still e w c.args.thread c.loop-turn._turn c.args.count (omega (arith, c.loop-turn-test.true))
+    still in
     subst (IsWorldOf c.takes_turn.new.self ms names) all (subst (IsWorldOf c.takes_turn.new.self ms names) still behind)
 
 pub loop-turn-preserved : goal.loop-turn-preserved
@@ -31,10 +33,12 @@ loop-turn-preserved c = (
   λ ms names w is.
       let e = env_of ms in
       let v = turns e w (replicate c.loop-turn._turn c.args.thread) in
-      subst (IsWorldOf c.takes_turn.new.self ms names) (turn_more e w c.args.thread c.loop-turn._turn) (c.in_ok-takes_turn.ensures.turn ms names v (c.loop-turn.invariant.1 ms names w is)),
+      subst (IsWorldOf c.takes_turn.new.self ms names) (turn_more e w c.args.thread c.loop-turn._turn)
+      (c.in_ok-takes_turn.ensures.turn ms names v (c.loop-turn.invariant.1 ms names w is)),
 )
 
 pub returns-clause-turns : goal.returns-clause-turns
 returns-clause-turns c = λ ms names w is.
     let end : c.loop-turn._turn ≡ c.args.count = omega (arith, c.loop-turn-test.false, c.loop-turn.auto._turn-end) in
-    subst (IsWorldOf c.loop-turn.self ms names) (ap (λ n. turns (env_of ms) w (replicate n c.args.thread)) end) (c.loop-turn.invariant.1 ms names w is)
+    subst (IsWorldOf c.loop-turn.self ms names) (ap (λ n. turns (env_of ms) w (replicate n c.args.thread)) end)
+    (c.loop-turn.invariant.1 ms names w is)

@@ -9,4 +9,5 @@ use Rattle.cas_turn.proofs.world.World.repeat.Given as goal
 -- the world behind as many turns as there were
 abbrev pub invariant-loop-turn : goal.invariant-loop-turn
 invariant-loop-turn l = (l.self.program ≡ l.fn.self.program)
-    × ((ms : List TypedModuleTree) (names : List (List ℕ)) (w : World) → IsWorldOf l.fn.self ms names w → IsWorldOf l.self ms names (turns (env_of ms) w (replicate l._turn l.fn.thread)))
+    × ((ms : List TypedModuleTree) (names : List (List ℕ)) (w : World) → IsWorldOf l.fn.self ms names w →
+    IsWorldOf l.self ms names (turns (env_of ms) w (replicate l._turn l.fn.thread)))

@@ -15,7 +15,14 @@ returns-in_err-moved-clause-cut c =
     let world = c.args.self.now in
     let here = c.loop-thread.invariant.1 ms names w is in
     let within : c.loop-thread.thread < length w.threads =
-    omega (arith, c.loop-thread-test.true, c.threads-count.ensures, world.threads.ok.0, threads_length world.program world.threads.items w.threads is.threads_are) in
+    omega (
+      arith,
+      c.loop-thread-test.true,
+      c.threads-count.ensures,
+      world.threads.ok.0,
+      threads_length world.program
+          world.threads.items w.threads is.threads_are,
+    ) in
     threads_cut (env_of ms) w c.loop-thread.thread (length w.threads) (IsWorldOf c.takes_turn.new.self ms names) within
     (c.in_err-moved.ensures.cut ms names v here) (c.in_err-moved.ensures.wants ms names v here))
 
@@ -25,12 +32,14 @@ loop-thread-preserved c = (
   λ ms names w is.
       let e = env_of ms in
       let v = turns e w (threads_from 0 c.loop-thread.thread) in
-      subst (IsWorldOf c.takes_turn.new.self ms names) (thread_more e w c.loop-thread.thread) (c.in_ok-moved.ensures.turn ms names v (c.loop-thread.invariant.1 ms names w is)),
+      subst (IsWorldOf c.takes_turn.new.self ms names) (thread_more e w c.loop-thread.thread)
+      (c.in_ok-moved.ensures.turn ms names v (c.loop-thread.invariant.1 ms names w is)),
   λ none ms names w is.
       let e = env_of ms in
       let v = turns e w (threads_from 0 c.loop-thread.thread) in
       let (before, here) = neither c.loop-thread.moved c.in_ok-moved.field-0 none in
-      let still : turn e v c.loop-thread.thread ≡ v = (rw here at c.in_ok-moved.ensures.still) ms names v (c.loop-thread.invariant.1 ms names w is) in
+      let still : turn e v c.loop-thread.thread ≡ v = (rw here at c.in_ok-moved.ensures.still) ms names v
+      (c.loop-thread.invariant.1 ms names w is) in
       sym (thread_more e w c.loop-thread.thread) ∙ still ∙ c.loop-thread.invariant.2 before ms names w is,
 )
 
@@ -38,12 +47,27 @@ pub returns-clause-round : goal.returns-clause-round
 returns-clause-round c = λ ms names w is.
     let world = c.args.self.now in
     let end : c.loop-thread.thread ≡ length w.threads =
-    omega (arith, c.loop-thread-test.false, c.loop-thread.auto.thread-end, c.threads-count.ensures, world.threads.ok.0, threads_length world.program world.threads.items w.threads is.threads_are) in
-    subst (IsWorldOf c.loop-thread.self ms names) (ap (λ n. turns (env_of ms) w (threads_from 0 n)) end) (c.loop-thread.invariant.1 ms names w is)
+    omega (
+      arith,
+      c.loop-thread-test.false,
+      c.loop-thread.auto.thread-end,
+      c.threads-count.ensures,
+      world.threads.ok.0,
+      threads_length world.program world.threads.items w.threads is.threads_are,
+    ) in
+    subst (IsWorldOf c.loop-thread.self ms names) (ap (λ n. turns (env_of ms) w (threads_from 0 n)) end)
+    (c.loop-thread.invariant.1 ms names w is)
 
 pub returns-clause-still : goal.returns-clause-still
 returns-clause-still c = on_false c.loop-thread.moved (λ none ms names w is.
     let world = c.args.self.now in
     let end : c.loop-thread.thread ≡ length w.threads =
-    omega (arith, c.loop-thread-test.false, c.loop-thread.auto.thread-end, c.threads-count.ensures, world.threads.ok.0, threads_length world.program world.threads.items w.threads is.threads_are) in
+    omega (
+      arith,
+      c.loop-thread-test.false,
+      c.loop-thread.auto.thread-end,
+      c.threads-count.ensures,
+      world.threads.ok.0,
+      threads_length world.program world.threads.items w.threads is.threads_are,
+    ) in
     ap (λ n. turns (env_of ms) w (threads_from 0 n)) (sym end) ∙ c.loop-thread.invariant.2 none ms names w is)

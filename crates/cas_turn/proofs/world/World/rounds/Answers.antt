@@ -11,7 +11,8 @@ returns-in_err-round-clause-cut c =
     let p = err_from_is_err_and c.from_residual.result c.from_residual.ensures.1 in
     rw p.1 (λ ms names w is.
     let v = rounds (env_of ms) w c.loop-round._round in
-    rounds_cut (env_of ms) w c.loop-round._round c.args.count (IsWorldOf c.round.new.self ms names) (omega (arith, c.loop-round-test.true))
+    rounds_cut (env_of ms) w c.loop-round._round c.args.count (IsWorldOf c.round.new.self ms names)
+    (omega (arith, c.loop-round-test.true))
     (c.in_err-round.ensures.cut ms names v (c.loop-round.invariant.1 ms names w is)))
 
 pub returns-then-not-branch-clause-rounds : goal.returns-then-not-branch-clause-rounds
@@ -30,10 +31,13 @@ loop-round-preserved c = (
   λ ms names w is.
       let e = env_of ms in
       let v = rounds e w c.loop-round._round in
-      subst (IsWorldOf c.round.new.self ms names) (round_more e w c.loop-round._round) (c.in_ok-round.ensures.round ms names v (c.loop-round.invariant.1 ms names w is)),
+      subst (IsWorldOf c.round.new.self ms names) (round_more e w c.loop-round._round)
+      (c.in_ok-round.ensures.round ms names v (c.loop-round.invariant.1 ms names w is)),
 )
 
 pub returns-clause-rounds : goal.returns-clause-rounds
 returns-clause-rounds c = λ ms names w is.
-    let end : c.loop-round._round ≡ c.args.count = omega (arith, c.loop-round-test.false, c.loop-round.auto._round-end) in
-    subst (IsWorldOf c.loop-round.self ms names) (ap (λ n. rounds (env_of ms) w n) end) (c.loop-round.invariant.1 ms names w is)
+    let end : c.loop-round._round ≡ c.args.count = omega (arith, c.loop-round-test.false, c.loop-round.auto._round-end)
+    in
+    subst (IsWorldOf c.loop-round.self ms names) (ap (λ n. rounds (env_of ms) w n) end)
+    (c.loop-round.invariant.1 ms names w is)

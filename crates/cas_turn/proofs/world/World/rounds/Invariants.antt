@@ -9,4 +9,5 @@ use Rattle.cas_turn.proofs.world.World.rounds.Given as goal
 -- the world behind as many rounds as there were
 abbrev pub invariant-loop-round : goal.invariant-loop-round
 invariant-loop-round l = (l.self.program ≡ l.fn.self.program)
-    × ((ms : List TypedModuleTree) (names : List (List ℕ)) (w : World) → IsWorldOf l.fn.self ms names w → IsWorldOf l.self ms names (rounds (env_of ms) w l._round))
+    × ((ms : List TypedModuleTree) (names : List (List ℕ)) (w : World) → IsWorldOf l.fn.self ms names w →
+    IsWorldOf l.self ms names (rounds (env_of ms) w l._round))

@@ -13,7 +13,8 @@ returns-in_err-repeat-clause-cut c =
     let (done, all, here) = c.items.invariant.1 ms names w is in
     let item = c.in-Some.item.now in
     let parts = ap (λ rest. done ++ unrolled rest) (sym c.in-Some.ensures.cases.0) ∙ all in
-    schedule_cut (env_of ms) w done (replicate item.count item.thread) (unrolled c.in-Some.others.now) (unrolled c.args.items.now) (IsWorldOf c.repeat.new.self ms names) parts
+    schedule_cut (env_of ms) w done (replicate item.count item.thread) (unrolled c.in-Some.others.now)
+    (unrolled c.args.items.now) (IsWorldOf c.repeat.new.self ms names) parts
     (c.in_err-repeat.ensures.cut ms names _ here))
 
 pub items-preserved : goal.items-preserved
@@ -26,6 +27,7 @@ items-preserved c = (
       let parts = ap (λ rest. done ++ unrolled rest) (sym c.in-Some.ensures.cases.0) ∙ all in (
         done ++ turn,
         append_assoc done turn (unrolled c.in-Some.others.now) ∙ parts,
-        subst (IsWorldOf c.repeat.new.self ms names) (sym (turns-append (env_of ms) w done turn)) (c.in_ok-repeat.ensures.turns ms names _ here),
+        subst (IsWorldOf c.repeat.new.self ms names) (sym (turns-append (env_of ms) w done turn))
+            (c.in_ok-repeat.ensures.turns ms names _ here),
       ),
 )

@@ -11,7 +11,8 @@ use Rattle.cas_turn.proofs.world.World.schedule.Given as goal
 abbrev pub invariant-items : goal.invariant-items
 invariant-items l = (l.self.program ≡ l.fn.self.program)
     × ((ms : List TypedModuleTree) (names : List (List ℕ)) (w : World) → IsWorldOf l.fn.self ms names w →
-    (done : List ℕ) × (done ++ unrolled l.rest ≡ unrolled l.fn.items) × IsWorldOf l.self ms names (turns (env_of ms) w done))
+    (done : List ℕ) × (done ++ unrolled l.rest ≡ unrolled l.fn.items)
+    × IsWorldOf l.self ms names (turns (env_of ms) w done))
 
 abbrev pub decreases-items : goal.decreases-items
 decreases-items l = length l.rest

@@ -13,6 +13,7 @@ returns c =
     ∙ any_newest c.args.name.now keys
     ∙ ap (list_any (bytes_eq c.args.name.now)) c.self.view_is
     ∙ c.requires in
-    ap newest_first (c.in_ok-insert.ensures.keys ∙ kept_new (list_any (λ k. bytes_eq key.now k.now) keys) keys key fresh)
+    ap newest_first (c.in_ok-insert.ensures.keys ∙ kept_new (list_any (λ k. bytes_eq key.now k.now) keys)
+    keys key fresh)
     ∙ newest-push keys key
     ∙ (λ i. c.as_str.ensures.text i ∷ c.self.view_is i)

@@ -13,10 +13,13 @@ invariant_of-self-in-Ok c =
     let counted : c.len-index.result ≡ length stack = grind (arith, common_steps) in
     record {
       hiding = hiding_with stack c.push.new.self.items _ c.in_ok-push.ensures.items
-          (c.copied-hidden.ensures ∙ c.get.ensures.value ∙ c.self.invariant.newest c.as_str.result.now ∙ ap (newest_of vs) c.as_str.ensures.text)
+          (c.copied-hidden.ensures ∙ c.get.ensures.value ∙ c.self.invariant.newest c.as_str.result.now
+          ∙ ap (newest_of vs) c.as_str.ensures.text)
           c.self.invariant.hiding;
-      newest = newest_with stack c.push.new.self.items _ c.in_ok-push.ensures.items c.as_str-2.result.now c.len-index.result held.newest.entries c.insert.new.self.entries
+      newest = newest_with stack c.push.new.self.items _ c.in_ok-push.ensures.items c.as_str-2.result.now
+          c.len-index.result held.newest.entries c.insert.new.self.entries
           c.as_str-2.ensures.text counted
-          (hash_map_updates_str c.as_str-2.result.now held.newest c.insert.new.self (Some c.len-index.result) c.in-Ok.ensures.updates)
+          (hash_map_updates_str c.as_str-2.result.now held.newest c.insert.new.self (Some c.len-index.result)
+          c.in-Ok.ensures.updates)
           c.self.invariant.newest;
     }

@@ -9,5 +9,6 @@ loop-left-init c =
     record {
       of_params = omega (arith, c.min-left.ensures);
       of_tys = omega (arith, c.min-left.ensures);
-      pushed = ap (λ vs. vs ++ c.args.self.now) (sym (no_parameter c.min-left.result params tys c.min-left.ensures (leb (length params) (length tys)) refl));
+      pushed = ap (λ vs. vs ++ c.args.self.now)
+          (sym (no_parameter c.min-left.result params tys c.min-left.ensures (leb (length params) (length tys)) refl));
     }

@@ -9,6 +9,7 @@ loop-self-preserved c =
     let some : c.args.len < length old = omega (arith, c.loop-self-test.true, c.len.ensures) in
     let one : length c.pop.new.self ≡ length old - 1 = ap length c.pop.ensures ∙ length-drop 1 old in
     record {
-      oldest = oldest_next c.args.self.now old c.pop.new.self c.loop-self.invariant.oldest (omega (arith, some)) c.pop.ensures;
+      oldest = oldest_next c.args.self.now old c.pop.new.self c.loop-self.invariant.oldest (omega (arith, some))
+          c.pop.ensures;
       enough = omega (arith, some, one);
     }

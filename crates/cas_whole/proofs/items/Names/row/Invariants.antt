@@ -7,7 +7,8 @@ use Rattle.cas_whole.proofs.items.Names.row.Given as goal
 
 abbrev pub invariant-items : goal.invariant-items
 invariant-items l =
-    map (option_map entity_of) l.row.items ++ map (meant_by l.self.functions.entries l.self.cells.entries) (decls_of_items l.rest)
+    map (option_map entity_of) l.row.items ++ map (meant_by l.self.functions.entries l.self.cells.entries)
+    (decls_of_items l.rest)
     ≡ map (meant_by l.self.functions.entries l.self.cells.entries) (decls_of_items l.items)
 
 abbrev pub decreases-items : goal.decreases-items
