@@ -7,7 +7,7 @@ use Rattle.cas_runs.specs.Edge.{most_cells}
 use Rattle.cas_runs.specs.Outside.{Fills, AreWordsOf, Changes, ChangesTo}
 use Rattle.cas_runs.specs.Rules.{Leaves, LeavesContents, LeavesAll, IsOwn, OwnContents, ShowsWords, AllShowWords, AreSized}
 use Rattle.cas_runs.specs.Receiving.{IsSame, IsAgain, Lasts, IsEmitted, IsReceivedAs}
-use Rattle.cas_runs.specs.Known.{set, AreNumbers, Known, OwnerFits, WasSeen, AllSeen, OnlySeen, UpToDate, IsObject, IsKnown, at_unit, renumber, Exchanged}
+use Rattle.cas_runs.specs.Known.{set, AreNumbers, Known, OwnerFits, WasSeen, AllSeen, OnlySeen, UpToDate, IsObject, IsKnown, at_unit, renumber, Exchanged, nothing_known}
 use Rattle.cas_runs.proofs.Families.{set_all, set_one}
 
 pub not_none : {X : Type 0} {x : X} {o : Option X} → o ≡ Some x → o ≡ None → ⊥
@@ -496,3 +496,14 @@ pub numbered_once : (k : Known) → AreNumbers k → (unit other n m place : ℕ
     renumber k unit other m ≡ Some place → n ≡ m
 numbered_once k are unit other n m place e f = by_ids k are unit other n m place (k.id unit n)
     (k.id unit m) refl refl e f
+
+pub first_known : (unit : ℕ) → IsKnown nothing_known unit (λ i. [])
+first_known unit = record {
+  numbers = record { there = λ i n g e. absurd (cc e); back = λ i n g e. absurd (cc e) };
+  all_seen = λ i n o e. absurd (cc e);
+  only_seen = λ i n g e. absurd (cc e);
+  up_to_date = λ n g o e. absurd (cc e);
+  objects = λ i n g e. absurd (cc e);
+  owners = λ i n g e. absurd (cc e);
+  below = λ i n g e. absurd (cc e);
+}

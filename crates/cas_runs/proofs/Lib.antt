@@ -10,6 +10,7 @@ pub mod Determined
 pub mod Entered
 pub mod Existing
 pub mod Families
+pub mod Fitting
 pub mod Footing
 pub mod Found
 pub mod Fronting
@@ -24,7 +25,6 @@ pub mod Natural
 pub mod Objects
 pub mod Opening
 pub mod Outgoing
-pub mod Performing
 pub mod Placing
 pub mod Pointing
 pub mod Reached

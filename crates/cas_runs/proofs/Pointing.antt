@@ -17,17 +17,31 @@ entered = Enter main_name (record { values = []; share = []; objects = [] })
 
 -- the end of the variable is shown
 abbrev shown : Names
-shown = record { values = Place 0 1 ∷ []; objects = record { owner = Inside; kind = I32; size = 1; contents = Some (Some 0 ∷ []) } ∷ [] }
+shown = record {
+  values = Place 0 1 ∷ [];
+  objects = record
+      { owner = Inside; kind = I32; size = 1; contents = Some (Some 0 ∷ []) } ∷ [];
+}
 
 -- where the unit stands then, at its call
 abbrev after : (place : ℕ) → Thread ℕ Pointing
 after place = receives pointing setting (of_unit (place ∷ [])) [] no_past no_holding entered
 
 may_enter : MayBring edge [] entered
-may_enter = record { signature = _; known = refl; inside = refl; values = tt; holds = tt; brings = record { share = tt; objects = tt; room = omega arith; numbers = refl } }
+may_enter =
+    record {
+      signature = _;
+      known = refl;
+      inside = refl;
+      values = tt;
+      holds = tt;
+      brings =
+          record { share = tt; objects = tt; room = omega arith; numbers = refl };
+    }
 
 comes : (place : ℕ) → ComesTo edge (shows place) (entered ∷ []) (after place)
-comes place = comes_by edge (shows place) [] entered (shows place).start (after place) (comes_first edge (shows place)) (may_enter, refl)
+comes place = comes_by edge (shows place) [] entered (shows place).start (after place) (comes_first edge (shows place))
+    (may_enter, refl)
 
 -- the names of a Call or a Leave
 abbrev pub next_of : Act (Thread ℕ Pointing) → Names → Option (Thread ℕ Pointing)
@@ -44,8 +58,10 @@ crossing_loud (Crosses f share next) (Quiet z) h c q = h
 crossing_loud a (Quiet z) h c q = absurd c
 crossing_loud a b h c q = absurd q
 
-answered_next : (a b : Act (Thread ℕ Pointing)) → Answered a b → IsCrossing a → (n : Names) (y : Thread ℕ Pointing) → next_of b n ≡ Some y → next_of a n ≡ None → ⊥
-answered_next (Crosses f share next) (Crosses g other s_next) h c n y e none = let each = h.2.each n y e in let is = each.1 in cc (is, none)
+answered_next : (a b : Act (Thread ℕ Pointing)) → Answered a b → IsCrossing a → (n : Names) (y : Thread ℕ Pointing) →
+    next_of b n ≡ Some y → next_of a n ≡ None → ⊥
+answered_next (Crosses f share next) (Crosses g other s_next) h c n y e none = let each = h.2.each n y e in let is =
+    each.1 in cc (is, none)
 answered_next (Crosses f share next) b h c n y e none = absurd h
 answered_next a b h c n y e none = absurd c
 
@@ -53,8 +69,10 @@ answered_next a b h c n y e none = absurd c
 names_too : Comes edge (shows 1) (entered ∷ []) (λ y. Answered ((shows 0).act (after 0)) ((shows 1).act y.at)) → ⊥
 names_too n =
     let at : ComesTo edge (shows 1) (entered ∷ []) (after 1) = comes 1 in
-    let same : n.to.at ≡ after 1 = one_state edge (shows 1) n.run at.run (crossing_loud ((shows 0).act (after 0)) ((shows 1).act n.to.at) n.there tt) (λ q. q) in
-    answered_next ((shows 0).act (after 0)) ((shows 1).act (after 1)) (subst (λ v. Answered ((shows 0).act (after 0)) ((shows 1).act v)) same n.there) tt shown there.0 there.1 refl
+    let same : n.to.at ≡ after 1 = one_state edge (shows 1) n.run at.run
+    (crossing_loud ((shows 0).act (after 0)) ((shows 1).act n.to.at) n.there tt) (λ q. q) in
+    answered_next ((shows 0).act (after 0)) ((shows 1).act (after 1))
+    (subst (λ v. Answered ((shows 0).act (after 0)) ((shows 1).act v)) same n.there) tt shown there.0 there.1 refl
 
 pub wrong_place : Refines edge (shows 0) (shows 1) → ⊥
 wrong_place h =
@@ -62,7 +80,8 @@ wrong_place h =
     let s : ComesTo edge (shows 1) (entered ∷ []) (after 1) = comes 1 in
     ⊎_elim
     (λ b. ⊎_elim (not_bad edge (shows 1) (entered ∷ []) (after 1) s (λ q. q) (λ q. q))
-    (λ b. not_bad edge (shows 1) [] (shows 1).start (comes_first edge (shows 1)) (λ q. q) (λ q. q) (bad_first edge (shows 1) b))
+    (λ b. not_bad edge (shows 1) [] (shows 1).start (comes_first edge (shows 1)) (λ q. q) (λ q. q)
+    (bad_first edge (shows 1) b))
     (bad_last edge (shows 1) entered [] b))
     names_too
     (h.answers (entered ∷ []) (stands_at edge (shows 0) t) t.run (has_run_to edge (shows 1) (entered ∷ []) (after 1) s))

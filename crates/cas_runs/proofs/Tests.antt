@@ -25,9 +25,11 @@ eq_self n = grind (arith, nat_tests)
 
 pub same_name_self : (a : NameBytes) → same_name a a ≡ true
 same_name_self [] = refl
-same_name_self (a ∷ rest) = ap (λ (t : Bool). if t then same_name rest rest else false) (eq_self a) ∙ same_name_self rest
+same_name_self (a ∷ rest) = ap (λ (t : Bool). if t then same_name rest rest else false) (eq_self a)
+    ∙ same_name_self rest
 
-name_from : (a b : ℕ) (xs ys : NameBytes) (t : Bool) → nat_eq a b ≡ t → (same_name xs ys ≡ true → xs ≡ ys) → (if t then same_name xs ys else false) ≡ true → a ∷ xs ≡ b ∷ ys
+name_from : (a b : ℕ) (xs ys : NameBytes) (t : Bool) → nat_eq a b ≡ t → (same_name xs ys ≡ true → xs ≡ ys) →
+    (if t then same_name xs ys else false) ≡ true → a ∷ xs ≡ b ∷ ys
 name_from a b xs ys true e more h = let first : a ≡ b = eqb-true a b e in let rest = more h in cc (first, rest)
 name_from a b xs ys false e more h = absurd (cc h)
 
@@ -70,7 +72,9 @@ same_state_self None = refl
 same_state_self (Some cs) = same_contents_self cs
 
 same_object_self : (o : Object) → same_object o o ≡ true
-same_object_self o = both_true _ _ (both_true _ _ (both_true _ _ (same_owner_self o.owner) (eq_self (kind_number o.kind))) (eq_self o.size)) (same_state_self o.contents)
+same_object_self o =
+    both_true _ _ (both_true _ _ (both_true _ _ (same_owner_self o.owner) (eq_self (kind_number o.kind)))
+    (eq_self o.size)) (same_state_self o.contents)
 
 pub same_objects_self : (os : List Object) → same_objects os os ≡ true
 same_objects_self [] = refl
@@ -127,13 +131,20 @@ state_from (Some vs) (Some ws) e = ap (λ v. Some v) (contents_from vs ws e)
 
 object_from : (o p : Object) → same_object o p ≡ true → o ≡ p
 object_from o p e =
-    let one = and_both (same_owner o.owner p.owner && nat_eq (kind_number o.kind) (kind_number p.kind) && nat_eq o.size p.size) (same_state o.contents p.contents) e in
-    let two = and_both (same_owner o.owner p.owner && nat_eq (kind_number o.kind) (kind_number p.kind)) (nat_eq o.size p.size) one.0 in
+    let one =
+    and_both (same_owner o.owner p.owner && nat_eq (kind_number o.kind) (kind_number p.kind)
+    && nat_eq o.size p.size) (same_state o.contents p.contents) e in
+    let two = and_both (same_owner o.owner p.owner && nat_eq (kind_number o.kind) (kind_number p.kind))
+    (nat_eq o.size p.size) one.0 in
     let three = and_both (same_owner o.owner p.owner) (nat_eq (kind_number o.kind) (kind_number p.kind)) two.0 in
-    ap (λ (v : Owner). record { owner = v; kind = o.kind; size = o.size; contents = o.contents }) (owner_from o.owner p.owner three.0)
-    ∙ ap (λ (v : Kind). record { owner = p.owner; kind = v; size = o.size; contents = o.contents }) (kind_from o.kind p.kind three.1)
-    ∙ ap (λ (v : ℕ). record { owner = p.owner; kind = p.kind; size = v; contents = o.contents }) (eqb-true o.size p.size two.1)
-    ∙ ap (λ (v : Option (List (Option ℕ))). record { owner = p.owner; kind = p.kind; size = p.size; contents = v }) (state_from o.contents p.contents one.1)
+    ap (λ (v : Owner). record { owner = v; kind = o.kind; size = o.size; contents = o.contents })
+    (owner_from o.owner p.owner three.0)
+    ∙ ap (λ (v : Kind). record { owner = p.owner; kind = v; size = o.size; contents = o.contents })
+    (kind_from o.kind p.kind three.1)
+    ∙ ap (λ (v : ℕ). record { owner = p.owner; kind = p.kind; size = v; contents = o.contents })
+    (eqb-true o.size p.size two.1)
+    ∙ ap (λ (v : Option (List (Option ℕ))). record { owner = p.owner; kind = p.kind; size = p.size; contents = v })
+    (state_from o.contents p.contents one.1)
 
 pub objects_from : (os ps : List Object) → same_objects os ps ≡ true → os ≡ ps
 objects_from [] [] e = refl

@@ -32,28 +32,36 @@ module _ {F A : Type 0} (l : Activations F A) (setting : Setting) (scene : Scene
   Own Bad = Unit {0}
   Own (Stops why) = Unit {0}
 
-  outside_away : (stack : List (Frame F A)) (p : Past) (h : Holding) (o : Option Naming) (y : Thread F A) → to_outside stack p h o ≡ Some y → IsAway y
+  outside_away : (stack : List (Frame F A)) (p : Past) (h : Holding) (o : Option Naming) (y : Thread F A) →
+      to_outside stack p h o ≡ Some y → IsAway y
   outside_away stack p h None y e = absurd (cc e)
   outside_away stack p h (Some ns) y e = let there : Away stack (with_naming p ns) h ≡ y = cc e in subst IsAway there tt
 
-  crosses_own : (function : Option NameBytes) (values : List Value) (stack : List (Frame F A)) (p : Past) (h : Holding) (t : Bool) → Own (crosses_if t function h.share (λ names. to_outside stack p h (named_as setting.layout values p h names)))
-  crosses_own function values stack p h true = λ n y e. outside_away stack p h (named_as setting.layout values p h n) y e
+  crosses_own : (function : Option NameBytes) (values : List Value) (stack : List (Frame F A)) (p : Past) (h : Holding)
+      (t : Bool) →
+      Own (crosses_if t function h.share (λ names. to_outside stack p h (named_as setting.layout values p h names)))
+  crosses_own function values stack p h true = λ n y e. outside_away stack p h (named_as setting.layout values p h n)
+      y e
   crosses_own function values stack p h false = tt
 
-  back_own : (f : F) (n : ℕ) (o : Option A) (stack : List (Frame F A)) (p : Past) (h : Holding) → Own (goes_back f n o stack p h)
+  back_own : (f : F) (n : ℕ) (o : Option A) (stack : List (Frame F A)) (p : Past) (h : Holding) →
+      Own (goes_back f n o stack p h)
   back_own f n None stack p h = tt
   back_own f n (Some a) stack p h = λ away. away
 
-  returns_own : (values : List Value) (stack : List (Frame F A)) (p : Past) (h : Holding) → Own (returns setting.layout values stack p h)
+  returns_own : (values : List Value) (stack : List (Frame F A)) (p : Past) (h : Holding) →
+      Own (returns setting.layout values stack p h)
   returns_own values [] p h = λ away. away
   returns_own values (Outer results ∷ stack) p h = by (kept_results results values)
     where
       by : (o : Option (List Value)) → Own (leaves_with setting.layout o stack p h)
       by None = tt
       by (Some kept) = crosses_own None kept stack p h (can_cross setting.layout p kept)
-  returns_own values (Waits f n results next ∷ stack) p h = back_own f n (and_then (kept_results results values) next) stack p h
+  returns_own values (Waits f n results next ∷ stack) p h =
+      back_own f n (and_then (kept_results results values) next) stack p h
 
-  calls_own : (function : NameBytes) (values : List Value) (stack : List (Frame F A)) (p : Past) (h : Holding) (o : Option F) → Own (calls l setting scene o function values stack p h)
+  calls_own : (function : NameBytes) (values : List Value) (stack : List (Frame F A)) (p : Past) (h : Holding)
+      (o : Option F) → Own (calls l setting scene o function values stack p h)
   calls_own function values stack p h (Some f) = by (l.enter f p.begun values)
     where
       by : (o : Option A) → Own (calls_in l f o stack p h)
@@ -65,15 +73,18 @@ module _ {F A : Type 0} (l : Activations F A) (setting : Setting) (scene : Scene
       by true = crosses_own (Some function) values stack p h (can_cross setting.layout p values)
       by false = tt
 
-  takes_own : (o : Option ℕ) (a : A) (f : F) (n : ℕ) (stack : List (Frame F A)) (p : Past) (h : Holding) → Own (takes o a f n stack p h)
+  takes_own : (o : Option ℕ) (a : A) (f : F) (n : ℕ) (stack : List (Frame F A)) (p : Past) (h : Holding) →
+      Own (takes o h (Runs f n a 0 stack p))
   takes_own None a f n stack p h = tt
   takes_own (Some k) a f n stack p h = by (words_in h.share k)
     where
-      by : (o : Option (List ℕ)) → Own (takes_lock k o (λ ws. Runs f n a 0 stack p (with_share h (with_lock h.share k ws))))
+      by : (o : Option (List ℕ)) →
+          Own (takes_lock k o (λ ws. Runs f n a 0 stack p (with_share h (with_lock h.share k ws))))
       by None = λ ws away. away
       by (Some ws) = tt
 
-  gives_own : (o : Option ℕ) (a : A) (f : F) (n : ℕ) (stack : List (Frame F A)) (p : Past) (h : Holding) → Own (gives o a f n stack p h)
+  gives_own : (o : Option ℕ) (a : A) (f : F) (n : ℕ) (stack : List (Frame F A)) (p : Past) (h : Holding) →
+      Own (gives o h (Runs f n a 0 stack p))
   gives_own None a f n stack p h = tt
   gives_own (Some k) a f n stack p h = by (words_in h.share k)
     where
@@ -81,26 +92,32 @@ module _ {F A : Type 0} (l : Activations F A) (setting : Setting) (scene : Scene
       by None = tt
       by (Some ws) = λ away. away
 
-  acts_own : (o : Option (Last A)) (f : F) (n : ℕ) (stack : List (Frame F A)) (p : Past) (h : Holding) → Own (acts l setting scene o f n stack p h)
+  acts_own : (o : Option (Last A)) (f : F) (n : ℕ) (stack : List (Frame F A)) (p : Past) (h : Holding) →
+      Own (acts l setting scene o f n stack p h)
   acts_own None f n stack p h = tt
   acts_own (Some (Goes next)) f n stack p h = λ away. away
   acts_own (Some (Takes lock next)) f n stack p h = takes_own (guard_of setting.edge lock) next f n stack p h
   acts_own (Some (Gives lock next)) f n stack p h = gives_own (guard_of setting.edge lock) next f n stack p h
   acts_own (Some (Puts word next)) f n stack p h = λ away. away
-  acts_own (Some (Calls function values next)) f n stack p h = calls_own function values (Waits f n (results_of setting.edge function) next ∷ stack) p h (find l scene.within function)
-  acts_own (Some (Tails function values)) f n stack p h = calls_own function values stack p (without_own l f n h) (find l scene.within function)
+  acts_own (Some (Calls function values next)) f n stack p h =
+      calls_own function values (Waits f n (results_of setting.edge function) next ∷ stack) p h
+      (find l scene.within function)
+  acts_own (Some (Tails function values)) f n stack p h =
+      calls_own function values stack p (without_own l f n h) (find l scene.within function)
   acts_own (Some (Returns values)) f n stack p h = returns_own values stack p (without_own l f n h)
 
   act_own : (x : Thread F A) → (IsAway x → ⊥) → Own (M.act x)
   act_own (Away stack p h) not = absurd (not tt)
-  act_own (Runs f n a e stack p h) not = acts_own (step_at l setting a h).last f n stack p (step_at l setting a h).holding
+  act_own (Runs f n a e stack p h) not = acts_own (step_at l setting a h).last f n stack p
+      (step_at l setting a h).holding
   act_own (Leaves values stack p h) not = crosses_own None values stack p h (can_cross setting.layout p values)
   act_own Over not = tt
   act_own Wrong not = tt
 
   -- What the outside brings.
 
-  entered_stays : (o : Option F) (values : Option (List Value)) (stack : List (Frame F A)) (p : Past) (h : Holding) → IsAway (enters l o values stack p h) → ⊥
+  entered_stays : (o : Option F) (values : Option (List Value)) (stack : List (Frame F A)) (p : Past) (h : Holding) →
+      IsAway (enters l o values stack p h) → ⊥
   entered_stays None values stack p h away = away
   entered_stays (Some f) None stack p h away = away
   entered_stays (Some f) (Some values) stack p h away = by (l.enter f p.begun values) away
@@ -109,7 +126,8 @@ module _ {F A : Type 0} (l : Activations F A) (setting : Setting) (scene : Scene
       by None away = away
       by (Some a) away = away
 
-  back_stays : (values : Option (List Value)) (stack : List (Frame F A)) (p : Past) (h : Holding) → IsAway (comes_back values stack p h) → ⊥
+  back_stays : (values : Option (List Value)) (stack : List (Frame F A)) (p : Past) (h : Holding) →
+      IsAway (comes_back values stack p h) → ⊥
   back_stays None stack p h away = away
   back_stays (Some values) [] p h away = away
   back_stays (Some values) (Outer results ∷ stack) p h away = by (kept_results results values) away
@@ -117,15 +135,20 @@ module _ {F A : Type 0} (l : Activations F A) (setting : Setting) (scene : Scene
       by : (o : Option (List Value)) → IsAway (leaves_later o stack p h) → ⊥
       by None away = away
       by (Some kept) away = away
-  back_stays (Some values) (Waits f n results next ∷ stack) p h away = by (and_then (kept_results results values) next) away
+  back_stays (Some values) (Waits f n results next ∷ stack) p h away =
+      by (and_then (kept_results results values) next) away
     where
       by : (o : Option A) → IsAway (resumes f n o stack p h) → ⊥
       by None away = away
       by (Some a) away = away
 
-  heard_stays : (stack : List (Frame F A)) (p : Past) (h : Holding) (k : RunLabel) → IsAway (receives l setting scene stack p h k) → ⊥
-  heard_stays stack p h (Enter name crossing) away = entered_stays (find l scene.functions name) (all_taken (brought h.memory p.naming 0 crossing.objects).naming crossing.values) (Outer (results_of setting.edge name) ∷ stack) _ _ away
-  heard_stays stack p h (Back crossing) away = back_stays (all_taken (brought h.memory p.naming 0 crossing.objects).naming crossing.values) stack _ _ away
+  heard_stays : (stack : List (Frame F A)) (p : Past) (h : Holding) (k : RunLabel) →
+      IsAway (receives l setting scene stack p h k) → ⊥
+  heard_stays stack p h (Enter name crossing) away = entered_stays (find l scene.functions name)
+      (all_taken (brought h.memory p.naming 0 crossing.objects).naming crossing.values)
+      (Outer (results_of setting.edge name) ∷ stack) _ _ away
+  heard_stays stack p h (Back crossing) away = back_stays
+      (all_taken (brought h.memory p.naming 0 crossing.objects).naming crossing.values) stack _ _ away
   heard_stays stack p h (Lock lock ws) away = away
   heard_stays stack p h (Unlock lock ws) away = away
   heard_stays stack p h (Out word) away = away
@@ -145,7 +168,8 @@ module _ {F A : Type 0} (l : Activations F A) (setting : Setting) (scene : Scene
   event_stays (Prints w) ls c = c
   event_stays Ends ls c = c
 
-  crossing_goes : (function : Option NameBytes) (share : Share) (n : Names) (ls : List RunLabel) → HasCrossed (crossing_by function share n ∷ ls)
+  crossing_goes : (function : Option NameBytes) (share : Share) (n : Names) (ls : List RunLabel) →
+      HasCrossed (crossing_by function share n ∷ ls)
   crossing_goes None share n ls = tt
   crossing_goes (Some f) share n ls = tt
 
@@ -159,21 +183,40 @@ module _ {F A : Type 0} (l : Activations F A) (setting : Setting) (scene : Scene
   brought_stays ls (Out w) m c = c
   brought_stays ls Done m c = c
 
-  by_own : (ls : List RunLabel) (a : Act (Thread F A)) (k : RunLabel) (y : Thread F A) → Own a → StepsTo setting.edge ls a k y → Turn (k ∷ ls) y
+  by_own : (ls : List RunLabel) (a : Act (Thread F A)) (k : RunLabel) (y : Thread F A) → Own a →
+      StepsTo setting.edge ls a k y → Turn (k ∷ ls) y
   by_own ls (Quiet z) k y o e = absurd e
-  by_own ls (Emits event z) k y o e = record { may_receive = λ away. absurd (o (subst IsAway (sym e.1) away)); has_crossed = λ c. absurd (event_stays event ls (subst (λ v. HasCrossed (v ∷ ls)) (sym e.0) c)) }
+  by_own ls (Emits event z) k y o e =
+      record {
+        may_receive = λ away. absurd (o (subst IsAway (sym e.1) away));
+        has_crossed = λ c. absurd
+            (event_stays event ls (subst (λ v. HasCrossed (v ∷ ls)) (sym e.0) c));
+      }
   by_own ls (Crosses f share next) k y o e =
       let crossed : HasCrossed (k ∷ ls) = subst (λ v. HasCrossed (v ∷ ls)) e.1 (crossing_goes f share e.0 ls) in
       record { may_receive = λ away. crossed; has_crossed = λ c. o e.0 y e.2 }
-  by_own ls (Locks lock next) k y o e = record { may_receive = λ away. absurd (o e.0 (subst IsAway (sym e.3) away)); has_crossed = λ c. let no : ⊥ = subst (λ v. HasCrossed (v ∷ ls)) e.1 c in absurd no }
+  by_own ls (Locks lock next) k y o e =
+      record {
+        may_receive = λ away. absurd (o e.0 (subst IsAway (sym e.3) away));
+        has_crossed = λ c. let no : ⊥ = subst
+            (λ v. HasCrossed (v ∷ ls)) e.1 c in absurd no;
+      }
   by_own ls (Receives next) k y o e = absurd o
   by_own ls Bad k y o e = absurd e
   by_own ls (Stops why) k y o e = absurd e
 
-  by_label : (ls : List RunLabel) (x : Thread F A) (k : RunLabel) (y : Thread F A) → StepsTo setting.edge ls (M.act x) k y → Turn (k ∷ ls) y
-  by_label ls (Away stack p h) k y e = record { may_receive = λ away. absurd (heard_stays stack p h k (subst IsAway (sym e.1) away)); has_crossed = λ c. absurd (brought_stays ls k e.0 c) }
-  by_label ls (Runs f n a x stack p h) k y e = by_own ls (M.act (Runs f n a x stack p h)) k y (act_own (Runs f n a x stack p h) (λ away. away)) e
-  by_label ls (Leaves values stack p h) k y e = by_own ls (M.act (Leaves values stack p h)) k y (act_own (Leaves values stack p h) (λ away. away)) e
+  by_label : (ls : List RunLabel) (x : Thread F A) (k : RunLabel) (y : Thread F A) →
+      StepsTo setting.edge ls (M.act x) k y → Turn (k ∷ ls) y
+  by_label ls (Away stack p h) k y e =
+      record {
+        may_receive = λ away. absurd (heard_stays stack p h k (subst IsAway (sym e.1) away));
+        has_crossed =
+            λ c. absurd (brought_stays ls k e.0 c);
+      }
+  by_label ls (Runs f n a x stack p h) k y e = by_own ls (M.act (Runs f n a x stack p h)) k y
+      (act_own (Runs f n a x stack p h) (λ away. away)) e
+  by_label ls (Leaves values stack p h) k y e = by_own ls (M.act (Leaves values stack p h)) k y
+      (act_own (Leaves values stack p h) (λ away. away)) e
   by_label ls Over k y e = absurd e
   by_label ls Wrong k y e = absurd e
 
@@ -183,8 +226,13 @@ module _ {F A : Type 0} (l : Activations F A) (setting : Setting) (scene : Scene
   -- a quiet step is one of the unit's, and what it leads to is so too
   quiet_stays : (x y : Thread F A) → M.act x ≡ Quiet y → (IsAway x → ⊥) × (IsAway y → ⊥)
   quiet_stays (Away stack p h) y e = absurd (cc e)
-  quiet_stays (Runs f n a x stack p h) y e = ((λ away. away), own_quiet (M.act (Runs f n a x stack p h)) y (act_own (Runs f n a x stack p h) (λ away. away)) e)
-  quiet_stays (Leaves values stack p h) y e = ((λ away. away), own_quiet (M.act (Leaves values stack p h)) y (act_own (Leaves values stack p h) (λ away. away)) e)
+  quiet_stays (Runs f n a x stack p h) y e =
+      ((λ away. away), own_quiet (M.act (Runs f n a x stack p h)) y (act_own (Runs f n a x stack p h) (λ away. away)) e)
+  quiet_stays (Leaves values stack p h) y e = (
+    (λ away. away),
+    own_quiet (M.act (Leaves values stack p h)) y (act_own (Leaves values stack p h) (λ away. away))
+        e,
+  )
   quiet_stays Over y e = absurd (cc e)
   quiet_stays Wrong y e = absurd (cc e)
 
@@ -207,8 +255,10 @@ module _ {F A : Type 0} (l : Activations F A) (setting : Setting) (scene : Scene
 
   hearing_away : (x : Thread F A) → IsReceiving (M.act x) → IsAway x
   hearing_away (Away stack p h) e = tt
-  hearing_away (Runs f n a x stack p h) e = absurd (own_hears (M.act (Runs f n a x stack p h)) (act_own (Runs f n a x stack p h) (λ away. away)) e)
-  hearing_away (Leaves values stack p h) e = absurd (own_hears (M.act (Leaves values stack p h)) (act_own (Leaves values stack p h) (λ away. away)) e)
+  hearing_away (Runs f n a x stack p h) e =
+      absurd (own_hears (M.act (Runs f n a x stack p h)) (act_own (Runs f n a x stack p h) (λ away. away)) e)
+  hearing_away (Leaves values stack p h) e =
+      absurd (own_hears (M.act (Leaves values stack p h)) (act_own (Leaves values stack p h) (λ away. away)) e)
   hearing_away Over e = absurd e
   hearing_away Wrong e = absurd e
 
@@ -219,8 +269,10 @@ module _ {F A : Type 0} (l : Activations F A) (setting : Setting) (scene : Scene
   away_hearing Over away = absurd away
   away_hearing Wrong away = absurd away
 
-  pub hears_outside : (ls : List RunLabel) (bs : List Block) (b : Block) (x : Thread F A) → Run setting.edge M ls bs b x → IsReceiving (M.act x) → MayReceive ls
+  pub hears_outside : (ls : List RunLabel) (bs : List Block) (b : Block) (x : Thread F A) →
+      Run setting.edge M ls bs b x → IsReceiving (M.act x) → MayReceive ls
   hears_outside ls bs b x r e = let t = turn r in t.may_receive (hearing_away x e)
 
-  pub listens_after : (ls : List RunLabel) (bs : List Block) (b : Block) (x : Thread F A) → Run setting.edge M ls bs b x → HasCrossed ls → IsReceiving (M.act x)
+  pub listens_after : (ls : List RunLabel) (bs : List Block) (b : Block) (x : Thread F A) →
+      Run setting.edge M ls bs b x → HasCrossed ls → IsReceiving (M.act x)
   listens_after ls bs b x r c = let t = turn r in away_hearing x (t.has_crossed c)

@@ -26,32 +26,39 @@ module _ (same : Value → Value → Type 0) where
   self_get (x ∷ ws) h zero w e = let here : x ≡ w = cc e in subst (λ v. same (Number v) (Number v)) here h.0
   self_get (x ∷ ws) h (suc i) w e = self_get ws h.1 i w e
 
-  pub self_set : (ws : List ℕ) → AreSelfSame same ws → (i w : ℕ) → same (Number w) (Number w) → AreSelfSame same (slice_set ws i w)
+  pub self_set : (ws : List ℕ) → AreSelfSame same ws → (i w : ℕ) → same (Number w) (Number w) →
+      AreSelfSame same (slice_set ws i w)
   self_set [] h i w s = tt
   self_set (x ∷ ws) h zero w s = (s, h.1)
   self_set (x ∷ ws) h (suc i) w s = (h.0, self_set ws h.1 i w s)
 
-  pub self_found : (hs : Share) → ShareSelfSame same hs → (lock : ℕ) (ws : List ℕ) → words_in hs lock ≡ Some ws → AreSelfSame same ws
+  pub self_found : (hs : Share) → ShareSelfSame same hs → (lock : ℕ) (ws : List ℕ) → words_in hs lock ≡ Some ws →
+      AreSelfSame same ws
   self_found [] h lock ws e = absurd (cc e)
   self_found (k ∷ hs) h lock ws e = by (nat_eq k.lock lock) (λ g. self_found hs h.1 lock ws g) e
     where
-      by : (t : Bool) → (words_in hs lock ≡ Some ws → AreSelfSame same ws) → (if t then Some k.words else words_in hs lock) ≡ Some ws → AreSelfSame same ws
+      by : (t : Bool) → (words_in hs lock ≡ Some ws → AreSelfSame same ws) →
+          (if t then Some k.words else words_in hs lock) ≡ Some ws → AreSelfSame same ws
       by true more g = let here : k.words ≡ ws = cc g in subst (λ v. AreSelfSame same v) here h.0
       by false more g = more g
 
-  pub self_with : (hs : Share) → ShareSelfSame same hs → (lock : ℕ) (ws : List ℕ) → AreSelfSame same ws → ShareSelfSame same (with_words hs lock ws)
+  pub self_with : (hs : Share) → ShareSelfSame same hs → (lock : ℕ) (ws : List ℕ) → AreSelfSame same ws →
+      ShareSelfSame same (with_words hs lock ws)
   self_with [] h lock ws s = tt
   self_with (k ∷ hs) h lock ws s = by (nat_eq k.lock lock) (self_with hs h.1 lock ws s)
     where
-      by : (t : Bool) → ShareSelfSame same (with_words hs lock ws) → ShareSelfSame same (if t then record { lock = lock; words = ws } ∷ hs else k ∷ with_words hs lock ws)
+      by : (t : Bool) → ShareSelfSame same (with_words hs lock ws) →
+          ShareSelfSame same (if t then record { lock = lock; words = ws } ∷ hs else k ∷ with_words hs lock ws)
       by true rest = (s, h.1)
       by false rest = (h.0, rest)
 
-  pub self_with_lock : (hs : Share) → ShareSelfSame same hs → (lock : ℕ) (ws : List ℕ) → AreSelfSame same ws → ShareSelfSame same (with_lock hs lock ws)
+  pub self_with_lock : (hs : Share) → ShareSelfSame same hs → (lock : ℕ) (ws : List ℕ) → AreSelfSame same ws →
+      ShareSelfSame same (with_lock hs lock ws)
   self_with_lock [] h lock ws s = (s, tt)
   self_with_lock (k ∷ hs) h lock ws s = by (nat_lt lock k.lock) (self_with_lock hs h.1 lock ws s)
     where
-      by : (t : Bool) → ShareSelfSame same (with_lock hs lock ws) → ShareSelfSame same (if t then record { lock = lock; words = ws } ∷ k ∷ hs else k ∷ with_lock hs lock ws)
+      by : (t : Bool) → ShareSelfSame same (with_lock hs lock ws) →
+          ShareSelfSame same (if t then record { lock = lock; words = ws } ∷ k ∷ hs else k ∷ with_lock hs lock ws)
       by true rest = (s, h)
       by false rest = (h.0, rest)
 
@@ -59,7 +66,8 @@ module _ (same : Value → Value → Type 0) where
   self_without_lock [] h lock = tt
   self_without_lock (k ∷ hs) h lock = by (nat_eq k.lock lock) (self_without_lock hs h.1 lock)
     where
-      by : (t : Bool) → ShareSelfSame same (without_lock hs lock) → ShareSelfSame same (if t then hs else k ∷ without_lock hs lock)
+      by : (t : Bool) → ShareSelfSame same (without_lock hs lock) →
+          ShareSelfSame same (if t then hs else k ∷ without_lock hs lock)
       by true rest = h.1
       by false rest = (h.0, rest)
 
@@ -83,7 +91,9 @@ module _ (same : Value → Value → Type 0) where
     guarded_self edge lock ws g = kinds_self ws (guarded lock edge.cells) g.kinds
 
     -- the words of tables
-    pub table_self : (cells : List Cell) → Each IsInKind cells → (word value : ℕ) → slice_get cells word ≡ Some (TableWord value) → same (Number value) (Number value)
+    pub table_self : (cells : List Cell) → Each IsInKind cells → (word value : ℕ) →
+        slice_get cells word ≡ Some (TableWord value) → same (Number value) (Number value)
     table_self [] h word value e = absurd (cc e)
-    table_self (c ∷ cells) h zero value e = let here : c ≡ TableWord value = cc e in numbers value (subst (λ v. IsInKind v) here h.0)
+    table_self (c ∷ cells) h zero value e = let here : c ≡ TableWord value =
+        cc e in numbers value (subst (λ v. IsInKind v) here h.0)
     table_self (c ∷ cells) h (suc word) value e = table_self cells h.1 word value e

@@ -115,18 +115,27 @@ reads_cell cells (Some (SharedWord kind (Some guard) initial)) word d go =
 reads_cell cells (Some (TableWord value)) word d go = go value d
 reads_cell cells _ word d go = failed d
 
+-- a word that a lock guards, by its number and its place among the lock's
+pub record Under : Type 0 where
+  pub lock : ℕ
+  pub word : ℕ
+  pub place : ℕ
+
+abbrev pub under : List Cell → (lock word : ℕ) → Under
+under cells lock word = record { lock = lock; word = word; place = place_among cells lock word }
+
 -- the word is written, where its lock is in the share
-abbrev pub writes_in : {L : Type 0} → Option (List ℕ) → (place lock word value : ℕ) → Doing → (Doing → Performed L) →
+abbrev pub writes_in : {L : Type 0} → Option (List ℕ) → Under → (value : ℕ) → Doing → (Doing → Performed L) →
     Performed L
-writes_in None place lock word value d go = failed d
-writes_in (Some words) place lock word value d go =
-    if nat_lt place (length words) then go (has_written d word lock (slice_set words place value)) else failed d
+writes_in None u value d go = failed d
+writes_in (Some words) u value d go =
+    if nat_lt u.place (length words) then go (has_written d u.word u.lock (slice_set words u.place value)) else failed d
 
 -- a shared word is written in the share alone
 abbrev pub writes_cell : {L : Type 0} → List Cell → Option Cell → (word value : ℕ) → Doing → (Doing → Performed L) →
     Performed L
 writes_cell cells (Some (SharedWord kind (Some guard) initial)) word value d go =
-    writes_in (words_in d.holding.share guard) (place_among cells guard word) guard word value d go
+    writes_in (words_in d.holding.share guard) (under cells guard word) value d go
 writes_cell cells _ word value d go = failed d
 
 -- the number of a word of a global

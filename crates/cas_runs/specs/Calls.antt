@@ -188,23 +188,21 @@ module _ {F A : Type 0} where
   takes_lock lock None next = Locks lock next
   takes_lock lock (Some words) next = Stops (Taken lock)
 
-  -- the lock goes by its name
-  abbrev pub takes : Option ℕ → A → F → (serial : ℕ) → List (Frame F A) → Past → Holding → Act (Thread F A)
-  takes None a f serial stack past h = Bad
-  takes (Some lock) a f serial stack past h =
-      takes_lock lock (words_in h.share lock)
-      (λ words. Runs f serial a 0 stack past (with_share h (with_lock h.share lock words)))
+  -- the lock goes by its name; then the thread goes on with what it holds
+  abbrev pub takes : Option ℕ → Holding → (Holding → Thread F A) → Act (Thread F A)
+  takes None h go = Bad
+  takes (Some lock) h go =
+      takes_lock lock (words_in h.share lock) (λ words. go (with_share h (with_lock h.share lock words)))
 
   -- an Unlock of a lock that isn't in the share has no meaning
   abbrev pub gives_lock : ℕ → Option (List ℕ) → Thread F A → Act (Thread F A)
   gives_lock lock None next = Bad
   gives_lock lock (Some words) next = Emits (Unlocks lock words) next
 
-  abbrev pub gives : Option ℕ → A → F → (serial : ℕ) → List (Frame F A) → Past → Holding → Act (Thread F A)
-  gives None a f serial stack past h = Bad
-  gives (Some lock) a f serial stack past h =
-      gives_lock lock (words_in h.share lock)
-      (Runs f serial a 0 stack past (with_share h (without_lock h.share lock)))
+  abbrev pub gives : Option ℕ → Holding → (Holding → Thread F A) → Act (Thread F A)
+  gives None h go = Bad
+  gives (Some lock) h go =
+      gives_lock lock (words_in h.share lock) (go (with_share h (without_lock h.share lock)))
 
 -- Activations.
 
@@ -277,8 +275,10 @@ module _ {F A : Type 0} (l : Activations F A) (setting : Setting) (scene : Scene
   abbrev pub acts : Option (Last A) → F → (serial : ℕ) → List (Frame F A) → Past → Holding → Act (Thread F A)
   acts None f serial stack past h = Bad
   acts (Some (Goes next)) f serial stack past h = Quiet (Runs f serial next 0 stack past h)
-  acts (Some (Takes lock next)) f serial stack past h = takes (guard_of setting.edge lock) next f serial stack past h
-  acts (Some (Gives lock next)) f serial stack past h = gives (guard_of setting.edge lock) next f serial stack past h
+  acts (Some (Takes lock next)) f serial stack past h =
+      takes (guard_of setting.edge lock) h (Runs f serial next 0 stack past)
+  acts (Some (Gives lock next)) f serial stack past h =
+      gives (guard_of setting.edge lock) h (Runs f serial next 0 stack past)
   acts (Some (Puts word next)) f serial stack past h = Emits (Prints word) (Runs f serial next 0 stack past h)
   acts (Some (Calls function values next)) f serial stack past h =
       calls (find l scene.within function) function values

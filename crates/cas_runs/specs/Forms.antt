@@ -5,7 +5,7 @@ use Rattle.cas_runs.specs.Label.{Each, NameBytes, Held, Share}
 use Rattle.cas_runs.specs.Naming.{Home, Value, Number, Pointer, Memory, with_block}
 use Rattle.cas_runs.specs.Outside.{IsAmong}
 use Rattle.cas_runs.specs.Machine.{Footprint}
-use Rattle.cas_runs.specs.Access.{Accesses, Reads, Writes, Loads, Stores, Looks, Then, Fails, Performed, value_in}
+use Rattle.cas_runs.specs.Access.{Accesses, Reads, Writes, Loads, Stores, Looks, Then, Fails, value_in}
 use Rattle.cas_runs.specs.Access.{length_of}
 
 -- each of these words is the same as itself, as a pass can ask that it is a word
@@ -56,13 +56,25 @@ LengthsAlike same_size None (Some m) = ⊥
 LengthsAlike same_size (Some n) None = ⊥
 LengthsAlike same_size (Some n) (Some m) = same_size n m
 
--- the memories after a store
-pub record Stored (alike : Memory → Memory → Type 0) (t s : Memory) (home : Home) (at : ℕ) (v : Value) (home' : Home)
-    (at' : ℕ) (w : Value) (ws : List Value) : Type 0 where
+-- a store: where, and of what
+pub record Store : Type 0 where
+  pub home : Home
+  pub place : ℕ
+  pub value : Value
+
+abbrev pub store : Home → (place : ℕ) → Value → Store
+store home place value = record { home = home; place = place; value = value }
+
+-- the memory with the store, where this is its block
+abbrev pub after_store : Memory → Store → List Value → Memory
+after_store m x block = with_block m x.home (Some (slice_set block x.place x.value))
+
+-- the memories after a store of each, where the source's block is this one
+pub record Stored (alike : Memory → Memory → Type 0) (t s : Memory) (x y : Store) (ws : List Value) : Type 0 where
   pub block : List Value
-  pub there : t home ≡ Some block
-  pub within : at < length block
-  pub after : alike (with_block t home (Some (slice_set block at v))) (with_block s home' (Some (slice_set ws at' w)))
+  pub there : t x.home ≡ Some block
+  pub within : x.place < length block
+  pub after : alike (after_store t x block) (after_store s y ws)
 
 -- loads and stores by pointers that are the same keep memories alike
 pub record MemoryKeeps (same : Value → Value → Type 0) (same_size : ℕ → ℕ → Type 0)
@@ -72,32 +84,11 @@ pub record MemoryKeeps (same : Value → Value → Type 0) (same_size : ℕ → 
       (v : Value) × (value_in (t home) at ≡ Some v) × same v w
   pub stores : (t s : Memory) → alike t s → (home home' : Home) (at at' : ℕ) →
       same (Pointer home at) (Pointer home' at') → (v w : Value) → same v w → (ws : List Value) → s home' ≡ Some ws →
-      at' < length ws → Stored alike t s home at v home' at' w ws
+      at' < length ws → Stored alike t s (store home at v) (store home' at' w) ws
   pub lengths : (t s : Memory) → alike t s → (home home' : Home) (at at' : ℕ) →
       same (Pointer home at) (Pointer home' at') → LengthsAlike same_size (length_of (t home)) (length_of (s home'))
-
--- memories that are alike, where the source's has kept since this moment what the target doesn't have
-abbrev pub AlikeSince : (alike kept : Memory → Memory → Type 0) → Memory → Memory → Memory → Type 0
-AlikeSince alike kept before t s = alike t s × kept before s
 
 -- a footprint within another, as of blocks
 pub record FootIn (f g : Footprint) : Type 0 where
   pub writes : (w : ℕ) → IsAmong w f.writes → IsAmong w g.writes
   pub reads : (w : ℕ) → IsAmong w f.reads → IsAmong w g.reads ⊎ IsAmong w g.writes
-
--- the source's step fails, or both do the same at last, and the target touches no more
-pub record BothPerform {L M : Type 0} (same : Value → Value → Type 0) (alike : Memory → Memory → Type 0)
-    (same_last : L → M → Type 0) (p : Performed L) (q : Performed M) : Type 0 where
-  pub t_last : L
-  pub s_last : M
-  pub t_does : p.last ≡ Some t_last
-  pub s_does : q.last ≡ Some s_last
-  pub lasts : same_last t_last s_last
-  pub share : p.holding.share ≡ q.holding.share
-  pub words : ShareSelfSame same q.holding.share
-  pub memory : alike p.holding.memory q.holding.memory
-  pub footprint : FootIn p.footprint q.footprint
-
-abbrev pub PerformAlike : {L M : Type 0} → (Value → Value → Type 0) → (Memory → Memory → Type 0) → (L → M → Type 0) →
-    Performed L → Performed M → Type 0
-PerformAlike same alike same_last p q = (q.last ≡ None) ⊎ BothPerform same alike same_last p q

@@ -44,10 +44,14 @@ pub record Activation (F G : Type 0) : Type 0 where
   pub source : G
   pub serial : ℕ
 
+-- of two activations, with their memories
+abbrev pub States : Type 0 → Type 0 → Type 0 → Type 0 → Type 1
+States F A G B = Activation F G → A → Memory → B → Memory → Type 0
+
 -- What such a pass names. The frame conditions say what others leave alone of either memory
 pub record Held (F A G B : Type 0) : Type 1 where
-  -- where both begin a step, with their memories
-  pub match_states : Activation F G → A → Memory → B → Memory → Type 0
+  -- where both begin a step
+  pub match_states : States F A G B
   -- the memories match, so that a call or a return may follow
   pub match_memory : Memory → Memory → Type 0
   -- what the activations with smaller numbers have for themselves in the target's memory is as it was

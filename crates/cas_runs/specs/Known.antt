@@ -1,6 +1,7 @@
 -- What units know of objects, however many units there are: an object that has crossed anywhere has one number in the
 -- whole thread, and each unit has a number of its own for it.
-use Rattle.std.specs.Prelude.{◌≡◌, ℕ, ◌<◌, ◌≤◌, List, length, nat_eq, Option, Some, None, slice_get, if◌then◌else◌}
+use Rattle.std.specs.Prelude.{◌≡◌, ℕ, ◌<◌, ◌≤◌, List, [], length, nat_eq, Option, Some, None, slice_get, if◌then◌else◌}
+use Rattle.cas_base.specs.declared.kind.Kind.TheVariants.{U32}
 use Rattle.cas_runs.specs.Label.{Owner, Inside, Outside, Object, Crossing}
 use Rattle.cas_runs.specs.Edge.{most_cells}
 use Rattle.cas_runs.specs.Outside.{Fills, numbered}
@@ -22,6 +23,17 @@ pub record Known : Type 0 where
   pub count : ℕ
   -- the units that wait, the newest first: who called, and who called that
   pub callers : List ℕ
+
+-- at the start no object has crossed
+abbrev pub nothing_known : Known
+nothing_known = record {
+  id = λ unit number. None;
+  number = λ unit id. None;
+  object = λ id. record { owner = Inside; kind = U32; size = 1; contents = None };
+  owner = λ id. 0;
+  count = 0;
+  callers = [];
+}
 
 -- whose the object is, as a unit sees it
 pub record OwnerFits (unit owner : ℕ) (o : Owner) : Type 0 where

@@ -24,6 +24,16 @@ pub data Value : Type 0 where
   Pointer : (home : Home) (place : ℕ) → Value
   Hidden : (what : Unseen) → Value
 
+-- a value that may be used, and not only be kept
+abbrev pub usable : Value → Option Value
+usable (Hidden what) = None
+usable v = Some v
+
+-- the same of what is there
+abbrev pub usable_in : Option Value → Option Value
+usable_in None = None
+usable_in (Some v) = usable v
+
 -- a stretch of a block that is one object, with the kind of its cells
 pub record Part : Type 0 where
   pub from : ℕ

@@ -1,6 +1,5 @@
 -- What a source language keeps of a unit: what it emits is in kind, and it has the locks that are due. It is asked in
--- the
--- layout of its own variables, where each block is one object; refinement is asked in all layouts.
+-- the layout of its own variables, where each block is one object; refinement is asked in all layouts.
 use Rattle.std.specs.Prelude.{◌≡◌, ℕ, ◌+◌, ◌≤◌, List, [], ◌∷◌, Some}
 use Rattle.cas_base.specs.declared.kind.Kind.{Kind}
 use Rattle.cas_base.specs.declared.decl.Unit.{Unit as UnitOf}

@@ -148,11 +148,13 @@ module _ {F A G B : Type 0} (r : Relation F A G B) where
       (vs ws : List Value) → AllMatch vs ws → results ≡ Some (length ws) →
       ReadyIf (record m { t_past = p; s_past = q; t_holding = h; s_holding = k }) (next vs) 0 (next' ws) 0
 
-  -- the source's activation does nothing with these results but return them, or the first of them, as where it returns
-  -- none; or it fails
+  -- the source's activation does nothing with these results but go on and return them, or the first of them, as where
+  -- it
+  -- returns none; or it fails
   pub data PassesOn (ws : List Value) : Option B → Type 0 where
     cannot_go_on : PassesOn ws None
     fails_then : {y : B} → r.source.form y ≡ Fails → PassesOn ws (Some y)
+    goes_then : {y y' : B} → r.source.form y ≡ Then (Goes y') → PassesOn ws (Some y') → PassesOn ws (Some y)
     returns_first : {y : B} (us more : List Value) → ws ≡ us ++ more → r.source.form y ≡ Then (Returns us) →
         waiting_price r.target.tariff r.targets ≤ step_price r.source.tariff r.sources y → PassesOn ws (Some y)
 
@@ -342,14 +344,6 @@ pub record MadeAt {F G : Type 0} (edge : Edge) (made : List Decl → F → G →
   pub declared : AreDeclared edge decls
   pub is_made : made decls f g
 
--- the function is made of the other so, and both are found at one name among those that run together
-pub record MadeAmong {F A G B : Type 0} (target : Activations F A) (source : Activations G B) (made : F → G → Type 0)
-    (ts : List F) (ss : List G) (f : F) (g : G) : Type 0 where
-  pub is_made : made f g
-  pub name : NameBytes
-  pub target_found : find target ts name ≡ Some f
-  pub source_found : find source ss name ≡ Some g
-
 -- What a pass names: its two languages, what is made of a function among the declarations of its unit, where the
 -- target's blocks lie, and what matches, for all functions that run together in a setting and are made of one another
 -- so
@@ -361,8 +355,12 @@ pub record Matching (F A G B : Type 0) : Type 1 where
   pub matches : Setting → List F → List G → (F → G → Type 0) → Matches F A G B
 
 -- the function is made of the other so, and both are found at one name among those that run together
-abbrev pub MadeOf : {F A G B : Type 0} → Matching F A G B → Setting → List F → List G → F → G → Type 0
-MadeOf m setting ts ss = MadeAmong m.target m.source (MadeAt setting.edge m.made) ts ss
+pub record MadeOf {F A G B : Type 0} (m : Matching F A G B) (setting : Setting) (ts : List F) (ss : List G) (f : F)
+    (g : G) : Type 0 where
+  pub is_made : MadeAt setting.edge m.made f g
+  pub name : NameBytes
+  pub target_found : find m.target ts name ≡ Some f
+  pub source_found : find m.source ss name ≡ Some g
 
 -- the relation in a setting, where these functions run together
 abbrev pub relation : {F A G B : Type 0} → Matching F A G B → Setting → List F → List G → Relation F A G B

@@ -9,7 +9,7 @@ use Rattle.cas_runs.specs.Access.{Holding}
 use Rattle.cas_runs.specs.Unit.{Setting, LaidOutToo}
 use Rattle.cas_runs.specs.Calls.{Activations, Past, language}
 use Rattle.cas_runs.specs.Passing.{Position, Matches, Relation, AllMade, MadeSo, Matching, MadeOf, RunTogether}
-use Rattle.cas_runs.specs.Held.{Activation, Held, Steps, Midway}
+use Rattle.cas_runs.specs.Held.{States, Held, Steps, Midway}
 
 -- where a block of the source begins in the target
 pub record Spot : Type 0 where
@@ -104,23 +104,28 @@ KeepsUnplaced place n s s' =
     (function : NameBytes) (activation block : ℕ) → activation + 1 ≤ n → place function block ≡ None
     → s' (Own function activation block) ≡ s (Own function activation block)
 
+-- where blocks lie, and how many words each of the source's has
+pub record Placed : Type 0 where
+  pub place : Placing
+  pub sizes : NameBytes → ℕ → ℕ
+
 -- the blocks of a function lie in those of the other without overlap, and the objects of a block go with it
 pub record IsPlacing {F A G B : Type 0} (target : Activations F A) (source : Activations G B) (made : F → G → Type 0)
-    (place : Placing) (sizes : NameBytes → ℕ → ℕ) (placed layout : Layout) : Type 0 where
+    (p : Placed) (placed layout : Layout) : Type 0 where
   pub names : (f : F) (g : G) → made f g → target.name f ≡ source.name g
-  pub first_words : target.first_word ≡ source.first_word
-  pub first_same : SameMoved place source.first_word source.first_word
   pub known : (f : F) (g : G) → made f g → (block size : ℕ) → slice_get (source.blocks g) block ≡ Some size →
-      size ≡ sizes (source.name g) block
-  pub room : (f : F) (g : G) → made f g → (block : ℕ) (s : Spot) → place (source.name g) block ≡ Some s →
+      size ≡ p.sizes (source.name g) block
+  pub room : (f : F) (g : G) → made f g → (block : ℕ) (s : Spot) → p.place (source.name g) block ≡ Some s →
       (size total : ℕ) × (slice_get (source.blocks g) block ≡ Some size)
       × (slice_get (target.blocks f) s.block ≡ Some total) × (s.offset + size ≤ total)
-  pub apart : (function : NameBytes) (b c : ℕ) (s t : Spot) → place function b ≡ Some s → place function c ≡ Some t →
-      s.block ≡ t.block → (b ≡ c) ⊎ (s.offset + sizes function b ≤ t.offset) ⊎ (t.offset + sizes function c ≤ s.offset)
-  pub parts : (function : NameBytes) (block : ℕ) (s : Spot) → place function block ≡ Some s →
-      (at in_part : ℕ) (p : Part) → part_by (layout function block) at in_part ≡ Some p →
-      (part_by (placed function s.block) (s.offset + at) in_part ≡ Some (moved_part s.offset p))
-      × (1 ≤ p.size) × (p.from + p.size ≤ sizes function block)
+  pub apart : (function : NameBytes) (b c : ℕ) (s t : Spot) → p.place function b ≡ Some s →
+      p.place function c ≡ Some t →
+      s.block ≡ t.block → (b ≡ c) ⊎ (s.offset + p.sizes function b ≤ t.offset)
+      ⊎ (t.offset + p.sizes function c ≤ s.offset)
+  pub parts : (function : NameBytes) (block : ℕ) (s : Spot) → p.place function block ≡ Some s →
+      (at in_part : ℕ) (q : Part) → part_by (layout function block) at in_part ≡ Some q →
+      (part_by (placed function s.block) (s.offset + at) in_part ≡ Some (moved_part s.offset q))
+      × (1 ≤ q.size) × (q.from + q.size ≤ p.sizes function block)
 
 -- what matches, by where activations match
 abbrev pub moved_matches : {F A G B : Type 0} → Placing → (NameBytes → ℕ → ℕ) → (F → G → Type 0) →
@@ -137,7 +142,7 @@ moved_matches place sizes made match_states = record {
 -- what it names for the law over memories, by where both begin a step. What an activation has in blocks that the target
 -- doesn't have is its own: no other one stores there
 abbrev pub moving :
-    {F A G B : Type 0} → Placing → (NameBytes → ℕ → ℕ) → (Activation F G → A → Memory → B → Memory → Type 0)
+    {F A G B : Type 0} → Placing → (NameBytes → ℕ → ℕ) → States F A G B
     → Held F A G B
 moving place sizes match_states = record {
   match_states = match_states;
@@ -155,7 +160,7 @@ pub record Moved (F A G B : Type 0) : Type 1 where
   pub naming : List G → Layout → Layout
   pub place : List G → Placing
   pub sizes : List G → NameBytes → ℕ → ℕ
-  pub match_states : Setting → List F → List G → Activation F G → A → Memory → B → Memory → Type 0
+  pub match_states : Setting → List F → List G → States F A G B
 
 module _ {F A G B : Type 0} (p : Moved F A G B) where
   abbrev pub places : Setting → List F → List G → Held F A G B
@@ -192,8 +197,8 @@ module _ {F A G B : Type 0} (p : Moved F A G B) where
     pub is_placing :
         (setting : Setting) (decls : List Decl) (ts : List F) (ss : List G) →
         RunTogether moved_blocks setting decls ts ss
-        → IsPlacing p.target p.source (MadeOf moved_blocks setting ts ss) (p.place ss) (p.sizes ss)
-        (p.naming ss setting.layout) setting.layout
+        → IsPlacing p.target p.source (MadeOf moved_blocks setting ts ss)
+        (record { place = p.place ss; sizes = p.sizes ss }) (p.naming ss setting.layout) setting.layout
     pub prices : IsTariff p.target.tariff
     pub waits :
         (ts : List F) (ss : List G) → AllMade (MadeSo p.made) ts ss

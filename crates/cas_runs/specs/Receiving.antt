@@ -58,16 +58,20 @@ pub record IsReceivedAs (emitted received : Crossing) (seen : List Object) : Typ
       (new.owner ≡ Outside) × IsEmitted emitted number j new
   pub numbers : numbered (length seen) received.values ≡ Some (length received.objects)
 
--- the function is known at both edges, over the same words: with the same types, and holding there no more than here
+-- a function there is the one here: with the same types, and holding no more
+pub record IsAsHere (here there : Signature) : Type 0 where
+  pub params : there.params ≡ here.params
+  pub ret : there.ret ≡ here.ret
+  pub holds : Holds here.holds there.holds
+
+-- the function is known at both edges, over the same words
 pub record IsKnownAtBoth (edge other : Edge) (function : NameBytes) : Type 0 where
   pub cells : edge.cells ≡ other.cells
   pub here : Signature
   pub there : Signature
   pub known_here : signature_of edge.functions function ≡ Some here
   pub known_there : signature_of other.functions function ≡ Some there
-  pub params : there.params ≡ here.params
-  pub ret : there.ret ≡ here.ret
-  pub holds : Holds here.holds there.holds
+  pub as_here : IsAsHere here there
 
 -- Where a unit keeps the rules and says what is in kind, with the locks that are due, another unit that has the
 -- called function may hear its Call as an Enter, with room for the objects.

@@ -1,6 +1,6 @@
 -- The rules that each language's machine keeps, whatever the unit does: what would break them is Bad, or has no next
 -- step.
-use Rattle.std.specs.Prelude.{◌≡◌, ℕ, ◌<◌, ◌≤◌, nat_eq, nat_lt, false, List, [], ◌∷◌, length, Option, Some, None}
+use Rattle.std.specs.Prelude.{◌≡◌, ℕ, ◌+◌, ◌<◌, ◌≤◌, nat_eq, nat_lt, false, List, [], ◌∷◌, length, Option, Some, None}
 use Rattle.std.specs.Prelude.{slice_get, ◌⊎◌, if◌then◌else◌}
 use Rattle.cas_base.specs.declared.kind.Kind.{Kind}
 use Rattle.cas_base.specs.declared.kind.Kind.TheVariants.{U32}
@@ -8,7 +8,7 @@ use Rattle.cas_base.specs.declared.kind.Ty.{Ty}
 use Rattle.cas_runs.specs.Label.{Each, Both, NameBytes, Shown, Word, Place, Inside, Object, Share, Crossing, RunLabel}
 use Rattle.cas_runs.specs.Label.{Lock, Unlock, Out, Done, Enter, Back, Call, Leave, locks_of}
 use Rattle.cas_runs.specs.Edge.{LockWord, SharedWord, Signature, Edge, AreOfTypes, returned, signature_of, IsOfKind}
-use Rattle.cas_runs.specs.Edge.{AreOfKinds, guarded, AreUnder, IsOrdered, IsShare, most_cells}
+use Rattle.cas_runs.specs.Edge.{AreOfKinds, guarded, AreUnder, IsOrdered, IsShare, HasContents, IsLive, most_cells}
 use Rattle.cas_runs.specs.Outside.{Pending, Entered, Contents, AreWordsOf, SameBut, Extend, IsAmong, Holds, pending}
 use Rattle.cas_runs.specs.Outside.{crossed, numbered}
 use Rattle.cas_runs.specs.Machine.{Act, Quiet, Emits, Crosses, Locks, Receives, Stops, Halt, Ended, Taken, Full}
@@ -85,36 +85,54 @@ pub record IsReturn (before : List RunLabel) : Type 0 where
   pub older : List Pending
   pub newest : pending before ≡ Entered function locks ∷ older
 
--- two values that are shown of one: as words they are equal, and they are one place of an object that is known
-abbrev pub AreOneValue : (known : ℕ) → Shown → Shown → Type 0
-AreOneValue known (Word v) (Word w) = v ≡ w
-AreOneValue known (Place o p) (Place q r) = o < known → o ≡ q → p ≡ r
-AreOneValue known _ _ = Unit {0}
+-- the cell shows this word
+abbrev pub HasWord : Contents → (cell word : ℕ) → Type 0
+HasWord None cell word = ⊥
+HasWord (Some contents) cell word = slice_get contents cell ≡ Some (Some word)
 
--- wherever both show a word, it is the same
-abbrev pub AgreeAt : List (Option ℕ) → List (Option ℕ) → Type 0
-AgreeAt (Some v ∷ vs) (Some w ∷ ws) = (v ≡ w) × AgreeAt vs ws
-AgreeAt (v ∷ vs) (w ∷ ws) = AgreeAt vs ws
-AgreeAt _ _ = Unit {0}
+-- counted from a place of each, cells that both show have the same word
+abbrev pub AgreeFrom : (place place' : ℕ) → Contents → Contents → Type 0
+AgreeFrom place place' c d =
+    (i j v w : ℕ) → i + place' ≡ j + place → HasWord c i v → HasWord d j w → v ≡ w
 
-abbrev pub Agree : Contents → Contents → Type 0
-Agree (Some vs) (Some ws) = AgreeAt vs ws
-Agree _ _ = Unit {0}
+-- a place of an object, with its number
+pub record PlaceIn : Type 0 where
+  pub number : ℕ
+  pub object : Object
+  pub place : ℕ
+
+-- the first object ends where the other begins
+abbrev pub IsEndBefore : PlaceIn → PlaceIn → Type 0
+IsEndBefore x y = (x.place ≡ x.object.size) × (y.place ≡ 0)
+
+-- two places with one address, where so many objects are known. In an object that is known it is one place. A known
+-- object that is live shares addresses with no other live one, but for the end of one, where the other may begin. And
+-- what has an address has one content, also in objects that are new
+pub record AreOnePlace (known : ℕ) (x y : PlaceIn) : Type 0 where
+  pub in_one : x.number < known → x.number ≡ y.number → x.place ≡ y.place
+  pub in_two : (x.number < known) ⊎ (y.number < known) → (x.number ≡ y.number → ⊥) → IsLive x.object →
+      IsLive y.object → IsEndBefore x y ⊎ IsEndBefore y x
+  pub words : AgreeFrom x.place y.place x.object.contents y.object.contents
+
+-- two values that are shown of one, with the objects of each: null is no place
+abbrev pub AreOneValue : (known : ℕ) → List Object → List Object → Shown → Shown → Type 0
+AreOneValue known os ps (Word v) (Word w) = v ≡ w
+AreOneValue known os ps (Word v) (Place n p) = v ≡ 0 → ⊥
+AreOneValue known os ps (Place n p) (Word w) = w ≡ 0 → ⊥
+AreOneValue known os ps (Place n p) (Place m q) =
+    (o o' : Object) → slice_get os n ≡ Some o → slice_get ps m ≡ Some o' →
+    AreOnePlace known (record { number = n; object = o; place = p }) (record { number = m; object = o'; place = q })
 
 -- both are live, or neither is, and what they show agrees
 abbrev pub AgreeAlive : Contents → Contents → Type 0
-AgreeAlive (Some vs) (Some ws) = AgreeAt vs ws
-AgreeAlive None None = Unit {0}
-AgreeAlive _ _ = ⊥
+AgreeAlive c d = (HasContents c → HasContents d) × (HasContents d → HasContents c) × AgreeFrom 0 0 c d
 
 -- two ways to name what crosses, where so many objects are known, differ in places alone: the same address can be the
--- end of one object and the beginning of another. What has an address has one content
+-- end of one object and the beginning of another
 pub record NameOne (known : ℕ) (n m : Names) : Type 0 where
-  pub values : Both (AreOneValue known) n.values m.values
+  pub values : Both (AreOneValue known n.objects m.objects) n.values m.values
   pub olds : (i : ℕ) → i < known → (o p : Object) → slice_get n.objects i ≡ Some o → slice_get m.objects i ≡ Some p →
       AgreeAlive o.contents p.contents
-  pub all : n.values ≡ m.values → (i : ℕ) (o p : Object) → slice_get n.objects i ≡ Some o →
-      slice_get m.objects i ≡ Some p → Agree o.contents p.contents
 
 abbrev pub IsReturnFor : Option NameBytes → List RunLabel → Type 0
 IsReturnFor (Some function) before = Unit {0}
@@ -185,11 +203,12 @@ IsReceiving _ = ⊥
 abbrev pub AtMostOneLess : List Opened → List Opened → Type 0
 AtMostOneLess before after = (after ≡ before) ⊎ ((f : NameBytes) × (before ≡ Open f ∷ after))
 
--- by a quiet step: the called function is the newest, over its caller or, by a tail call, in its place; else the newest
--- activation may return
+-- by a quiet step: the called function is the newest, over its caller or, by a tail call, in its place; else they stay,
+-- or the newest returns to the activation below it
 abbrev pub OpensQuietly : (called : Option NameBytes) → List Opened → List Opened → Type 0
 OpensQuietly (Some f) before after = (rest : List Opened) × (after ≡ Open f ∷ rest) × AtMostOneLess before rest
-OpensQuietly None before after = AtMostOneLess before after
+OpensQuietly None before after =
+    (after ≡ before) ⊎ ((f g : NameBytes) × (rest : List Opened) × (before ≡ Open f ∷ after) × (after ≡ Open g ∷ rest))
 
 -- by a label: an Enter opens its function over a mark, a Leave closes both, and Done the last
 abbrev pub OpensBy : RunLabel → (called : Option NameBytes) → List Opened → List Opened → Type 0

@@ -14,7 +14,7 @@ use Rattle.cas_runs.specs.Bounds.{step_price, first_price}
 use Rattle.cas_runs.specs.Forms.{FormAlike}
 use Rattle.cas_runs.specs.Calls.{Last, Goes, Takes, Gives, Puts, Calls, Tails, Returns}
 use Rattle.cas_runs.specs.Passing.{Relation, AllMatch}
-use Rattle.cas_runs.specs.Held.{Activation}
+use Rattle.cas_runs.specs.Held.{States}
 
 module _ {F A G B : Type 0} (r : Relation F A G B) (At : F → G → A → B → Type 0) where
   abbrev pub AtIf : F → G → Option A → Option B → Type 0
@@ -56,7 +56,5 @@ module _ {F A G B : Type 0} (r : Relation F A G B) (At : F → G → A → B →
         → first_price r.target.tariff r.target.blocks f ≤ first_price r.source.tariff r.source.blocks g
 
 -- where both begin a step at the same place, with memories that match
-abbrev pub at_place :
-    {F A G B : Type 0} → (F → G → A → B → Type 0) → (Memory → Memory → Type 0) → Activation F G
-    → A → Memory → B → Memory → Type 0
-at_place At M a x t y s = At a.target a.source x y × M t s
+abbrev pub at_place : {F A G B : Type 0} → (F → G → A → B → Type 0) → (Memory → Memory → Type 0) → States F A G B
+at_place At M = λ a x t y s. At a.target a.source x y × M t s

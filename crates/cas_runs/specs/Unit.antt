@@ -1,6 +1,6 @@
 -- Refinement of units, of functions and of threads, in any two languages of the compiler.
 use Rattle.std.specs.Prelude.{◌≡◌, ℕ, ◌+◌, ◌*◌, ◌^◌, ◌<◌, ◌≤◌, Bool, true, false, ◌&&◌, if◌then◌else◌, List, [], ◌∷◌}
-use Rattle.std.specs.Prelude.{◌++◌, length, Option, Some, None, slice_get, ◌⊎◌}
+use Rattle.std.specs.Prelude.{◌++◌, length, map, Option, Some, None, slice_get, ◌⊎◌}
 use Rattle.cas_base.specs.declared.kind.Kind.{Kind}
 use Rattle.cas_base.specs.declared.kind.Kind.TheVariants.{I32, U32}
 use Rattle.cas_base.specs.declared.kind.Ty.{Ty}
@@ -276,6 +276,15 @@ pub record AreKnown {F S : Type 0} (l : Language F S) (edge : Edge) (decls : Lis
   pub declared : AreDeclared edge decls
   pub apart : AllApart edge.words decls
   pub defined : (name : NameBytes) → has_function l fs name ≡ true → defines decls name ≡ true
+
+-- the edge at which the outside may enter the functions for which the test is true
+abbrev pub entered_by : (NameBytes → Bool) → Edge → Edge
+entered_by test edge =
+    record edge { functions = map (λ (f : Signature). record f { inside = test f.name }) edge.functions }
+
+-- where a unit with these declarations runs among others: the outside enters what it defines
+abbrev pub at_unit : Setting → List Decl → Setting
+at_unit setting decls = record setting { edge = entered_by (defines decls) setting.edge }
 
 -- the function has the type of a thread's entry: it takes the thread's number, returns nothing and holds no lock
 pub record IsEntry (edge : Edge) (entry : NameBytes) : Type 0 where

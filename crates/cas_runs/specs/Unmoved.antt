@@ -1,17 +1,17 @@
--- Passes that leave values and memory as they are.
+-- Passes that leave values and memory as they are. What a new block holds at first is each language's own: where that
+-- differs, `match_states` says it until the target has set its words.
 --
 --     t:   memory    ════════ equal ════════    memory'
 --            ║                                    ║          equal where a call, a return or the outside follows;
 --     s:   memory    ════════ equal ════════    memory'      within a step each may store on its own
 use Rattle.std.specs.Prelude.{◌≡◌, ℕ, ◌≤◌, List}
 use Rattle.cas_base.specs.declared.decl.Decl.{Decl}
-use Rattle.cas_runs.specs.Naming.{Memory}
 use Rattle.cas_runs.specs.Bounds.{IsTariff, waiting_price}
 use Rattle.cas_runs.specs.Access.{Holding}
 use Rattle.cas_runs.specs.Unit.{Setting}
 use Rattle.cas_runs.specs.Calls.{Activations, Past}
 use Rattle.cas_runs.specs.Passing.{Position, Matches, Relation, AllMade, MadeSo, Matching, MadeOf, RunTogether}
-use Rattle.cas_runs.specs.Held.{Activation, Held, Steps, Midway}
+use Rattle.cas_runs.specs.Held.{States, Held, Steps, Midway}
 
 -- both hold the same
 pub record Equal (p : Past) (h : Holding) (q : Past) (k : Holding) : Type 0 where
@@ -50,7 +50,7 @@ keeps_values target source setting ts ss matches = record {
 
 -- what it names for the law over memories, by where both begin a step
 abbrev pub in_place :
-    {F A G B : Type 0} → (Activation F G → A → Memory → B → Memory → Type 0) → Held F A G B
+    {F A G B : Type 0} → States F A G B → Held F A G B
 in_place match_states = record {
   match_states = match_states;
   match_memory = λ t s. t ≡ s;
@@ -63,7 +63,7 @@ pub record Unmoved (F A G B : Type 0) : Type 1 where
   pub target : Activations F A
   pub source : Activations G B
   pub made : List Decl → F → G → Type 0
-  pub match_states : Setting → List F → List G → Activation F G → A → Memory → B → Memory → Type 0
+  pub match_states : Setting → List F → List G → States F A G B
 
 module _ {F A G B : Type 0} (p : Unmoved F A G B) where
   abbrev pub places : Setting → List F → List G → Held F A G B
@@ -87,7 +87,6 @@ module _ {F A G B : Type 0} (p : Unmoved F A G B) where
   pub record IsUnmoved : Type 0 where
     pub names : (decls : List Decl) (f : F) (g : G) → p.made decls f g → p.target.name f ≡ p.source.name g
     pub blocks : (decls : List Decl) (f : F) (g : G) → p.made decls f g → p.target.blocks f ≡ p.source.blocks g
-    pub first_words : p.target.first_word ≡ p.source.first_word
     pub prices : IsTariff p.target.tariff
     pub waits :
         (ts : List F) (ss : List G) → AllMade (MadeSo p.made) ts ss

@@ -10,7 +10,7 @@ use Rattle.cas_runs.specs.Unit.{Setting}
 use Rattle.cas_runs.specs.Forms.{ShareSelfSame}
 use Rattle.cas_runs.specs.Calls.{Activations, Past}
 use Rattle.cas_runs.specs.Passing.{Position, Matches, Relation, AllMade, MadeSo, Matching, MadeOf, RunTogether}
-use Rattle.cas_runs.specs.Held.{Activation, Held, Steps, Midway}
+use Rattle.cas_runs.specs.Held.{States, Held, Steps, Midway}
 use Rattle.cas_runs.specs.Unmoved.{keeps_values}
 
 -- a number is a word
@@ -62,7 +62,7 @@ word_matches made match_states = record {
 
 -- what it names for the law over memories, by where both begin a step
 abbrev pub in_words :
-    {F A G B : Type 0} → (Activation F G → A → Memory → B → Memory → Type 0) → Held F A G B
+    {F A G B : Type 0} → States F A G B → Held F A G B
 in_words match_states = record {
   match_states = match_states;
   match_memory = EqualMemories;
@@ -75,7 +75,7 @@ pub record Worded (F A G B : Type 0) : Type 1 where
   pub target : Activations F A
   pub source : Activations G B
   pub made : List Decl → F → G → Type 0
-  pub match_states : Setting → List F → List G → Activation F G → A → Memory → B → Memory → Type 0
+  pub match_states : Setting → List F → List G → States F A G B
 
 module _ {F A G B : Type 0} (p : Worded F A G B) where
   abbrev pub places : Setting → List F → List G → Held F A G B
@@ -99,7 +99,6 @@ module _ {F A G B : Type 0} (p : Worded F A G B) where
   pub record IsWorded : Type 0 where
     pub names : (decls : List Decl) (f : F) (g : G) → p.made decls f g → p.target.name f ≡ p.source.name g
     pub blocks : (decls : List Decl) (f : F) (g : G) → p.made decls f g → p.target.blocks f ≡ p.source.blocks g
-    pub first_words : (p.target.first_word ≡ p.source.first_word) × IsWord p.source.first_word
     pub prices : IsTariff p.target.tariff
     pub waits :
         (ts : List F) (ss : List G) → AllMade (MadeSo p.made) ts ss

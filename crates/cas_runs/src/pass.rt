@@ -1,6 +1,7 @@
 //! Passes, as relations of the states of two machines.
 
 ghost use Rattle.std.specs.Prelude.{IfOk, List, ◌⊎◌};
+ghost use Rattle.cas_runs.specs.Chains.{IsChained};
 ghost use Rattle.cas_runs.specs.Label.{RunLabel};
 ghost use Rattle.cas_runs.specs.Machine.{Machine, Block};
 ghost use Rattle.cas_runs.specs.Naming.{Layout};
@@ -90,4 +91,46 @@ pub fn runs_match<P: Pass>()
         (P.match_states setting a b) ls x) }
 {
     P::simulates();
+}
+
+/// A pass of which several quiet steps of the target answer one step of the source: an implementation relates the
+/// states at which a step of the source begins, and shows from there a chain of quiet steps to a step that both answer.
+pub trait ChainedPass {
+    /// What it takes.
+    type Source;
+
+    /// What it makes.
+    type Target;
+
+    /// The states of the source's machine.
+    ghost source_state: { Type 0 };
+
+    /// The states of the target's machine.
+    ghost target_state: { Type 0 };
+
+    /// The source's machine in a setting.
+    ghost source: { Setting → Self.Source → Machine source_state };
+
+    /// The target's machine in a setting.
+    ghost target: { Setting → Self.Target → Machine target_state };
+
+    /// The settings for which the pass is shown, and what it makes of what.
+    ghost makes: { Setting → Self.Source → Self.Target → Type 0 };
+
+    /// After these labels, the states at which a step of the source begins, with the block so far of each.
+    ghost match_states: { Setting → Self.Source → Self.Target → List RunLabel → target_state → Block → source_state →
+        Block → Type 0 };
+
+    /// The law that chains lead from where states match to where they match again.
+    fn chains()
+        ensures { (setting : Setting) (a : Self.Source) (b : Self.Target) → makes setting a b →
+            IsChained setting.edge (target setting b) (source setting a) (match_states setting a b) };
+}
+
+/// What such a pass makes refines what it is made of.
+pub fn chains_refine<P: ChainedPass>()
+    ensures { (setting : Setting) (a : P.Source) (b : P.Target) → P.makes setting a b →
+        Refines setting.edge (P.target setting b) (P.source setting a) }
+{
+    P::chains();
 }

@@ -1,8 +1,12 @@
 //! Wrong translations in small, which don't refine.
 
-ghost use Rattle.std.specs.Prelude.{ℕ, List, [], ◌∷◌};
+ghost use Rattle.std.specs.Prelude.{◌≡◌, ℕ, ◌<◌, List, [], ◌∷◌, Some, None, slice_get};
+ghost use Rattle.cas_runs.specs.Edge.{IsLive};
+ghost use Rattle.cas_runs.specs.Label.{NameBytes, Word, Place, Object};
+ghost use Rattle.cas_runs.specs.Machine.{Opened, Open, Between};
 ghost use Rattle.cas_runs.specs.Pointing.{edge, shows};
 ghost use Rattle.cas_runs.specs.Refines.{Refines};
+ghost use Rattle.cas_runs.specs.Rules.{AreOneValue, OpensQuietly};
 ghost use Rattle.cas_runs.specs.Sections.{Take, Give, Load, Store, Print, Spin, one_lock, sections};
 
 /// An endless quiet loop doesn't refine a print, whatever the steps cost.
@@ -35,4 +39,21 @@ pub fn self_lock_refused()
 #[tactic(auto, using(crate::proofs::Pointing::wrong_place))]
 pub fn wrong_place_refused()
     ensures { Refines edge (shows 0) (shows 1) → ⊥ }
+{}
+
+/// No machine that keeps the rules names one value null and a place, or the middle of a known live object and a place
+/// of another.
+#[tactic(auto, using(crate::proofs::Agreeing::null_beside_place, crate::proofs::Agreeing::middle_beside_other))]
+pub fn two_values_refused()
+    ensures null { (known n p : ℕ) (os ps : List Object) → AreOneValue known os ps (Word 0) (Place n p) → ⊥ }
+    ensures middle { (known n m p q : ℕ) (os ps : List Object) (o o' : Object) → slice_get os n ≡ Some o →
+        slice_get ps m ≡ Some o' → IsLive o → IsLive o' → n < known → n < m → 0 < p → p < o.size →
+        AreOneValue known os ps (Place n p) (Place m q) → ⊥ }
+{}
+
+/// No quiet step takes away the newest activation where the outside called it: that is a Leave.
+#[tactic(auto, using(crate::proofs::Agreeing::quiet_leave))]
+pub fn quiet_leave_refused()
+    ensures { (f : NameBytes) (older : List Opened) → OpensQuietly None (Open f ∷ Between ∷ older) (Between ∷ older) →
+        ⊥ }
 {}

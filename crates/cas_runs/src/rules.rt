@@ -1,6 +1,6 @@
 //! The rules of machines can be kept: by small ones, and by those of the layer of calls.
 
-ghost use Rattle.std.specs.Prelude.{◌≡◌, ℕ, ◌≤◌, List, [], ◌∷◌, Some, true};
+ghost use Rattle.std.specs.Prelude.{◌≡◌, ℕ, ◌≤◌, List, [], ◌∷◌, Some, slice_get, true};
 ghost use Rattle.std.specs.List.{AllByRecursion};
 ghost use Rattle.cas_base.specs.declared.decl.Decl.{Decl};
 ghost use Rattle.cas_base.specs.declared.decl.Unit.{Unit as UnitOf};
@@ -11,13 +11,13 @@ ghost use Rattle.cas_runs.specs.Calls.{Activations, Scene, Thread, language, mac
 ghost use Rattle.cas_runs.specs.Edge.{Edge, results_of};
 ghost use Rattle.cas_runs.specs.Label.{ArePlain, NameBytes, RunLabel};
 ghost use Rattle.cas_runs.specs.Machine.{Block, Full, Run, Stops};
-ghost use Rattle.cas_runs.specs.Known.{ExchangedIsReceived, KnownStays, NumberedOnce, ReceivedExists};
+ghost use Rattle.cas_runs.specs.Known.{ExchangedIsReceived, IsKnown, KnownStays, NumberedOnce, ReceivedExists, nothing_known};
 ghost use Rattle.cas_runs.specs.Naming.{Layout};
 ghost use Rattle.cas_runs.specs.Natural.{IsNatural};
 ghost use Rattle.cas_runs.specs.Receiving.{CallsAreReceived, ReturnsAreReceived};
 ghost use Rattle.cas_runs.specs.Rules.{CallsOut, KeepsKinds, KeepsLocks, KeepsRules};
 ghost use Rattle.cas_runs.specs.Sections.{Instruction, StoresWords, one_lock, sections};
-ghost use Rattle.cas_runs.specs.Unit.{AreDefined, FitsProgram, FitsUnit, IsLayout, Language, Setting, all_decls, all_functions, has_function};
+ghost use Rattle.cas_runs.specs.Unit.{AreDefined, FitsProgram, FitsUnit, IsCode, IsLayout, IsStack, Language, Setting, all_decls, all_functions, at_unit, has_function};
 
 /// The rules can be kept: a small language of critical sections keeps them, whatever its program does.
 pub fn sections_keep_rules()
@@ -101,6 +101,15 @@ pub fn programs_know_results<F, S>()
         × (results_of edge name ≡ Some n) }
 {}
 
+/// An edge that fits a whole program fits each of its units, on each stack and wherever the code can stand, with the
+/// unit's functions inside: so units refine at the edge of their program.
+pub fn programs_fit_units<F, S>()
+    ensures { (l : Language F S) (setting : Setting) (units : List (UnitOf F)) (entry : NameBytes) →
+        FitsProgram l setting.edge units entry → IsStack setting.edge setting.stack →
+        IsCode setting.code setting.edge.functions → (i : ℕ) (unit : UnitOf F) → slice_get units i ≡ Some unit →
+        FitsUnit (at_unit setting unit.decls) unit.decls unit.globals }
+{}
+
 /// What a unit emits another may receive: where it keeps the rules, emits what is in kind, and has the locks that are
 /// due, its Call is an Enter of the unit that has the function, and its Leave a Back of the one that called, by the
 /// numbers that the objects have there and with room for them.
@@ -109,10 +118,11 @@ pub fn crossings_are_received()
     ensures returns { ReturnsAreReceived }
 {}
 
-/// Whatever a unit emits within the rules, each other unit may receive, however many units there are: there is a
-/// crossing for it, it is received as it was emitted, what units know of objects stays right with it, and no two
-/// objects get one number.
+/// At the start nothing is known of objects. Whatever a unit emits within the rules, each other unit may receive,
+/// however many units there are: there is a crossing for it, it is received as it was emitted, what units know of
+/// objects stays right with it, and no two objects get one number.
 pub fn received_labels_exist()
+    ensures first { (unit : ℕ) → IsKnown nothing_known unit (λ i. []) }
     ensures exists { ReceivedExists }
     ensures received { ExchangedIsReceived }
     ensures stays { KnownStays }
