@@ -1,3 +1,4 @@
+pub mod Balanced
 pub mod Languages
 pub mod Makes
 pub mod Match

@@ -1,8 +1,6 @@
 -- Wrong translations in small, and machines that break a rule.
-use Rattle.std.specs.Prelude.{ℕ, zero, suc, List, [], ◌∷◌, Option, Some, None}
+use Rattle.std.specs.Prelude.{ℕ, zero, suc, List, [], ◌∷◌, Some, None}
 use Rattle.cas_base.specs.declared.decl.Unit.{Unit as UnitOf}
-use Rattle.cas_base.specs.declared.decl.Global.{Global}
-use Rattle.cas_runs.specs.Naming.{Value, Number}
 use Rattle.cas_runs.specs.Bounds.{ByForms}
 use Rattle.cas_runs.specs.Machine.{Act, Quiet, Crosses, Receives, Machine}
 use Rattle.cas_runs.specs.Access.{Accesses, Then}
@@ -10,13 +8,12 @@ use Rattle.cas_runs.specs.Unit.{Setting, laid_out}
 use Rattle.cas_runs.specs.Calls.{Last, Puts, Activations, nothing_touched}
 use Rattle.cas_trial.specs.declared.joining.Apart.{Apart}
 use Rattle.cas_trial.specs.declared.joining.Joined.{Joined}
-use Rattle.cas_trial.specs.declared.lowering.High.{High}
 use Rattle.cas_trial.specs.declared.lowering.High.TheVariants as high
 use Rattle.cas_trial.specs.declared.lowering.Low.TheVariants as low
 use Rattle.cas_trial.specs.declared.lowering.HighFunction.{HighFunction}
 use Rattle.cas_trial.specs.declared.lowering.LowFunction.{LowFunction}
 use Rattle.cas_trial.specs.Lowering.Languages.{LowState, low_language}
-use Rattle.cas_trial.specs.Fitting.{decls, globals, setting, program}
+use Rattle.cas_trial.specs.Fitting.{decls, globals, setting}
 use Rattle.cas_trial.specs.Stages.{show_name, Stage, Loading, Tells, form, apart}
 
 -- a unit of these functions, with the lock and the word of the trial's unit

@@ -1,11 +1,14 @@
 //! The pass that makes two instructions of one, and none of one that does nothing.
 
-ghost use Rattle.std.specs.Prelude.{IfOk, List, ◌≡◌, ◌++◌};
+ghost use Rattle.std.specs.Prelude.{IfOk, List, [], false, ◌≡◌, ◌++◌};
 ghost use Rattle.cas_base.specs.declared.decl.Unit.{Unit as UnitOf};
 ghost use Rattle.cas_runs.specs.Calls.{language};
+ghost use Rattle.cas_runs.specs.Label.{Each};
+ghost use Rattle.cas_runs.specs.Natural.{KeepsAsSource};
 ghost use Rattle.cas_runs.specs.Passing.{AllMade};
 ghost use Rattle.cas_runs.specs.Unit.{AreDefined, UnitRefines};
 ghost use Rattle.cas_runs.specs.Unmoved.{unmoved};
+ghost use Rattle.cas_trial.specs.Lowering.Balanced.{IsBalanced};
 ghost use Rattle.cas_trial.specs.Lowering.Languages.{LowState, high_language, low_language};
 ghost use Rattle.cas_trial.specs.Lowering.Makes.{IsLowered, Makes, MakesOne};
 ghost use Rattle.cas_trial.specs.Lowering.Match.{lowering};
@@ -116,3 +119,10 @@ pub fn units_lower()
 {
     units_refine::<Lowering>();
 }
+
+/// A unit of the first language keeps kinds and locks as a source must, where each of its functions takes and gives
+/// back the lock in turn.
+pub fn high_units_keep_as_source()
+    ensures { (unit : UnitOf HighFunction) → Each (λ (f : HighFunction). IsBalanced false f.body) unit.funs
+        → KeepsAsSource (language high_language) (λ f. []) unit }
+{}

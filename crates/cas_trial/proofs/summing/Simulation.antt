@@ -39,7 +39,9 @@ module _ (setting : Setting) (ts ss : List Relaying) where
 
   forms : (f g : Relaying) (x y : Sum) → SameSum x y → Forms f g (sum_form (λ v. v) x) (sum_form (λ v. word_add v 0) y)
   forms f g x y (same_sum {x = Locks}) = last (takes_at same_sum)
-  forms f g x y (same_sum {x = Reading}) = reads (λ v self. subst (λ w. Forms f g (Then (Puts v Unlocks)) (Then (Puts w Unlocks))) (sym (word_and_zero v self.1)) (last (puts_at same_sum)))
+  forms f g x y (same_sum {x = Reading}) =
+      reads (λ v self. subst (λ w. Forms f g (Then (Puts v Unlocks)) (Then (Puts w Unlocks)))
+      (sym (word_and_zero v self.1)) (last (puts_at same_sum)))
   forms f g x y (same_sum {x = Unlocks}) = last (gives_at same_sum)
   forms f g x y (same_sum {x = Ends}) = last (returns_at tt)
 
@@ -62,16 +64,24 @@ summing_shows : IsWorded summing
 summing_shows = record {
   names = λ decls f g m. refl;
   blocks = λ decls f g m. refl;
-  first_words = (refl, refl);
-  prices = (λ a. (record { least = omega arith; most = omega arith }, tt), omega arith, λ f. let one : IsPrice 1 = record { least = omega arith; most = omega arith } in (one, (one, (one, (one, tt)))));
+  prices = (
+    λ a. (record { least = omega arith; most = omega arith }, tt),
+    omega arith,
+    λ f. let one : IsPrice 1 =
+        record { least = omega arith; most = omega arith } in (one, (one, (one, (one, tt)))),
+  );
   waits = λ ts ss all. omega arith;
   steps = λ setting decls ts ss run.
-      stepwise_steps (R setting ts ss) SumsAt (λ n m. n ≡ m) (places summing setting ts ss) (steps setting ts ss) memory_words
+      stepwise_steps (R setting ts ss) SumsAt (λ n m. n ≡ m) (places summing setting ts ss) (steps setting ts ss)
+      memory_words
       (λ a x t y s at. at) (λ a x t y s at. at)
       (λ n t s home home' at at' v v' p. (tt, tt))
-      (words_begin plain adding setting ts ss (MadeOf (worded summing) setting ts ss) (λ f g n x y. Unit {0}) (λ f g m. refl) (λ f g m. refl) refl refl);
+      (words_begin plain adding setting ts ss (MadeOf (worded summing) setting ts ss) (λ f g n x y. Unit {0})
+      (λ f g m. refl) (λ f g m. refl) refl refl);
 }
 
 -- units of the same programs
-pub units_sum : (s t : UnitOf Relaying) → t.decls ≡ s.decls → t.globals ≡ s.globals → AreDefined (language adding) s.decls s.funs → AllMade IsSame t.funs s.funs → UnitRefines (language plain) (language adding) t s
+pub units_sum : (s t : UnitOf Relaying) → t.decls ≡ s.decls → t.globals ≡ s.globals →
+    AreDefined (language adding) s.decls s.funs → AllMade IsSame t.funs s.funs →
+    UnitRefines (language plain) (language adding) t s
 units_sum s t d g defined h = units_pass (worded summing) (worded_is summing summing_shows) t s d g defined h

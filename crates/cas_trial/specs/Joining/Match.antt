@@ -10,7 +10,7 @@
 --          └───────┘ └────────┘               └───────┘ └────────┘
 use Rattle.std.specs.Prelude.{ℕ, zero, suc, List, [], ◌∷◌, ◌++◌, Option, Some, None, if◌then◌else◌}
 use Rattle.cas_runs.specs.Label.{NameBytes, same_name}
-use Rattle.cas_runs.specs.Naming.{Value, Memory, Part, Layout}
+use Rattle.cas_runs.specs.Naming.{Value, Part, Layout}
 use Rattle.cas_runs.specs.Stepwise.{at_place}
 use Rattle.cas_runs.specs.Placing.{Spot, Placing, SameMoved, MemoryMoved, moved_part, Moved}
 use Rattle.cas_trial.specs.declared.joining.Apart.{Apart}

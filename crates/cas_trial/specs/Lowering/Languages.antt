@@ -1,6 +1,6 @@
 -- Two small languages of lists of instructions. In the one the word behind the lock is shown in one step; in the
 -- other it is read into a register first, and then put out. Only the first has an instruction that does nothing.
-use Rattle.std.specs.Prelude.{ℕ, List, [], ◌∷◌, length, Option, Some, None}
+use Rattle.std.specs.Prelude.{ℕ, List, [], ◌∷◌, Option, Some, None}
 use Rattle.cas_runs.specs.Naming.{Value, Number}
 use Rattle.cas_runs.specs.Bounds.{ByForms}
 use Rattle.cas_runs.specs.Access.{Accesses, Reads, Then}

@@ -13,4 +13,7 @@ loop-instruction-preserved c =
     let items = c.as_slice-instruction-items.result.now in
     let index = c.loop-instruction.instruction-index in
     let next : index + 1 ≡ suc index = omega arith in
-    subst (λ us. Makes us (take (index + 1) items)) (sym e.1) (subst (λ is. Makes (c.loop-instruction.made.items ++ e.0) is) (sym (ap (λ n. take n items) next ∙ take-suc items index _ c.loop-instruction-test.true)) (made_more c.loop-instruction.invariant e.0 _ e.2))
+    subst (λ us. Makes us (take (index + 1) items)) (sym e.1)
+    (subst (λ is. Makes (c.loop-instruction.made.items ++ e.0) is)
+    (sym (ap (λ n. take n items) next ∙ take-suc items index _ c.loop-instruction-test.true))
+    (made_more c.loop-instruction.invariant e.0 _ e.2))

@@ -1,4 +1,4 @@
-use Rattle.std.proofs.Common.{List, take}
+use Rattle.std.proofs.Common.{take}
 use Rattle.cas_trial.specs.Lowering.Makes.{Makes}
 use Rattle.cas_trial.proofs.lowering.lower.Given as goal
 

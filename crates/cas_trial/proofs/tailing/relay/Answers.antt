@@ -6,4 +6,6 @@ pub returns-clause-word : goal.returns-clause-word
 returns-clause-word c = IfOk-weaker c.translate.result _ _ (λ made h. h []) c.translate.ensures
 
 pub returns-clause-refines : goal.returns-clause-refines
-returns-clause-refines c = IfOk-weaker c.translate.result _ _ (λ made h. λ decls defined. c.functions_refine.ensures decls c.args.program.now made defined (h decls)) c.translate.ensures
+returns-clause-refines c = IfOk-weaker c.translate.result _ _
+    (λ made h. λ decls defined. c.functions_refine.ensures decls c.args.program.now made defined (h decls))
+    c.translate.ensures
