@@ -1,0 +1,2 @@
+pub mod Laid_out
+pub mod Settled
