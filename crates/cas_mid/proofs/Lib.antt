@@ -1,2 +1,3 @@
 pub mod Tariffs
 pub mod Lists
+pub mod Translating

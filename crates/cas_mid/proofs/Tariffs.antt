@@ -14,13 +14,18 @@ pub prices_more : (ms ns : List ℕ) → ArePrices ms → ArePrices ns → ArePr
 prices_more [] ns h i = i
 prices_more (m ∷ ms) ns h i = (h.0, prices_more ms ns h.1 i)
 
-module _ {E M C : Type 0} (x : Parts E M C) (values : (e : E) → ArePrices (x.value_prices e)) (locations : (m : M) → ArePrices (x.location_prices m)) (tests : (c : C) → ArePrices (x.test_prices c)) where
+module _ {E M C : Type 0} (x : Parts E M C) (values : (e : E) → ArePrices (x.value_prices e))
+    (locations : (m : M) → ArePrices (x.location_prices m)) (tests : (c : C) → ArePrices (x.test_prices c)) where
   one : (n : ℕ) → 1 ≤ n → n ≤ 1000 → IsPrice n
   one n least most = record { least = least; most = most }
 
   arguments_are : (es : List E) → ArePrices (argument_prices x es)
   arguments_are [] = tt
-  arguments_are (e ∷ es) = (one _ (omega arith) (omega arith), prices_more (x.value_prices e) (argument_prices x es) (values e) (arguments_are es))
+  arguments_are (e ∷ es) = (
+    one _ (omega arith) (omega arith),
+    prices_more (x.value_prices e) (argument_prices x es) (values e)
+        (arguments_are es),
+  )
 
   returned_are : (e : Option E) → ArePrices (returned_prices x e)
   returned_are None = tt
@@ -70,10 +75,18 @@ module _ {E M C : Type 0} (x : Parts E M C) (values : (e : E) → ArePrices (x.v
     weights_are : (a : Statement E M C) → ArePrices (weight_prices x a)
     weights_are skip = (one _ (omega arith) (omega arith), tt)
     weights_are (set t e) = (one _ (omega arith) (omega arith), values e)
-    weights_are (store m e) = (one _ (omega arith) (omega arith), prices_more (x.location_prices m) (x.value_prices e) (locations m) (values e))
+    weights_are (store m e) = (
+      one _ (omega arith) (omega arith),
+      prices_more (x.location_prices m) (x.value_prices e) (locations m)
+          (values e),
+    )
     weights_are (call t name es) = (one _ (omega arith) (omega arith), arguments_are es)
     weights_are (seq bs) = (one _ (omega arith) (omega arith), all_weights_are bs)
-    weights_are (if_else c a b) = (one _ (omega arith) (omega arith), prices_more (x.test_prices c ++ weight_prices x a) (weight_prices x b) (prices_more (x.test_prices c) (weight_prices x a) (tests c) (weights_are a)) (weights_are b))
+    weights_are (if_else c a b) = (
+      one _ (omega arith) (omega arith),
+      prices_more (x.test_prices c ++ weight_prices x a) (weight_prices x b)
+          (prices_more (x.test_prices c) (weight_prices x a) (tests c) (weights_are a)) (weights_are b),
+    )
     weights_are (loop a) = (one _ (omega arith) (omega arith), weights_are a)
     weights_are (block a) = (one _ (omega arith) (omega arith), (one _ (omega arith) (omega arith), weights_are a))
     weights_are (exit n) = (one _ (omega arith) (omega arith), tt)
@@ -84,11 +97,17 @@ module _ {E M C : Type 0} (x : Parts E M C) (values : (e : E) → ArePrices (x.v
 
     all_weights_are : (bs : Statements E M C) → ArePrices (all_weight_prices x bs)
     all_weights_are no_more = tt
-    all_weights_are (one_more a bs) = prices_more (weight_prices x a) (all_weight_prices x bs) (weights_are a) (all_weights_are bs)
+    all_weights_are (one_more a bs) = prices_more (weight_prices x a) (all_weight_prices x bs) (weights_are a)
+        (all_weights_are bs)
 
   -- the tariff of a language with statements
   pub tariff_is : {F : Type 0} (routine : F → Routine E M C) → IsTariff (activations x routine).tariff
-  tariff_is routine = (λ s. (step_is s.continuation, step_operands_are s.continuation), omega arith, λ f. (one _ (omega arith) (omega arith), weights_are (routine f).body))
+  tariff_is routine = (
+    λ s. (step_is s.continuation, step_operands_are s.continuation),
+    omega arith,
+    λ f.
+        (one _ (omega arith) (omega arith), weights_are (routine f).body),
+  )
 
 private_price : (n : ℕ) → 1 ≤ n → n ≤ 1000 → IsPrice n
 private_price n least most = record { least = least; most = most }
@@ -128,7 +147,11 @@ values_are (element g s a) = (private_price _ (omega arith) (omega arith), value
 values_are (load a) = (private_price _ (omega arith) (omega arith), values_are a)
 values_are (unop o a) = (private_price _ (omega arith) (omega arith), values_are a)
 values_are (binop o a b) = (operator_is o, prices_more (value_prices a) (value_prices b) (values_are a) (values_are b))
-values_are (if_ c a b) = (private_price _ (omega arith) (omega arith), prices_more (value_prices c ++ value_prices a) (value_prices b) (prices_more (value_prices c) (value_prices a) (values_are c) (values_are a)) (values_are b))
+values_are (if_ c a b) = (
+  private_price _ (omega arith) (omega arith),
+  prices_more (value_prices c ++ value_prices a) (value_prices b)
+      (prices_more (value_prices c) (value_prices a) (values_are c) (values_are a)) (values_are b),
+)
 
 targets_are : (m : Target) → ArePrices (target_prices m)
 targets_are (to_global g) = tt
@@ -136,5 +159,6 @@ targets_are (to_element g s a) = values_are a
 targets_are (to_pointer a) = values_are a
 
 -- the tariffs of Csharpminor and Cminor
-pub tariff_by : (address : Own) {F : Type 0} (routine : F → Routine Expression Target Expression) → IsTariff (activations (parts_by address) routine).tariff
+pub tariff_by : (address : Own) {F : Type 0} (routine : F → Routine Expression Target Expression) →
+    IsTariff (activations (parts_by address) routine).tariff
 tariff_by address routine = tariff_is (parts_by address) values_are targets_are values_are routine

@@ -1,9 +1,9 @@
 -- The expressions of Csharpminor and Cminor: their values, by what an address of an activation's own words is, and what
--- they cost.
+-- they cost. A value that may only be kept is refused where it is read.
 use Rattle.std.specs.Prelude.{ℕ, List, [], ◌∷◌, ◌++◌, slice_get}
 use Rattle.cas_syntax.specs.declared.tree.BinaryOperator.{BinaryOperator}
 use Rattle.cas_syntax.specs.declared.tree.BinaryOperator.TheVariants as op
-use Rattle.cas_runs.specs.Naming.{Value, Number}
+use Rattle.cas_runs.specs.Naming.{Value, Number, usable, usable_in}
 use Rattle.cas_runs.specs.Access.{Accesses, Reads, Loads, with_value}
 use Rattle.cas_mid.specs.declared.tree.Binop.{Binop}
 use Rattle.cas_mid.specs.declared.tree.Binop.TheVariants.{OnWords, PointerPlus, PlusPointer, PointerMinus, PointerDifference, Compare}
@@ -20,11 +20,11 @@ Own = Frame → ℕ → Value
 module _ {L : Type 0} (address : Own) (f : Frame) where
   abbrev pub value_of : Expression → (Value → Accesses L) → Accesses L
   value_of (word n) next = next (Number n)
-  value_of (temporary t) next = with_value (slice_get f.temporaries t) next
+  value_of (temporary t) next = with_value (usable_in (slice_get f.temporaries t)) next
   value_of (own n) next = next (address f n)
   value_of (global g) next = Reads g 0 (λ n. next (Number n))
   value_of (element g s a) next = value_of a (λ v. on_index s v (λ q. Reads g q (λ n. next (Number n))))
-  value_of (load a) next = value_of a (λ v. on_pointer v (λ home p. Loads home p next))
+  value_of (load a) next = value_of a (λ v. on_pointer v (λ home p. Loads home p (λ u. with_value (usable u) next)))
   value_of (unop o a) next = value_of a (λ v. on_word v (λ n. next (Number (unary_word o n))))
   value_of (binop o a b) next = value_of a (λ u. value_of b (λ v. binary o u v next))
   value_of (if_ c a b) next = value_of c (λ v. on_truth v (λ is. either (value_of a next) (value_of b next) is))

@@ -6,3 +6,4 @@ pub mod Code
 pub mod Csharpminor
 pub mod Cminor
 pub mod Rooms
+pub mod Translating

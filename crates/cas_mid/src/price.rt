@@ -1,6 +1,7 @@
 //! What the steps of Csharpminor and Cminor cost. A step costs the constant of its statement and those of the
 //! expressions that it takes; the weight of a function is the sum over its body. Both languages have the same
-//! constants, which pay for all that the later passes make of a form: `docs/DECISIONS.md` has the table of all languages.
+//! constants, which pay for all that the later passes make of a form: `docs/DECISIONS.md` has the table of all
+//! languages.
 
 /// A constant, or the address of a variable or of a word of the block.
 pub const CONSTANT: u32 = 13;
