@@ -1,5 +1,6 @@
 -- Clight as a language of the layer of calls. The meaning of statements and expressions is that of a thread's step:
--- what they ask for is asked here of the thread's share and of blocks of memory, each local a block. What a call passes to a
+-- what they ask for is asked here of the thread's share and of blocks of memory, each local a block. What a call passes
+-- to a
 -- local, as an argument or as a result, is stored by the activation's next step, as a part of it: so each step of a
 -- thread of a whole program is one step here.
 use Rattle.std.specs.Prelude.{ℕ, zero, suc, ◌+◌, Bool, true, false, List, [], ◌∷◌, map, length, sum, Option, Some, None, slice_get}
@@ -21,7 +22,7 @@ use Rattle.cas_step.specs.Env.{Entity}
 use Rattle.cas_step.specs.Evaluate.{EvalContext}
 use Rattle.cas_step.specs.Continuation as items
 use Rattle.cas_step.specs.Continuation.{ContItem, begin_all, Effect, effect_of}
-use Rattle.cas_runs.specs.Naming.{Home, Own, Value, Number, Pointer, same_home}
+use Rattle.cas_runs.specs.Naming.{Home, Own, Value, Number, Pointer, same_home, usable}
 use Rattle.cas_runs.specs.Bounds.{BySize}
 use Rattle.cas_runs.specs.Access.{Accesses, Reads, Writes, Loads, Stores, Looks, Then, Fails, with_value}
 use Rattle.cas_runs.specs.Calls.{Last, Goes, Takes, Gives, Puts, Calls, Returns, Activations}
@@ -173,16 +174,17 @@ effect_at a =
 abbrev pub step : ClightState → Accesses (Last ClightState)
 step a = storing a.function a.serial a.passed (effect_at a)
 
-abbrev pub also_passed : (local : ℕ) → Value → Option (List Passed) → Option (List Passed)
+abbrev pub also_passed : (local : ℕ) → Option Value → Option (List Passed) → Option (List Passed)
 also_passed k v None = None
-also_passed k v (Some hs) = Some (record { local = k; value = v } ∷ hs)
+also_passed k None (Some hs) = None
+also_passed k (Some v) (Some hs) = Some (record { local = k; value = v } ∷ hs)
 
--- so many arguments, from this local on
+-- so many arguments, from this local on; one that may only be kept is refused
 abbrev pub arguments : (local count : ℕ) → List Value → Option (List Passed)
 arguments k zero [] = Some []
 arguments k zero (v ∷ vs) = None
 arguments k (suc count) [] = None
-arguments k (suc count) (v ∷ vs) = also_passed k v (arguments (k + 1) count vs)
+arguments k (suc count) (v ∷ vs) = also_passed k (usable v) (arguments (k + 1) count vs)
 
 abbrev pub begun : ClightFun → (serial : ℕ) → Option (List Passed) → Option ClightState
 begun f serial None = None

@@ -27,10 +27,12 @@ module _ {L : Type 0} (f : Frame) (next : Bool → Accesses L) where
   true_value (Pointer home p) = refl
   true_value (Hidden what) = refl
 
-  tested : (p q : Expression) → value f (either p (binop (Compare op.Ne) p q) (is_null q)) (λ v. on_truth v next) ≡ value f (binop (Compare op.Ne) p q) (λ v. on_truth v next)
+  tested : (p q : Expression) → value f (either p (binop (Compare op.Ne) p q) (is_null q)) (λ v. on_truth v next)
+      ≡ value f (binop (Compare op.Ne) p q) (λ v. on_truth v next)
   tested p (word zero) = ap (λ k. value f p k) (fun_ext true_value)
   tested p _ = refl
 
-  pub same_condition : (a : Expression) → value f (condition_of a) (λ v. on_truth v next) ≡ value f a (λ v. on_truth v next)
+  pub same_condition : (a : Expression) → value f (condition_of a) (λ v. on_truth v next) ≡ value f a
+      (λ v. on_truth v next)
   same_condition (binop (Compare op.Ne) p q) = tested p q
   same_condition _ = refl

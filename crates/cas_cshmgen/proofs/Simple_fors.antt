@@ -13,7 +13,8 @@ use Rattle.cas_typed.specs.Modules.{filled_item, filled_module}
 use Rattle.cas_cshmgen.specs.Made.{ForsAreSimpleIn, ItemForsAreSimple}
 use Rattle.cas_cshmgen.specs.Match.{IsSimpleText, IsSimplePart, ForsAreSimple, AllForsAreSimple}
 
-simple_text : {limits : Limits} {a : StmtTree} {s r : List Token} → SpellsSimple limits a s r → IsSimpleText a × ForsAreSimple a
+simple_text : {limits : Limits} {a : StmtTree} {s r : List Token} → SpellsSimple limits a s r → IsSimpleText a
+    × ForsAreSimple a
 simple_text (y.sets target a first p s t r st may sa) = (tt, tt)
 simple_text (y.changes target op by a first p s t r is st sa) = (tt, tt)
 simple_text (y.increments target first p s r st) = (tt, tt)
@@ -23,7 +24,8 @@ simple_text (y.decrements_first target p s r st) = (tt, tt)
 simple_text (y.keeps_result x f bs p q q' s r sb) = (tt, tt)
 simple_text (y.calls f bs p q s r sb) = (tt, tt)
 
-local_text : {limits : Limits} {k : Kind} {a : StmtTree} {s r : List Token} → SpellsLocal limits k a s r → IsSimpleText a × ForsAreSimple a
+local_text : {limits : Limits} {k : Kind} {a : StmtTree} {s r : List Token} → SpellsLocal limits k a s r →
+    IsSimpleText a × ForsAreSimple a
 local_text (y.variable x a s r sa) = (tt, tt)
 local_text (y.pointer x a p s r sa) = (tt, tt)
 local_text (y.array x n j p o q r) = (tt, tt)
@@ -32,7 +34,8 @@ local_text (y.pointers x p q r out) = (tt, tt)
 local_text (y.arrays x n j p o q q' r out) = (tt, tt)
 local_text (y.array_values x n j p o q q' r out) = (tt, tt)
 
-locals_text : {limits : Limits} {k : Kind} {bs rest : StmtList} {s r : List Token} → SpellsLocals limits k bs rest s r → AllForsAreSimple rest → AllForsAreSimple bs
+locals_text : {limits : Limits} {k : Kind} {bs rest : StmtList} {s r : List Token} → SpellsLocals limits k bs rest s r →
+    AllForsAreSimple rest → AllForsAreSimple bs
 locals_text (y.last_local a rest s r sa) h = ((local_text sa).1, h)
 locals_text (y.one_local a bs rest p s t r sa sb) h = ((local_text sa).1, locals_text sb h)
 
@@ -62,7 +65,8 @@ mutual
   stmt_text (y.unlocks n x p q q' e r allowed) = tt
   stmt_text (y.prints n a p q q' e s r allowed sa) = tt
 
-  body_text : {limits : Limits} {n : ℕ} {bs : StmtList} {s r : List Token} → SpellsStmts limits n bs s r → AllForsAreSimple bs
+  body_text : {limits : Limits} {n : ℕ} {bs : StmtList} {s r : List Token} → SpellsStmts limits n bs s r →
+      AllForsAreSimple bs
   body_text (y.ended n r) = tt
   body_text (y.a_stmt n a bs s t r sa sb) = (stmt_text sa, body_text sb)
   body_text (y.locals n k bs rest p s t u r allowed sk sl sb) = locals_text sl (body_text sb)
@@ -75,7 +79,8 @@ item_text (i.a_prototype x form xs held d e s t r se sh) = tt
 item_text (i.a_function x form xs held body p closing s t r sh sb) = body_text sb
 item_text (i.a_plain_global x ty d by p s t r out follows se sr) = tt
 
-items_text : {limits : Limits} {items : List ItemTree} {s r : List Token} → SpellsItems limits items s r → ForsAreSimpleIn items
+items_text : {limits : Limits} {items : List ItemTree} {s r : List Token} → SpellsItems limits items s r →
+    ForsAreSimpleIn items
 items_text (i.no_item r) = tt
 items_text (i.an_item a bs s t r sa sb) = (item_text sa, items_text sb)
 

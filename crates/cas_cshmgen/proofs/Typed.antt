@@ -27,7 +27,8 @@ use Rattle.cas_cshmgen.proofs.Weights.{length_append, AreBounded, all_bounded}
 
 total_sum : (xs : List ℕ) → total xs ≡ sum xs
 total_sum [] = refl
-total_sum (x ∷ xs) = let rest = total_sum xs in let more : sum (x ∷ xs) ≡ x + sum xs = sum_by-cons (λ (i : ℕ). i) x xs in omega (arith, rest, more)
+total_sum (x ∷ xs) = let rest = total_sum xs in let more : sum (x ∷ xs) ≡ x + sum xs =
+    sum_by-cons (λ (i : ℕ). i) x xs in omega (arith, rest, more)
 
 types_of : (body : TypedStmtList) (n first : ℕ) (tys : List Ty) → map (λ v. v.ty) (locals_in body n first tys) ≡ tys
 types_of body n first [] = refl
@@ -44,7 +45,8 @@ mutual
   few_locals (tree.assign p target o a) = omega arith
   few_locals (tree.call p x f args) = omega arith
   few_locals (tree.block p bs) = let h = few_in_all bs in omega (arith, h)
-  few_locals (tree.if_ p c a b) = let h = few_locals a in let k = few_in_part b in let m = length_append (locals_of a) (locals_of_option b) in omega (arith, h, k, m)
+  few_locals (tree.if_ p c a b) = let h = few_locals a in let k = few_in_part b in let m =
+      length_append (locals_of a) (locals_of_option b) in omega (arith, h, k, m)
   few_locals (tree.while_ p c a) = let h = few_locals a in omega (arith, h)
   few_locals (tree.do_ p a c) = let h = few_locals a in omega (arith, h)
   few_locals (tree.for_ p i c u a) =
@@ -64,11 +66,13 @@ mutual
 
   few_in_all : (bs : StmtList) → length (locals_of_list bs) ≤ nodes_of_stmts bs
   few_in_all tree.no_more = omega arith
-  few_in_all (tree.one_more a bs) = let h = few_locals a in let k = few_in_all bs in let m = length_append (locals_of a) (locals_of_list bs) in omega (arith, h, k, m)
+  few_in_all (tree.one_more a bs) = let h = few_locals a in let k = few_in_all bs in let m =
+      length_append (locals_of a) (locals_of_list bs) in omega (arith, h, k, m)
 
 -- the stores of arguments
 
-stores_price : (k count : ℕ) (rest : Csharps) → total (all_weight_prices csharp_parts (stored_arguments k count rest)) ≡ count * 32 + total (all_weight_prices csharp_parts rest)
+stores_price : (k count : ℕ) (rest : Csharps) → total (all_weight_prices csharp_parts (stored_arguments k count rest))
+    ≡ count * 32 + total (all_weight_prices csharp_parts rest)
 stores_price k zero rest = omega arith
 stores_price k (suc count) rest = let more = stores_price (k + 1) count rest in omega (arith, more)
 
@@ -88,7 +92,8 @@ closing_count (Ptr k) = omega arith
 closing_count Void = omega arith
 closing_count (Array k n) = omega arith
 
-module _ (before decls : List Decl) (f : FunTree) (r : TypedFunTree) (typed : IsFunction before f r) (few : length (parameter_types f.decl.form) ≤ 16) (fors : AllForsAreSimple f.body) where
+module _ (before decls : List Decl) (f : FunTree) (r : TypedFunTree) (typed : IsFunction before f r)
+    (few : length (parameter_types f.decl.form) ≤ 16) (fors : AllForsAreSimple f.body) where
   abbrev G : ClightFun
   G = function_of decls f r
 
@@ -112,15 +117,20 @@ module _ (before decls : List Decl) (f : FunTree) (r : TypedFunTree) (typed : Is
     parameters = few;
   }
 
-  pub weighs_no_more : (c : CsharpFun) → csharp_routine c ≡ made_routine G → weight_of csharpminor.tariff c ≤ weight_of clight.tariff G
-  weighs_no_more c same = subst (λ (v : Routine Expression Target Expression). total (13 ∷ weight_prices csharp_parts v.body) + 18 * (v.names + v.parameters + 8) ≤ weight_of clight.tariff G) (sym same)
+  pub weighs_no_more : (c : CsharpFun) → csharp_routine c ≡ made_routine G →
+      weight_of csharpminor.tariff c ≤ weight_of clight.tariff G
+  weighs_no_more c same =
+      subst (λ (v : Routine Expression Target Expression). total (13 ∷ weight_prices csharp_parts v.body) + 18 *
+      (v.names + v.parameters + 8) ≤ weight_of clight.tariff G) (sym same)
       (let w = bounds.weighs (closing (result_of G)) in
       let s = stores_price 0 (parameters_of G) (made_stmts decls (parameters_of G) r.body (closing (result_of G))) in
       let e = closing_price (result_of G) in
       let n = count in omega (arith, w, s, e, n, few))
 
-  pub has_no_more_room : (c : CsharpFun) → csharp_routine c ≡ made_routine G → room_of (csharp_routine c) ≤ frame_bound G.nodes (cells_of G)
-  has_no_more_room c same = subst (λ (v : Routine Expression Target Expression). room_of v ≤ frame_bound G.nodes (cells_of G)) (sym same)
+  pub has_no_more_room : (c : CsharpFun) → csharp_routine c ≡ made_routine G →
+      room_of (csharp_routine c) ≤ frame_bound G.nodes (cells_of G)
+  has_no_more_room c same =
+      subst (λ (v : Routine Expression Target Expression). room_of v ≤ frame_bound G.nodes (cells_of G)) (sym same)
       (let w = bounds.counts (closing (result_of G)) in
       let s = stores_count 0 (parameters_of G) (made_stmts decls (parameters_of G) r.body (closing (result_of G))) in
       let e = closing_count (result_of G) in

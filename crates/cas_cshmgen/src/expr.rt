@@ -66,7 +66,8 @@ fn binop(
     a: CsharpExpr,
     b: CsharpExpr,
 ) -> Result<CsharpExpr, NoMemory>
-    ensures { IfOk result (λ made. csharp_expression made ≡ x.binop operator (csharp_expression a) (csharp_expression b)) }
+    ensures { IfOk result (λ made. csharp_expression made ≡ x.binop operator (csharp_expression a)
+        (csharp_expression b)) }
 {
     let a = Box::new(alloc, a)?;
     let b = Box::new(alloc, b)?;
@@ -80,7 +81,8 @@ fn choice(
     a: CsharpExpr,
     b: CsharpExpr,
 ) -> Result<CsharpExpr, NoMemory>
-    ensures { IfOk result (λ made. csharp_expression made ≡ x.if_ (condition_of (csharp_expression c)) (csharp_expression a) (csharp_expression b)) }
+    ensures { IfOk result (λ made. csharp_expression made ≡ x.if_ (condition_of (csharp_expression c))
+        (csharp_expression a) (csharp_expression b)) }
 {
     let c = Box::new(alloc, condition(c))?;
     let a = Box::new(alloc, a)?;

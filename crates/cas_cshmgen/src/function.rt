@@ -48,7 +48,8 @@ fn make_body(alloc: Global, body: Body<'_>, ret: Ty, parts: &[u32]) -> Result<Cs
     requires table { IsTable body.rows.now }
     requires within { All (λ i. (0 ≤ i) × (i < length body.rows.now)) parts.now }
     ensures { (bs : TypedStmtList) → AreRows body.entry.rows.now 0 bs parts.now
-        → IfOk result (λ made. csharp_statement made ≡ x.seq (stored_arguments 0 body.entry.result (made_stmts body.entry.decls.now body.entry.result bs (closing ret)))) }
+        → IfOk result (λ made. csharp_statement made ≡ x.seq (stored_arguments 0 body.entry.result
+        (made_stmts body.entry.decls.now body.entry.result bs (closing ret)))) }
 {
     let mut all = store_arguments(alloc, body.result)?;
     let mut stmts = make_all(alloc, body, 0, parts)?;

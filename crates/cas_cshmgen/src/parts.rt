@@ -43,7 +43,8 @@ pub fn if_else(
     a: CsharpStmt,
     b: CsharpStmt,
 ) -> Result<CsharpStmt, NoMemory>
-    ensures { IfOk result (λ made. csharp_statement made ≡ x.if_else (csharp_expression c) (csharp_statement a) (csharp_statement b)) }
+    ensures { IfOk result (λ made. csharp_statement made ≡ x.if_else (csharp_expression c) (csharp_statement a)
+        (csharp_statement b)) }
 {
     let a = Box::new(alloc, a)?;
     let b = Box::new(alloc, b)?;
@@ -105,7 +106,8 @@ pub fn assign(
     target: &TypedTarget,
     value: &TypedExpr,
 ) -> Result<CsharpStmt, NoMemory>
-    ensures { IfOk result (λ made. csharp_statement made ≡ x.store (made_target decls.now (typed_target_tree target.now)) (made_expr decls.now (typed_expr_tree value.now))) }
+    ensures { IfOk result (λ made. csharp_statement made ≡ x.store (made_target decls.now
+        (typed_target_tree target.now)) (made_expr decls.now (typed_expr_tree value.now))) }
 {
     let target = make_target(alloc, decls, target)?;
     let value = make_expr(alloc, decls, value)?;
@@ -132,7 +134,8 @@ pub fn call(
     item: u32,
     args: &[TypedExpr],
 ) -> Result<CsharpStmt, NoMemory>
-    ensures { IfOk result (λ made. csharp_statement made ≡ made_call decls.now from kept item (map typed_expr_tree args.now)) }
+    ensures { IfOk result (λ made. csharp_statement made ≡ made_call decls.now from kept item
+        (map typed_expr_tree args.now)) }
 {
     let args = make_exprs(alloc, decls, args)?;
     let name = name_at(alloc, decls, item)?;

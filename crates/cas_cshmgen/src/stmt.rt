@@ -33,7 +33,8 @@ fn row_at(rows: &[StmtRow], n: u32) -> &StmtRow
     requires table { IsTable rows.now }
     requires within { n < length rows.now }
     ensures parts { PartsAreWithin n (length rows.now) result.now.form }
-    ensures stands { (a : TypedStmtTree) → At rows.now n (IsRow rows.now n a) → IsRow rows.now n a result.now.place result.now.form }
+    ensures stands { (a : TypedStmtTree) → At rows.now n (IsRow rows.now n a)
+        → IsRow rows.now n a result.now.place result.now.form }
 {
     &rows[n as usize]
 }
@@ -124,7 +125,8 @@ pub fn make_all(
     requires table { IsTable body.rows.now }
     requires within { All (λ i. (least ≤ i) × (i < length body.rows.now)) parts.now }
     ensures { (m : ℕ) (bs : TypedStmtList) → AreRows body.entry.rows.now m bs parts.now
-        → IfOk result (λ made. (after : Csharps) → csharp_list made.items after ≡ made_stmts body.entry.decls.now body.entry.result bs after) }
+        → IfOk result (λ made. (after : Csharps) → csharp_list made.items after
+        ≡ made_stmts body.entry.decls.now body.entry.result bs after) }
 {
     let mut all = Vec::new(alloc);
     for part in parts {
@@ -146,9 +148,12 @@ fn branch(
     requires table { IsTable body.rows.now }
     requires first { (n < first) × (first < length body.rows.now) }
     requires second { IsPartWithin n (length body.rows.now) second }
-    ensures { (a : TypedStmtTree) (m : ℕ) (o : TypedStmtOption) → At body.entry.rows.now first (IsRow body.entry.rows.now first a)
+    ensures { (a : TypedStmtTree) (m : ℕ) (o : TypedStmtOption)
+        → At body.entry.rows.now first (IsRow body.entry.rows.now first a)
         → IsPartRow body.entry.rows.now m o second
-        → IfOk result (λ made. csharp_statement made ≡ x.if_else (made_condition body.entry.decls.now (typed_expr_tree condition.now)) (made_stmt body.entry.decls.now body.entry.result a) (made_part body.entry.decls.now body.entry.result o)) }
+        → IfOk result (λ made. csharp_statement made ≡ x.if_else (made_condition body.entry.decls.now
+        (typed_expr_tree condition.now)) (made_stmt body.entry.decls.now body.entry.result a)
+        (made_part body.entry.decls.now body.entry.result o)) }
 {
     let condition = make_condition(alloc, body.decls, condition)?;
     let yes = make_stmt(alloc, body, first)?;
@@ -179,7 +184,8 @@ fn make_while(
     requires table { IsTable body.rows.now }
     requires inner { (n < inner) × (inner < length body.rows.now) }
     ensures { (a : TypedStmtTree) → At body.entry.rows.now inner (IsRow body.entry.rows.now inner a)
-        → IfOk result (λ made. csharp_statement made ≡ x.block (while_loop body.entry.decls.now (typed_expr_tree condition.now) (made_stmt body.entry.decls.now body.entry.result a))) }
+        → IfOk result (λ made. csharp_statement made ≡ x.block (while_loop body.entry.decls.now
+        (typed_expr_tree condition.now) (made_stmt body.entry.decls.now body.entry.result a))) }
 {
     let test = test(alloc, body.decls, condition)?;
     let turn = turn(alloc, body, n, inner)?;
@@ -197,7 +203,8 @@ fn make_do(
     requires table { IsTable body.rows.now }
     requires inner { (n < inner) × (inner < length body.rows.now) }
     ensures { (a : TypedStmtTree) → At body.entry.rows.now inner (IsRow body.entry.rows.now inner a)
-        → IfOk result (λ made. csharp_statement made ≡ x.block (do_loop body.entry.decls.now (typed_expr_tree condition.now) (made_stmt body.entry.decls.now body.entry.result a))) }
+        → IfOk result (λ made. csharp_statement made ≡ x.block (do_loop body.entry.decls.now
+        (typed_expr_tree condition.now) (made_stmt body.entry.decls.now body.entry.result a))) }
 {
     let turn = turn(alloc, body, n, inner)?;
     let test = test(alloc, body.decls, condition)?;
@@ -220,7 +227,10 @@ fn make_for(
     requires inner { (n < inner) × (inner < length body.rows.now) }
     ensures { (k m : ℕ) (i u : TypedStmtOption) (a : TypedStmtTree) → IsPartRow body.entry.rows.now k i first
         → IsPartRow body.entry.rows.now m u after → At body.entry.rows.now inner (IsRow body.entry.rows.now inner a)
-        → IfOk result (λ made. csharp_statement made ≡ x.seq (x.one_more (made_part body.entry.decls.now body.entry.result i) (one (x.block (for_loop body.entry.decls.now (optional_expr_tree condition.now) (made_part body.entry.decls.now body.entry.result u) (made_stmt body.entry.decls.now body.entry.result a)))))) }
+        → IfOk result (λ made. csharp_statement made ≡ x.seq (x.one_more
+        (made_part body.entry.decls.now body.entry.result i) (one (x.block (for_loop body.entry.decls.now
+        (optional_expr_tree condition.now) (made_part body.entry.decls.now body.entry.result u)
+        (made_stmt body.entry.decls.now body.entry.result a)))))) }
 {
     let first = make_part(alloc, body, n, first)?;
     let test = optional_test(alloc, body.decls, condition)?;

@@ -79,7 +79,8 @@ fn data(alloc: Global, items: &[Item]) -> Result<Seq<Data>, NoMemory>
 
 // The function with a body that an item is, if it is one.
 fn body_of(item: &Item) -> Option<&Fun>
-    ensures { MatchOption result (HasNoBody (item_tree item.now)) (λ fun. item_tree item.now ≡ define (fun_tree fun.now)) }
+    ensures { MatchOption result (HasNoBody (item_tree item.now)) (λ fun. item_tree item.now
+        ≡ define (fun_tree fun.now)) }
 {
     match item {
         Item::Global { .. } | Item::Prototype { .. } => None,
@@ -98,7 +99,8 @@ fn add_body<'a>(
     requires few { length (parameter_types fun.now.decl.form) ≤ 16 }
     requires fit { FunctionsFit decls.now left.now }
     ensures fit { IfOk result (λ now. FunctionsFit decls.now now.now) }
-    ensures added { (rs : List TypedFunTree) (before : List ClightFun) → AreFunctionsOf rs left.now → AreMadeOf all.old.items before
+    ensures added { (rs : List TypedFunTree) (before : List ClightFun) → AreFunctionsOf rs left.now
+        → AreMadeOf all.old.items before
         → IfOk result (λ now. IsAdded decls.now (define (fun_tree fun.now)) rs before all.new.items now.now) }
 {
     match left.split_first() {
@@ -122,7 +124,8 @@ fn add_function<'a>(
     requires few { HasFew (item_tree item.now) }
     requires fit { FunctionsFit decls.now left.now }
     ensures fit { IfOk result (λ now. FunctionsFit decls.now now.now) }
-    ensures added { (rs : List TypedFunTree) (before : List ClightFun) → AreFunctionsOf rs left.now → AreMadeOf all.old.items before
+    ensures added { (rs : List TypedFunTree) (before : List ClightFun) → AreFunctionsOf rs left.now
+        → AreMadeOf all.old.items before
         → IfOk result (λ now. IsAdded decls.now (item_tree item.now) rs before all.new.items now.now) }
 {
     match body_of(item) {
@@ -169,16 +172,19 @@ fn make_unit(alloc: Global, typed: &Typed) -> Result<Unit<CsharpFun>, NoMemory>
 }
 
 /// What Cshmgen makes of a typed module. It refines the module's unit of Clight, and its functions weigh no more and
-/// have no greater room, where the first and last parts of each `for` are assignments, calls or locals, as in each text.
+/// have no greater room, where the first and last parts of each `for` are assignments, calls or locals, as in each
+/// text.
 ///
 /// # Errors
 ///
 /// `NoMemory` for want of memory.
 pub fn cshmgen(alloc: Global, typed: &Typed) -> Result<Unit<CsharpFun>, NoMemory>
     ensures made { IfOk result (λ unit. (r : TypedModuleTree) → IsTypedAs typed.now r → IsMadeUnit unit (unit_of r)) }
-    ensures refines { IfOk result (λ unit. (r : TypedModuleTree) → IsTypedAs typed.now r → ForsAreSimpleIn r.module_tree.items
+    ensures refines { IfOk result (λ unit. (r : TypedModuleTree) → IsTypedAs typed.now r
+        → ForsAreSimpleIn r.module_tree.items
         → UnitRefines (language csharpminor) (language clight) unit (unit_of r)) }
-    ensures bounds { IfOk result (λ unit. (r : TypedModuleTree) → IsTypedAs typed.now r → ForsAreSimpleIn r.module_tree.items
+    ensures bounds { IfOk result (λ unit. (r : TypedModuleTree) → IsTypedAs typed.now r
+        → ForsAreSimpleIn r.module_tree.items
         → Both IsNoLarger unit.funs (unit_of r).funs) }
 {
     make_unit(alloc, typed)

@@ -11,5 +11,7 @@ returns c = λ bs are.
     let all = c.in_ok-all.all.items in
     let stmts = c.in_ok-stmts.stmts.items in
     c.seq.ensures
-    ∙ ap seq (c.in_ok-close.ensures ∙ ap (λ xs. csharp_list xs (closing ret)) c.in_ok-append.ensures.items ∙ list_after all stmts (closing ret)
-    ∙ c.in_ok-all.ensures (csharp_list stmts (closing ret)) ∙ ap (stored_arguments 0 c.args.body.result) (c.in_ok-stmts.ensures 0 bs are (closing ret)))
+    ∙ ap seq (c.in_ok-close.ensures ∙ ap (λ xs. csharp_list xs (closing ret)) c.in_ok-append.ensures.items
+    ∙ list_after all stmts (closing ret)
+    ∙ c.in_ok-all.ensures (csharp_list stmts (closing ret))
+    ∙ ap (stored_arguments 0 c.args.body.result) (c.in_ok-stmts.ensures 0 bs are (closing ret)))

@@ -6,4 +6,5 @@ use Rattle.cas_cshmgen.proofs.Simulation.{cshmgen}
 use Rattle.cas_cshmgen.proofs.laws.made_functions_refine.Goals as goal
 
 pub returns : goal.returns
-returns c = λ decls g f defined made. functions_pass (unmoved cshmgen) (unmoved_is cshmgen cshmgen_shown) decls f g defined made
+returns c = λ decls g f defined made. functions_pass (unmoved cshmgen) (unmoved_is cshmgen cshmgen_shown)
+    decls f g defined made

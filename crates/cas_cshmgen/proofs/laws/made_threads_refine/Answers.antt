@@ -6,4 +6,5 @@ use Rattle.cas_cshmgen.proofs.Simulation.{cshmgen}
 use Rattle.cas_cshmgen.proofs.laws.made_threads_refine.Goals as goal
 
 pub returns : goal.returns
-returns c = λ edge ss ts entry fits decls globals made. threads_pass (unmoved cshmgen) (unmoved_is cshmgen cshmgen_shown) edge ts ss entry fits decls globals made
+returns c = λ edge ss ts entry fits decls globals made. threads_pass (unmoved cshmgen)
+    (unmoved_is cshmgen cshmgen_shown) edge ts ss entry fits decls globals made

@@ -6,4 +6,5 @@ use Rattle.cas_cshmgen.proofs.Simulation.{cshmgen}
 use Rattle.cas_cshmgen.proofs.laws.made_units_refine.Goals as goal
 
 pub returns : goal.returns
-returns c = λ s t decls globals defined made. units_pass (unmoved cshmgen) (unmoved_is cshmgen cshmgen_shown) t s decls globals defined made
+returns c = λ s t decls globals defined made. units_pass (unmoved cshmgen) (unmoved_is cshmgen cshmgen_shown)
+    t s decls globals defined made

@@ -35,4 +35,5 @@ decreases-make_for l = 8 * (length l.body.rows.now - l.n) + 4
 abbrev pub invariant-make_all-loop-part : goal.invariant-make_all-loop-part
 invariant-make_all-loop-part l = (m : ℕ) (bs : TypedStmtList) → AreRows l.body.rows.now m bs l.parts →
     (k : ℕ) × (rest : TypedStmtList) × AreRows l.body.rows.now k rest (drop l.part-index l.parts)
-    × ((after : Csharps) → csharp_list l.all.items (made_stmts l.body.decls.now l.body.result rest after) ≡ made_stmts l.body.decls.now l.body.result bs after)
+    × ((after : Csharps) → csharp_list l.all.items (made_stmts l.body.decls.now l.body.result rest after)
+    ≡ made_stmts l.body.decls.now l.body.result bs after)

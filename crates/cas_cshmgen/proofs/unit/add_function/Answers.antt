@@ -9,8 +9,11 @@ add_body-requires-clause-few c = subst (λ (a : ItemTree). HasFew a) c.in-Some.e
 
 pub returns-in-None-clause-added : goal.returns-in-None-clause-added
 returns-in-None-clause-added c = λ rs before are made.
-    added_nothing c.args.decls.now (item_tree c.args.item.now) rs before c.args.all.now.items c.args.left.now (no_body c.args.decls.now (item_tree c.args.item.now) rs c.in-None.ensures) are made
+    added_nothing c.args.decls.now (item_tree c.args.item.now) rs before c.args.all.now.items c.args.left.now
+    (no_body c.args.decls.now (item_tree c.args.item.now) rs c.in-None.ensures) are made
 
 pub returns-in-Some-clause-added : goal.returns-in-Some-clause-added
 returns-in-Some-clause-added c = λ rs before are made.
-    subst (λ (a : ItemTree). IfOk c.add_body.result (λ now. IsAdded c.args.decls.now a rs before c.add_body.new.all.items now.now)) (sym c.in-Some.ensures) (c.add_body.ensures.added rs before are made)
+    subst (λ (a : ItemTree). IfOk c.add_body.result
+    (λ now. IsAdded c.args.decls.now a rs before c.add_body.new.all.items now.now)) (sym c.in-Some.ensures)
+    (c.add_body.ensures.added rs before are made)

@@ -12,7 +12,8 @@ each-init c = record {
   fit = c.requires.fit;
   built = λ rs are.
       let items = map item_tree c.args.items.now in
-      subst (λ (made : List CsharpFun). IsBuilt c.args.decls.now items items rs made c.args.functions.now) (sym c.new-all.ensures.items)
+      subst (λ (made : List CsharpFun). IsBuilt c.args.decls.now items items rs made c.args.functions.now)
+      (sym c.new-all.ensures.items)
       (built_first c.args.decls.now items rs c.args.functions.now are);
 }
 
@@ -27,7 +28,9 @@ each-preserved c =
       few = few.1;
       fit = c.in_ok-left.ensures.fit;
       built = λ rs are.
-          let b = subst (λ (xs : List Item). IsBuilt ds items (map item_tree xs) rs c.each.all.items c.each.left.now) c.in-Some.ensures.cases.0 (c.each.invariant.built rs are) in
-          built_on ds items (item_tree item) (map item_tree others) rs c.each.all.items c.add_function.new.all.items c.each.left.now c.in_ok-left.left.now b
+          let b = subst (λ (xs : List Item). IsBuilt ds items (map item_tree xs) rs c.each.all.items c.each.left.now)
+          c.in-Some.ensures.cases.0 (c.each.invariant.built rs are) in
+          built_on ds items (item_tree item) (map item_tree others) rs c.each.all.items c.add_function.new.all.items
+          c.each.left.now c.in_ok-left.left.now b
           (c.in_ok-left.ensures.added b.later b.before b.functions b.is_made);
     }

@@ -12,7 +12,8 @@ abbrev pub invariant-each : goal.invariant-each
 invariant-each l = record {
   few : HaveFew (map item_tree l.rest);
   fit : FunctionsFit l.decls l.left;
-  built : (rs : List TypedFunTree) → AreFunctionsOf rs l.functions → IsBuilt l.decls (map item_tree l.items) (map item_tree l.rest) rs l.all.items l.left;
+  built : (rs : List TypedFunTree) → AreFunctionsOf rs l.functions →
+      IsBuilt l.decls (map item_tree l.items) (map item_tree l.rest) rs l.all.items l.left;
 }
 
 abbrev pub decreases-each : goal.decreases-each
