@@ -1,0 +1,13 @@
+pub mod Acting
+pub mod Calling
+pub mod Entering
+pub mod Evaluating
+pub mod Leaving
+pub mod Locking
+pub mod Meeting
+pub mod Owners
+pub mod Running
+pub mod Sorted
+pub mod Stepping
+pub mod Storing
+pub mod Threading

@@ -1,0 +1,4 @@
+pub mod Alike
+pub mod Matching
+pub mod Steps
+pub mod Threads

@@ -1,0 +1,19 @@
+//! Laws of the bridge, each the contract of a function without effect.
+
+ghost use Rattle.cas_bridge.specs.Steps.{StepsAgree};
+ghost use Rattle.cas_bridge.specs.Threads.{ThreadsAgree, ThreadsAreFramed, ThreadsStart};
+
+/// Each step of a thread of a whole program, whose words are its share's, is that of the same activation in the layer
+/// of calls, and back.
+pub fn steps_agree()
+    ensures { StepsAgree }
+{}
+
+/// A thread of a program and the same thread over label runs: each step of the one, through calls and returns, is that
+/// of the other, with its act, its footprint and the words of its share. They are at the same where they begin, and stay
+/// so where other threads change words that they don't hold.
+pub fn threads_agree()
+    ensures starts { ThreadsStart }
+    ensures steps { ThreadsAgree }
+    ensures frame { ThreadsAreFramed }
+{}
