@@ -1,0 +1,6 @@
+pub mod Query
+pub mod Trees
+pub mod Operations
+pub mod Code
+pub mod CminorSel
+pub mod Rooms
