@@ -1,0 +1,9 @@
+pub mod Usable
+pub mod Queries
+pub mod Values
+pub mod Statements
+pub mod Leading
+pub mod Entry
+pub mod Pass
+pub mod Making
+pub mod Weighing
