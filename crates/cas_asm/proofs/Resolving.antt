@@ -24,13 +24,15 @@ use Rattle.cas_asm.specs.Effect.{effect_of, word_of_mem, location_of, source_ope
 use Rattle.cas_asm.specs.Resolve.{StandsFirst, resolved, resolved_mem, resolved_source, resolved_target, resolved_callee}
 
 module _ {S : Type 0} (links : Links S) where
-  word_same : (sym : Option S) (disp : ℕ) → word_of_mem in_image (option_map links.address sym) disp ≡ word_of_mem links sym disp
+  word_same : (sym : Option S) (disp : ℕ) → word_of_mem in_image (option_map links.address sym)
+      disp ≡ word_of_mem links sym disp
   word_same None disp = refl
   word_same (Some s) disp = refl
 
   location_same : (m : Mem S) → location_of in_image (resolved_mem links m) ≡ location_of links m
   location_same m =
-      ap (λ (w : ℕ). let l : Location = record { word = w; base = m.base; index = m.index } in l) (word_same m.sym (cast_unsigned w32 m.disp))
+      ap (λ (w : ℕ). let l : Location = record { word = w; base = m.base; index = m.index } in l)
+      (word_same m.sym (cast_unsigned w32 m.disp))
 
   source_same : (from : Source S) → source_operand in_image (resolved_source links from) ≡ source_operand links from
   source_same (source.Reg r) = refl
@@ -41,22 +43,29 @@ module _ {S : Type 0} (links : Links S) where
   target_same (target.Label l) = refl
   target_same (target.Function f) = refl
 
-  callee_same : StandsFirst links → (f : Callee S) → callee_place in_image (resolved_callee links f) ≡ callee_place links f
+  callee_same : StandsFirst links → (f : Callee S) → callee_place in_image (resolved_callee links f)
+      ≡ callee_place links f
   callee_same h callee.Lock = sym h.0
   callee_same h callee.Unlock = sym h.1
   callee_same h (callee.Function f) = refl
 
-  pub resolving_keeps_effects : StandsFirst links → (i : Instr S) → effect_of in_image (resolved links i) ≡ effect_of links i
-  resolving_keeps_effects h (instr.Mov r from) = ap (λ (o : Operand). copies o (to.Register r) next.Following) (source_same from)
-  resolving_keeps_effects h (instr.Store m from) = ap (λ (l : Location). copies (value_operand from) (to.Memory l) next.Following) (location_same m)
+  pub resolving_keeps_effects : StandsFirst links → (i : Instr S) →
+      effect_of in_image (resolved links i) ≡ effect_of links i
+  resolving_keeps_effects h (instr.Mov r from) = ap (λ (o : Operand). copies o (to.Register r) next.Following)
+      (source_same from)
+  resolving_keeps_effects h (instr.Store m from) =
+      ap (λ (l : Location). copies (value_operand from) (to.Memory l) next.Following) (location_same m)
   resolving_keeps_effects h (instr.Extend how r from) = refl
-  resolving_keeps_effects h (instr.Lea r m) = ap (λ (l : Location). copies (operand.Address l) (to.Register r) next.Following) (location_same m)
+  resolving_keeps_effects h (instr.Lea r m) =
+      ap (λ (l : Location). copies (operand.Address l) (to.Register r) next.Following) (location_same m)
   resolving_keeps_effects h (instr.Operate what r from) =
-      ap (λ (o : Operand). computes (Operates what) (operand.Register r) o (flags_of_operation what) (to.Register r)) (source_same from)
+      ap (λ (o : Operand). computes (Operates what) (operand.Register r) o (flags_of_operation what) (to.Register r))
+      (source_same from)
   resolving_keeps_effects h (instr.Cmp r from) =
       ap (λ (o : Operand). computes (Operates Sub) (operand.Register r) o OfDifference to.Nowhere) (source_same from)
   resolving_keeps_effects h (instr.CmpMem m n) =
-      ap (λ (l : Location). computes (Operates Sub) (operand.Memory l) (operand.Number n) OfDifference to.Nowhere) (location_same m)
+      ap (λ (l : Location). computes (Operates Sub) (operand.Memory l) (operand.Number n) OfDifference to.Nowhere)
+      (location_same m)
   resolving_keeps_effects h (instr.Test r from) = refl
   resolving_keeps_effects h (instr.Neg r) = refl
   resolving_keeps_effects h (instr.Not r) = refl
@@ -68,9 +77,11 @@ module _ {S : Type 0} (links : Links S) where
   resolving_keeps_effects h (instr.Pop r) = refl
   resolving_keeps_effects h (instr.Jmp t) = ap (λ (p : ℕ). goes (next.To p)) (target_same t)
   resolving_keeps_effects h (instr.JumpIf on l) = refl
-  resolving_keeps_effects h (instr.Call f) = ap (λ (p : ℕ). copies operand.NextPlace to.Pushed (next.To p)) (callee_same h f)
+  resolving_keeps_effects h (instr.Call f) = ap (λ (p : ℕ). copies operand.NextPlace to.Pushed (next.To p))
+      (callee_same h f)
   resolving_keeps_effects h instr.Ret = refl
   resolving_keeps_effects h instr.Out = refl
   resolving_keeps_effects h (instr.LockDec m) =
-      ap (λ (l : Location). computes (Operates Sub) (operand.Memory l) (operand.Number 1) OfDecrement (to.Locked l)) (location_same m)
+      ap (λ (l : Location). computes (Operates Sub) (operand.Memory l) (operand.Number 1) OfDecrement (to.Locked l))
+      (location_same m)
   resolving_keeps_effects h (instr.Set on r) = refl

@@ -41,19 +41,28 @@ reg_word r h Esi = h.esi
 reg_word r h Edi = h.edi
 
 pub with_word : (r : Regs) (v : ℕ) → AreWords r → IsWord v → (k : Reg) → AreWords (with_reg r k v)
-with_word r v h w Eax = record { eax = w; ecx = h.ecx; edx = h.edx; ebx = h.ebx; esp = h.esp; ebp = h.ebp; esi = h.esi; edi = h.edi }
-with_word r v h w Ecx = record { eax = h.eax; ecx = w; edx = h.edx; ebx = h.ebx; esp = h.esp; ebp = h.ebp; esi = h.esi; edi = h.edi }
-with_word r v h w Edx = record { eax = h.eax; ecx = h.ecx; edx = w; ebx = h.ebx; esp = h.esp; ebp = h.ebp; esi = h.esi; edi = h.edi }
-with_word r v h w Ebx = record { eax = h.eax; ecx = h.ecx; edx = h.edx; ebx = w; esp = h.esp; ebp = h.ebp; esi = h.esi; edi = h.edi }
-with_word r v h w Esp = record { eax = h.eax; ecx = h.ecx; edx = h.edx; ebx = h.ebx; esp = w; ebp = h.ebp; esi = h.esi; edi = h.edi }
-with_word r v h w Ebp = record { eax = h.eax; ecx = h.ecx; edx = h.edx; ebx = h.ebx; esp = h.esp; ebp = w; esi = h.esi; edi = h.edi }
-with_word r v h w Esi = record { eax = h.eax; ecx = h.ecx; edx = h.edx; ebx = h.ebx; esp = h.esp; ebp = h.ebp; esi = w; edi = h.edi }
-with_word r v h w Edi = record { eax = h.eax; ecx = h.ecx; edx = h.edx; ebx = h.ebx; esp = h.esp; ebp = h.ebp; esi = h.esi; edi = w }
+with_word r v h w Eax =
+    record { eax = w; ecx = h.ecx; edx = h.edx; ebx = h.ebx; esp = h.esp; ebp = h.ebp; esi = h.esi; edi = h.edi }
+with_word r v h w Ecx =
+    record { eax = h.eax; ecx = w; edx = h.edx; ebx = h.ebx; esp = h.esp; ebp = h.ebp; esi = h.esi; edi = h.edi }
+with_word r v h w Edx =
+    record { eax = h.eax; ecx = h.ecx; edx = w; ebx = h.ebx; esp = h.esp; ebp = h.ebp; esi = h.esi; edi = h.edi }
+with_word r v h w Ebx =
+    record { eax = h.eax; ecx = h.ecx; edx = h.edx; ebx = w; esp = h.esp; ebp = h.ebp; esi = h.esi; edi = h.edi }
+with_word r v h w Esp =
+    record { eax = h.eax; ecx = h.ecx; edx = h.edx; ebx = h.ebx; esp = w; ebp = h.ebp; esi = h.esi; edi = h.edi }
+with_word r v h w Ebp =
+    record { eax = h.eax; ecx = h.ecx; edx = h.edx; ebx = h.ebx; esp = h.esp; ebp = w; esi = h.esi; edi = h.edi }
+with_word r v h w Esi =
+    record { eax = h.eax; ecx = h.ecx; edx = h.edx; ebx = h.ebx; esp = h.esp; ebp = h.ebp; esi = w; edi = h.edi }
+with_word r v h w Edi =
+    record { eax = h.eax; ecx = h.ecx; edx = h.edx; ebx = h.ebx; esp = h.esp; ebp = h.ebp; esi = h.esi; edi = w }
 
 mod_word : (n : ℕ) → IsWord (n % 2 ^ 32)
 mod_word n = omega arith
 
-source_word : {S : Type 0} (links : Links S) (c : Core) (read : ℕ) → AreWords c.regs → IsWord read → (from : Source S) → IsWordSource from → IsWord (operand_word c (source_operand links from) read)
+source_word : {S : Type 0} (links : Links S) (c : Core) (read : ℕ) → AreWords c.regs → IsWord read → (from : Source S) →
+    IsWordSource from → IsWord (operand_word c (source_operand links from) read)
 source_word links c read h v (source.Reg r) w = reg_word c.regs h r
 source_word links c read h v (source.Num n) w = w
 source_word links c read h v (source.Mem m) w = v
@@ -84,40 +93,108 @@ set_word : (t : Bool) → IsWord (if t then 1 else 0)
 set_word true = omega arith
 set_word false = omega arith
 
-divided_words : (c : Core) (o : Option Division) → AreWords c.regs → ((d : Division) → o ≡ Some d → AreResults d) → AreWords (divided o c).regs
+divided_words : (c : Core) (o : Option Division) → AreWords c.regs → ((d : Division) → o ≡ Some d → AreResults d) →
+    AreWords (divided o c).regs
 divided_words c None h w = h
-divided_words c (Some d) h w = let r = w d refl in record { eax = r.quotient; ecx = h.ecx; edx = r.remainder; ebx = h.ebx; esp = h.esp; ebp = h.ebp; esi = h.esi; edi = h.edi }
+divided_words c (Some d) h w = let r = w d refl in record {
+  eax = r.quotient;
+  ecx = h.ecx;
+  edx = r.remainder;
+  ebx = h.ebx;
+  esp = h.esp;
+  ebp = h.ebp;
+  esi = h.esi;
+  edi =
+      h.edi;
+}
 
-pub words_stay : {S : Type 0} (links : Links S) (i : Instr S) (c : Core) (read : ℕ) → HasWords i → AreWords c.regs → IsWord read → AreWords (after (effect_of links i) c read).regs
+pub words_stay : {S : Type 0} (links : Links S) (i : Instr S) (c : Core) (read : ℕ) → HasWords i → AreWords c.regs →
+    IsWord read → AreWords (after (effect_of links i) c read).regs
 words_stay links (instr.Mov r from) c read w h v = with_word c.regs _ h (source_word links c read h v from w) r
 words_stay links (instr.Store m from) c read w h v = h
-words_stay links (instr.Extend how r from) c read w h v = with_word c.regs _ h (extended_word how (reg c.regs from) (reg_word c.regs h from)) r
+words_stay links (instr.Extend how r from) c read w h v =
+    with_word c.regs _ h (extended_word how (reg c.regs from) (reg_word c.regs h from)) r
 words_stay links (instr.Lea r m) c read w h v = with_word c.regs _ h (mod_word _) r
 words_stay links (instr.Operate what r from) c read w h v =
-    with_word c.regs _ h (operated_word what (reg c.regs r) (operand_word c (source_operand links from) read) (reg_word c.regs h r) (source_word links c read h v from w)) r
+    with_word c.regs _ h (operated_word what (reg c.regs r) (operand_word c (source_operand links from) read)
+    (reg_word c.regs h r) (source_word links c read h v from w)) r
 words_stay links (instr.Cmp r from) c read w h v = h
 words_stay links (instr.CmpMem m n) c read w h v = h
 words_stay links (instr.Test r from) c read w h v = h
 words_stay links (instr.Neg r) c read w h v = with_word c.regs _ h (mod_word _) r
 words_stay links (instr.Not r) c read w h v = with_word c.regs _ h (omega arith) r
 words_stay links (instr.Shift how r by) c read w h v =
-    with_word c.regs _ h (shifted_word how (reg c.regs r) (operand_word c (count_operand by) read) (reg_word c.regs h r)) r
+    with_word c.regs _ h (shifted_word how (reg c.regs r) (operand_word c (count_operand by) read)
+    (reg_word c.regs h r)) r
 words_stay links instr.Cdq c read w h v =
-    record { eax = h.eax; ecx = h.ecx; edx = sar_word c.regs.eax 31 h.eax; ebx = h.ebx; esp = h.esp; ebp = h.ebp; esi = h.esi; edi = h.edi }
+    record {
+      eax = h.eax;
+      ecx = h.ecx;
+      edx = sar_word c.regs.eax 31 h.eax;
+      ebx = h.ebx;
+      esp = h.esp;
+      ebp = h.ebp;
+      esi =
+          h.esi;
+      edi = h.edi;
+    }
 words_stay links (instr.Idiv r) c read w h v =
-    divided_words c (division_of true c.regs r) h (signed_results c.regs.edx c.regs.eax (reg c.regs r) (reg_word c.regs h r))
+    divided_words c (division_of true c.regs r) h (signed_results c.regs.edx c.regs.eax (reg c.regs r)
+    (reg_word c.regs h r))
 words_stay links (instr.Div r) c read w h v =
-    divided_words c (division_of false c.regs r) h (unsigned_results c.regs.edx c.regs.eax (reg c.regs r) (reg_word c.regs h r))
+    divided_words c (division_of false c.regs r) h (unsigned_results c.regs.edx c.regs.eax (reg c.regs r)
+    (reg_word c.regs h r))
 words_stay links (instr.Push r) c read w h v =
-    record { eax = h.eax; ecx = h.ecx; edx = h.edx; ebx = h.ebx; esp = mod_word (c.regs.esp + (2 ^ 32 - 4)); ebp = h.ebp; esi = h.esi; edi = h.edi }
+    record {
+      eax = h.eax;
+      ecx = h.ecx;
+      edx = h.edx;
+      ebx = h.ebx;
+      esp = mod_word (c.regs.esp + (2 ^ 32 - 4));
+      ebp =
+          h.ebp;
+      esi = h.esi;
+      edi = h.edi;
+    }
 words_stay links (instr.Pop r) c read w h v =
-    with_word _ read (record { eax = h.eax; ecx = h.ecx; edx = h.edx; ebx = h.ebx; esp = mod_word (c.regs.esp + 4); ebp = h.ebp; esi = h.esi; edi = h.edi }) v r
+    with_word _ read
+    (record {
+      eax = h.eax;
+      ecx = h.ecx;
+      edx = h.edx;
+      ebx = h.ebx;
+      esp = mod_word (c.regs.esp + 4);
+      ebp =
+          h.ebp;
+      esi = h.esi;
+      edi = h.edi;
+    }) v r
 words_stay links (instr.Jmp t) c read w h v = h
 words_stay links (instr.JumpIf on l) c read w h v = h
 words_stay links (instr.Call f) c read w h v =
-    record { eax = h.eax; ecx = h.ecx; edx = h.edx; ebx = h.ebx; esp = mod_word (c.regs.esp + (2 ^ 32 - 4)); ebp = h.ebp; esi = h.esi; edi = h.edi }
+    record {
+      eax = h.eax;
+      ecx = h.ecx;
+      edx = h.edx;
+      ebx = h.ebx;
+      esp = mod_word (c.regs.esp + (2 ^ 32 - 4));
+      ebp =
+          h.ebp;
+      esi = h.esi;
+      edi = h.edi;
+    }
 words_stay links instr.Ret c read w h v =
-    record { eax = h.eax; ecx = h.ecx; edx = h.edx; ebx = h.ebx; esp = mod_word (c.regs.esp + 4); ebp = h.ebp; esi = h.esi; edi = h.edi }
+    record {
+      eax = h.eax;
+      ecx = h.ecx;
+      edx = h.edx;
+      ebx = h.ebx;
+      esp = mod_word (c.regs.esp + 4);
+      ebp = h.ebp;
+      esi =
+          h.esi;
+      edi = h.edi;
+    }
 words_stay links instr.Out c read w h v = h
 words_stay links (instr.LockDec m) c read w h v = h
 words_stay links (instr.Set on r) c read w h v = with_word c.regs _ h (set_word (holds on c.flags)) r

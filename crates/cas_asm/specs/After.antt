@@ -1,4 +1,5 @@
--- What a row means: the address that it reads, the store that it makes, and the registers, flags and place after it. Memory isn't
+-- What a row means: the address that it reads, the store that it makes, and the registers, flags and place after it.
+-- Memory isn't
 -- spoken of: the word that is read is given, and the store is handed out.
 use Rattle.std.specs.Prelude.{ℕ, ◌+◌, ◌-◌, ◌^◌, Bool, true, false, Option, Some, None, is_none, bit_and, bit_or, bit_xor, if◌then◌else◌}
 use Rattle.std.specs.Option.{option_or}
@@ -159,7 +160,8 @@ division_of false r by = divided_unsigned r.edx r.eax (reg r by)
 -- without a result nothing changes
 abbrev pub divided : Option Division → Core → Core
 divided None c = c
-divided (Some d) c = record { regs = record c.regs { eax = d.quotient; edx = d.remainder }; flags = cleared; place = c.place + 1 }
+divided (Some d) c =
+    record { regs = record c.regs { eax = d.quotient; edx = d.remainder }; flags = cleared; place = c.place + 1 }
 
 -- Effects.
 

@@ -35,7 +35,8 @@ is_constant m word = slice_index_or m.constant word false
 
 -- without a store: an `out`, the outermost return, or nothing
 abbrev pub ask_quiet : Effect → Core → (read : ℕ) → Ask
-ask_quiet e c read = if is_output e then ask.Out c.regs.eax else (if is_return e && (read == 4294967295) then ask.Finish else ask.Plain)
+ask_quiet e c read = if is_output e then ask.Out c.regs.eax else
+    (if is_return e && (read == 4294967295) then ask.Finish else ask.Plain)
 
 abbrev pub ask_stored : Image → Spot → (value : ℕ) → Ask
 ask_stored m (Own k) value = ask.Plain
@@ -70,7 +71,8 @@ ask_spot m c e loaded Nowhere = ask.Bad Address
 
 abbrev pub ask_at : Image → State → Effect → (loaded at : Option ℕ) → Ask
 ask_at m c e loaded None = ask_read m c e 0
-ask_at m c e loaded (Some at) = if is_locked e then ask_locked m (spot_of m c at) else ask_spot m c e loaded (spot_of m c at)
+ask_at m c e loaded (Some at) = if is_locked e then ask_locked m (spot_of m c at) else ask_spot m c e loaded
+    (spot_of m c at)
 
 -- what an effect asks
 abbrev pub ask_effect : Image → State → (loaded : Option ℕ) → Effect → Ask

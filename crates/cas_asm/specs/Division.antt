@@ -21,7 +21,8 @@ divided_unsigned high low divisor =
     then Some (record { quotient = wide high low / divisor; remainder = wide high low % divisor })
     else None)
 
--- the quotient, rounded toward zero, and the remainder; None where the divisor is 0 or the quotient isn't from -2^31 to 2^31 - 1
+-- the quotient, rounded toward zero, and the remainder; None where the divisor is 0 or the quotient isn't from -2^31 to
+-- 2^31 - 1
 abbrev pub signed_parts : (dividend divisor : ℤ) → Option (ℤ × ℤ)
 signed_parts a d =
     if int_le d (pos 0) && int_le (pos 0) d then None

@@ -83,17 +83,44 @@ flags_of_operation Imul = Cleared
 -- a row with two operands; the code goes on at the next instruction
 abbrev pub computes : Operator → (left right : Operand) → FlagRule → Destination → Effect
 computes operator left right flags to =
-    Computes (record { left = left; right = right; operator = operator; flags = flags; pops = false; to = to; next = next.Following })
+    Computes (record {
+      left = left;
+      right = right;
+      operator = operator;
+      flags = flags;
+      pops = false;
+      to = to;
+      next =
+          next.Following;
+    })
 
 -- a row that copies its one operand and keeps the flags
 abbrev pub copies : (from : Operand) → Destination → Next → Effect
 copies from to next =
-    Computes (record { left = operand.Number 0; right = from; operator = Copies; flags = Kept; pops = false; to = to; next = next })
+    Computes (record {
+      left = operand.Number 0;
+      right = from;
+      operator = Copies;
+      flags = Kept;
+      pops = false;
+      to =
+          to;
+      next = next;
+    })
 
 -- a row that takes the word at the top of the stack off and keeps the flags
 abbrev pub pops : Destination → Next → Effect
 pops to next =
-    Computes (record { left = operand.Number 0; right = operand.Top; operator = Copies; flags = Kept; pops = true; to = to; next = next })
+    Computes (record {
+      left = operand.Number 0;
+      right = operand.Top;
+      operator = Copies;
+      flags = Kept;
+      pops = true;
+      to =
+          to;
+      next = next;
+    })
 
 -- a row that only goes on somewhere
 abbrev pub goes : Next → Effect
@@ -103,16 +130,22 @@ goes next = copies (operand.Number 0) to.Nowhere next
 abbrev pub effect_of : {S : Type 0} → Links S → Instr S → Effect
 effect_of links (instr.Mov r from) = copies (source_operand links from) (to.Register r) next.Following
 effect_of links (instr.Store m from) = copies (value_operand from) (to.Memory (location_of links m)) next.Following
-effect_of links (instr.Extend how r from) = computes (Extends how) (operand.Number 0) (operand.Register from) Kept (to.Register r)
+effect_of links (instr.Extend how r from) = computes (Extends how) (operand.Number 0) (operand.Register from) Kept
+    (to.Register r)
 effect_of links (instr.Lea r m) = copies (operand.Address (location_of links m)) (to.Register r) next.Following
 effect_of links (instr.Operate what r from) =
     computes (Operates what) (operand.Register r) (source_operand links from) (flags_of_operation what) (to.Register r)
-effect_of links (instr.Cmp r from) = computes (Operates Sub) (operand.Register r) (source_operand links from) OfDifference to.Nowhere
-effect_of links (instr.CmpMem m n) = computes (Operates Sub) (operand.Memory (location_of links m)) (operand.Number n) OfDifference to.Nowhere
-effect_of links (instr.Test r from) = computes (Operates And) (operand.Register r) (value_operand from) OfLogic to.Nowhere
-effect_of links (instr.Neg r) = computes (Operates Sub) (operand.Number 0) (operand.Register r) OfDifference (to.Register r)
+effect_of links (instr.Cmp r from) = computes (Operates Sub) (operand.Register r) (source_operand links from)
+    OfDifference to.Nowhere
+effect_of links (instr.CmpMem m n) = computes (Operates Sub) (operand.Memory (location_of links m)) (operand.Number n)
+    OfDifference to.Nowhere
+effect_of links (instr.Test r from) = computes (Operates And) (operand.Register r) (value_operand from)
+    OfLogic to.Nowhere
+effect_of links (instr.Neg r) = computes (Operates Sub) (operand.Number 0) (operand.Register r) OfDifference
+    (to.Register r)
 effect_of links (instr.Not r) = computes Complements (operand.Number 0) (operand.Register r) Kept (to.Register r)
-effect_of links (instr.Shift how r by) = computes (Shifts how) (operand.Register r) (count_operand by) Cleared (to.Register r)
+effect_of links (instr.Shift how r by) = computes (Shifts how) (operand.Register r) (count_operand by) Cleared
+    (to.Register r)
 effect_of links instr.Cdq = computes (Shifts Sar) (operand.Register Eax) (operand.Number 31) Kept (to.Register Edx)
 effect_of links (instr.Idiv r) = Divides true r
 effect_of links (instr.Div r) = Divides false r
@@ -124,5 +157,6 @@ effect_of links (instr.Call f) = copies operand.NextPlace to.Pushed (next.To (ca
 effect_of links instr.Ret = pops to.Nowhere next.ToResult
 effect_of links instr.Out = copies (operand.Register Eax) to.Output next.Following
 effect_of links (instr.LockDec m) =
-    computes (Operates Sub) (operand.Memory (location_of links m)) (operand.Number 1) OfDecrement (to.Locked (location_of links m))
+    computes (Operates Sub) (operand.Memory (location_of links m)) (operand.Number 1) OfDecrement
+    (to.Locked (location_of links m))
 effect_of links (instr.Set on r) = computes (Tests on) (operand.Number 0) (operand.Number 0) Kept (to.Register r)

@@ -16,7 +16,14 @@ fits_signed z = int_le (negsuc 2147483647) z && int_le z (pos 2147483647)
 -- zero, sign and parity are those of the result
 abbrev pub result_flags : (carry overflow : Bool) (result : ℕ) → Flags
 result_flags carry overflow result =
-    record { carry = carry; zero = result == 0; sign = nat_le (2 ^ 31) result; overflow = overflow; parity = even_parity result }
+    record {
+      carry = carry;
+      zero = result == 0;
+      sign = nat_le (2 ^ 31) result;
+      overflow = overflow;
+      parity =
+          even_parity result;
+    }
 
 -- all flags 0
 abbrev pub cleared : Flags
@@ -62,7 +69,8 @@ holds Ge f = not (differ f.sign f.overflow)
 holds Le f = f.zero || differ f.sign f.overflow
 holds G f = not (f.zero || differ f.sign f.overflow)
 
--- what each condition says of a and b after `cmp a, b`: unsigned comparisons by the words, signed ones by their signed readings, and
+-- what each condition says of a and b after `cmp a, b`: unsigned comparisons by the words, signed ones by their signed
+-- readings, and
 -- overflow, sign and parity of the difference
 abbrev pub compares : Cond → (a b : ℕ) → Bool
 compares O a b = not (fits_signed (signed a -ℤ signed b))

@@ -2,7 +2,8 @@
 use Rattle.std.specs.Prelude.{ℕ}
 use Rattle.cas_asm.specs.declared.image.TheConstants.{LOCK_PLACE, UNLOCK_PLACE}
 
--- the address of a global or lock, the first place of a function, the place of a label, and the places of `lock` and `unlock`
+-- the address of a global or lock, the first place of a function, the place of a label, and the places of `lock` and
+-- `unlock`
 pub record Links (S : Type 0) : Type 0 where
   pub address : S → ℕ
   pub entry : S → ℕ

@@ -37,4 +37,5 @@ HasWords _ = Unit {0}
 
 -- an instruction leaves words in the registers, if the word that it reads is one
 abbrev pub WordsStay : {S : Type 0} → Links S → Instr S → Type 0
-WordsStay links i = (c : Core) (read : ℕ) → HasWords i → AreWords c.regs → IsWord read → AreWords (after (effect_of links i) c read).regs
+WordsStay links i = (c : Core) (read : ℕ) → HasWords i → AreWords c.regs → IsWord read →
+    AreWords (after (effect_of links i) c read).regs

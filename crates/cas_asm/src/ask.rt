@@ -13,8 +13,8 @@ use crate::image::{Image, WORD_BASE};
 pub enum BadWhy {
     /// The divisor is 0, or the quotient doesn't fit in 32 bits.
     Divide,
-    /// An accessed address isn't a multiple of 4, or is neither a shared word nor of the own stack, or a locked decrement is on
-    /// a stack word.
+    /// An accessed address isn't a multiple of 4, or is neither a shared word nor of the own stack, or a locked
+    /// decrement is on a stack word.
     Address,
     /// A store or a locked decrement is to a constant word.
     ConstWrite,
@@ -197,8 +197,8 @@ fn ask_effect(image: &Image, cpu: &Cpu, effect: &Effect, loaded: Option<u32>) ->
     }
 }
 
-/// What the next instruction does. Where it loads a shared word and `loaded` is None the answer is `Load`; with the word given
-/// it is what follows. (IA-32's rows, as the table of effects has them.)
+/// What the next instruction does. Where it loads a shared word and `loaded` is None the answer is `Load`; with the
+/// word given it is what follows. (IA-32's rows, as the table of effects has them.)
 pub fn cpu_ask(image: &Image, cpu: &Cpu, loaded: Option<u32>) -> Ask
     ensures { result ≡ ask_of image.now cpu.now loaded }
 {

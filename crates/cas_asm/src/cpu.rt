@@ -37,8 +37,8 @@ impl Model for Cpu {
 }
 
 impl Cpu {
-    /// The processor of a thread at its start: at its entry, with its number in eax, esp at the last word of its stack, which
-    /// holds the outermost return place, and all else 0.
+    /// The processor of a thread at its start: at its entry, with its number in eax, esp at the last word of its
+    /// stack, which holds the outermost return place, and all else 0.
     ///
     /// # Errors
     ///

@@ -121,7 +121,7 @@ pub struct Computed {
 pub enum Effect {
     /// It has one result.
     Computes(Computed),
-    /// It divides edx:eax by a register, signed where the flag says so: the quotient goes into eax and the remainder into
-    /// edx, and all flags are 0.
+    /// It divides edx:eax by a register, signed where the flag says so: the quotient goes into eax and the remainder
+    /// into edx, and all flags are 0.
     Divides(bool, Reg),
 }

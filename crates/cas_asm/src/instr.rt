@@ -3,8 +3,8 @@
 use crate::cond::Cond;
 use cas_base::{Name, Reg};
 
-/// A memory operand. Its address is the sum, modulo 2^32, of the symbol's address, the base register, the index register
-/// (times 4 where the flag says so) and the displacement.
+/// A memory operand. Its address is the sum, modulo 2^32, of the symbol's address, the base register, the index
+/// register (times 4 where the flag says so) and the displacement.
 #[derive(Clone, Copy, Debug, Drop, PartialEq, Eq)]
 pub struct Mem<S = Name> {
     /// The symbol of a global or lock.

@@ -15,7 +15,8 @@ use crate::cond::Cond;
 use crate::instr::Instr;
 use crate::regs::Core;
 
-/// After `cmp a, b` each of the sixteen conditions is a comparison of `a` and `b`, signed or unsigned, or a test of their difference.
+/// After `cmp a, b` each of the sixteen conditions is a comparison of `a` and `b`, signed or unsigned, or a test of
+/// their difference.
 #[tactic(auto, using(crate::proofs::Comparing::conditions_compare))]
 pub fn conditions_compare(on: Cond, a: u32, b: u32)
     ensures { holds on (sub_flags a b) ≡ compares on a b }
@@ -35,22 +36,23 @@ pub fn flags_are_kept_or_cleared<S>(instr: &Instr<S>, core: Core, read: u32)
         (after (effect_of links instr.now) core read).flags ≡ cleared }
 {}
 
-/// An instruction of an object and the one that it is resolved to have one effect, where the lock object is the image's.
+/// An instruction of an object and the one that it is resolved to have one effect, where the lock object is the
+/// image's.
 pub fn resolving_keeps_effects<S>(instr: &Instr<S>)
     ghost links: { Links S }
     ensures { StandsFirst links → effect_of in_image (resolved links instr.now) ≡ effect_of links instr.now }
 {}
 
-/// `div` has no result exactly where the divisor is 0 or the quotient has more than 32 bits. Else the quotient times the divisor
-/// plus the remainder is the dividend, and the remainder is below the divisor.
+/// `div` has no result exactly where the divisor is 0 or the quotient has more than 32 bits. Else the quotient times
+/// the divisor plus the remainder is the dividend, and the remainder is below the divisor.
 pub fn unsigned_division_fits(high: u32, low: u32, divisor: u32)
     ensures none { IsNone (divided_unsigned high low divisor) ↔ ((divisor ≡ 0) ⊎ (2 ^ 32 ≤ wide high low / divisor)) }
     ensures some { IfSome (divided_unsigned high low divisor) (λ d.
         (d.quotient * divisor + d.remainder ≡ wide high low) × (d.remainder < divisor)) }
 {}
 
-/// `idiv` has no result exactly where the divisor is 0 or the quotient isn't from -2147483648 to 2147483647. Else its division
-/// of the signed readings truncates toward zero.
+/// `idiv` has no result exactly where the divisor is 0 or the quotient isn't from -2147483648 to 2147483647. Else its
+/// division of the signed readings truncates toward zero.
 pub fn signed_division_fits(high: u32, low: u32, divisor: u32)
     ensures none { IsNone (divided_signed high low divisor) ↔
         ((divisor ≡ 0) ⊎ (fits_signed (int_div (wide_signed high low) (signed divisor)) ≡ false)) }

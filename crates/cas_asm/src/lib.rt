@@ -1,6 +1,7 @@
-//! The machine's instructions: registers, flags, memory operands and the forms of a subset of IA-32, one table of what each
-//! instruction does, images of linked code, and one processor that executes an image. The table (`Effect`) is read by the
-//! processor here and by the definitions of runs above: what an instruction reads, computes and writes is said once.
+//! The machine's instructions: registers, flags, memory operands and the forms of a subset of IA-32, one table of what
+//! each instruction does, images of linked code, and one processor that executes an image. The table (`Effect`) is
+//! read by the processor here and by the definitions of runs above: what an instruction reads, computes and writes is
+//! said once.
 #![tactic(auto)]
 
 mod after;

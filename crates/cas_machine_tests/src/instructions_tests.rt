@@ -1,5 +1,5 @@
-//! Each instruction on registers, by values worked out from IA-32's rules. Flags are letters: `c` carry, `z` zero, `s` sign,
-//! `o` overflow, `p` parity. `bench/processor.py` compares these rows with the processor.
+//! Each instruction on registers, by values worked out from IA-32's rules. Flags are letters: `c` carry, `z` zero, `s`
+//! sign, `o` overflow, `p` parity. `bench/processor.py` compares these rows with the processor.
 
 use cas_asm::{
     Cond, Core, Count, Extension, Flags, Instr, Operation, Regs, ShiftKind, Source, Value,

@@ -1,5 +1,5 @@
-//! Instructions that touch memory, the stack and the code's place, run by a processor on an image with four shared words, of
-//! which the last is constant. Their addresses are 4096 to 4108; the stack's 16 words begin at 268435456.
+//! Instructions that touch memory, the stack and the code's place, run by a processor on an image with four shared
+//! words, of which the last is constant. Their addresses are 4096 to 4108; the stack's 16 words begin at 268435456.
 
 ghost use Rattle.std.specs.Prelude.{◌≡◌, ◌≤◌, length, IfOk};
 
