@@ -15,5 +15,6 @@ pub use code::{CodeLine, code_line, instruction};
 pub use fault::LineFault;
 pub use instr::{bare, binary, name_of, unary};
 pub use mnemonic::Mnemonic;
-pub use operand::{Address, Numeral, Operand, operand_of};
+pub use number::word_of;
+pub use operand::{Address, Numeral, Operand, is_positive, operand_of};
 pub use tables::Tables;
