@@ -1,22 +1,21 @@
 -- Memory operands are read from their pieces.
-use Rattle.std.proofs.Common.{◌≡◌, ℕ, zero, suc, ◌<◌, ◌^◌, List, [], ◌∷◌, codes, Bool, true, false, not, ◌&&◌, ◌||◌, cond, bytes_eq, Option, Some, None, Ok, refl, ap, sym, ◌∙◌, arith}
+use Rattle.std.proofs.Common.{◌≡◌, ℕ, zero, suc, ◌<◌, ◌^◌, List, [], ◌∷◌, codes, Bool, true, false, ◌&&◌, ◌||◌, cond, Option, Some, None, refl, arith}
 use Rattle.std.specs.Fmt.{decimal}
 use Rattle.std.specs.Prelude.{ℤ, pos, negsuc}
 use Rattle.cas_base.specs.declared.reg.Reg.{Reg}
 use Rattle.cas_base.specs.declared.reg.Reg.TheVariants.{Eax, Ecx, Edx, Ebx, Esp, Ebp, Esi, Edi}
-use Rattle.cas_asm.specs.declared.instr.Mem.{Mem}
-use Rattle.cas_pieces.specs.declared.piece.Mark.TheVariants.{At, Plus, Minus, Star, Open, Close}
+use Rattle.cas_pieces.specs.declared.piece.Mark.TheVariants.{At, Plus, Close}
 use Rattle.cas_pieces.specs.declared.piece.Piece.{Piece}
 use Rattle.cas_pieces.specs.declared.piece.Piece.TheVariants.{Word, Mark}
 use Rattle.cas_base.specs.Name.{is_name}
 use Rattle.cas_pieces.specs.Numbers.{is_numeral}
 use Rattle.cas_object_line.specs.declared.operand.Address.{Address}
 use Rattle.cas_object_line.specs.declared.operand.Numeral.{Numeral}
-use Rattle.cas_object_line.specs.Operands.{is_positive, is_absent, numeral_of, begins_with_star, number_part, number_end, after_index, index_of, index_part, after_base, base_part, after_symbol, address_of}
+use Rattle.cas_object_line.specs.Operands.{is_positive, is_absent, numeral_of, begins_with_star, after_index, index_of, index_part, after_base, base_part, after_symbol, address_of}
 use Rattle.cas_object_line.specs.Tables.{register_of}
 use Rattle.cas_object_print.specs.Operands.{is_there}
 use Rattle.cas_object_print.specs.Words.{register}
-use Rattle.cas_object_laws.specs.Formed.{IsFormedSymbol, IsFormedIndex, IsFormedInteger, IsFormedMem, is_esp}
+use Rattle.cas_object_laws.specs.Formed.{IsFormedSymbol, IsFormedIndex, IsFormedInteger, is_esp}
 use Rattle.cas_object_laws.proofs.Numerals.{is_numeral-decimal, is_positive-decimal}
 use Rattle.cas_object_laws.proofs.Registers.{register_of-register, register_of-numeral}
 use Rattle.cas_object_laws.proofs.Spelled.{symbol_pieces, base_pieces, index_pieces, scale_pieces, number_pieces}

@@ -1,4 +1,7 @@
 pub mod Addresses
+pub mod Counts
+pub mod Declared
+pub mod Giving
 pub mod Lines
 pub mod Numerals
 pub mod Operands
@@ -6,3 +9,4 @@ pub mod Proper
 pub mod Registers
 pub mod Sequences
 pub mod Spelled
+pub mod Wholes

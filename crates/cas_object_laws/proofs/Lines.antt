@@ -1,9 +1,9 @@
 -- What is printed of a line of a function is read as that line.
-use Rattle.std.proofs.Common.{◌≡◌, ℕ, suc, ◌<◌, ◌^◌, List, [], ◌∷◌, ◌++◌, codes, Bool, true, false, not, ◌||◌, cond, Option, Some, None, Ok, Err, refl, ap, sym, ◌∙◌, arith, append_assoc}
+use Rattle.std.proofs.Common.{◌≡◌, ℕ, ◌<◌, ◌^◌, List, [], ◌∷◌, ◌++◌, codes, Bool, true, false, ◌||◌, cond, Option, Some, None, Ok, refl, ap, sym, ◌∙◌, arith, append_assoc}
 use Rattle.std.proofs.lemmas.List.{append-nil}
 use Rattle.std.specs.Fmt.{decimal, signed_decimal}
 use Rattle.std.specs.Ordering.{int_eq}
-use Rattle.std.specs.Prelude.{ℤ, pos, negsuc, int_lt, Result}
+use Rattle.std.specs.Prelude.{ℤ, pos, Result}
 use Rattle.cas_base.specs.Name.{is_name}
 use Rattle.cas_base.specs.Word.{signed}
 use Rattle.cas_base.specs.declared.reg.Reg.{Reg}
@@ -30,7 +30,7 @@ use Rattle.cas_asm.specs.declared.instr.Value.{Value}
 use Rattle.cas_asm.specs.declared.instr.Value.TheVariants as value
 use Rattle.cas_asm.specs.declared.line.Line.{Line}
 use Rattle.cas_asm.specs.declared.line.Line.TheVariants as line
-use Rattle.cas_pieces.specs.declared.piece.Mark.TheVariants.{At, Dot, Close}
+use Rattle.cas_pieces.specs.declared.piece.Mark.TheVariants.{At, Dot}
 use Rattle.cas_pieces.specs.declared.piece.Piece.{Piece}
 use Rattle.cas_pieces.specs.declared.piece.Piece.TheVariants.{Word, Mark}
 use Rattle.cas_pieces.specs.Pieces.{pieces, text, AreProper}
@@ -44,7 +44,7 @@ use Rattle.cas_object_line.specs.declared.mnemonic.Mnemonic.{Mnemonic}
 use Rattle.cas_object_line.specs.declared.mnemonic.Mnemonic.TheVariants as m
 use Rattle.cas_object_line.specs.declared.operand.Operand.{Operand}
 use Rattle.cas_object_line.specs.declared.operand.Operand.TheVariants as operand
-use Rattle.cas_object_line.specs.Codes.{code_line, instruction}
+use Rattle.cas_object_line.specs.Codes.{code_line}
 use Rattle.cas_object_line.specs.Instructions.{Read, made_of, unary, binary}
 use Rattle.cas_object_line.specs.Numbers.{label_of, small_label, small_count}
 use Rattle.cas_object_line.specs.Operands.{operand_of}
@@ -52,8 +52,8 @@ use Rattle.cas_object_line.specs.Tables.{mnemonic_of, condition_of}
 use Rattle.cas_object_print.specs.Instructions.{instr}
 use Rattle.cas_object_print.specs.Operands as print
 use Rattle.cas_object_print.specs.Page.{integer}
-use Rattle.cas_object_print.specs.Words.{register, condition, operation, extension, shift}
-use Rattle.cas_object_laws.specs.Formed.{line_text, IsFormedSource, IsFormedValue, IsFormedCount, IsFormedMem, IsFormedInteger, IsFormedInstr, IsFormed}
+use Rattle.cas_object_print.specs.Words.{register, condition, operation}
+use Rattle.cas_object_laws.specs.Formed.{line_text, IsFormedSource, IsFormedValue, IsFormedCount, IsFormedMem, IsFormedInstr, IsFormed}
 use Rattle.cas_object_laws.proofs.Numerals.{numeral_of, is_word-decimal, is_word-name, signed_integer, word_of-signed}
 use Rattle.cas_object_laws.proofs.Operands.{read_register, read_integer, read_symbol, read_label, read_mem, mem_read, address_in, free_mem}
 use Rattle.cas_object_laws.proofs.Proper.{Follows, proper-integer, proper-mem}

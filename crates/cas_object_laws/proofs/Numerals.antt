@@ -1,5 +1,5 @@
 -- Numbers as they are printed are words, and are read as themselves.
-use Rattle.std.proofs.Common.{◌≡◌, ℕ, suc, ◌<◌, ◌≤◌, ◌^◌, ◌-◌, ◌%◌, ◌+◌, nat_lt, nat_le, bytes_eq, codes, List, [], ◌∷◌, length, Bool, true, false, not, ◌&&◌, cond, Option, Some, None, Ok, refl, ap, sym, ◌∙◌, arith}
+use Rattle.std.proofs.Common.{◌≡◌, ℕ, suc, ◌<◌, ◌≤◌, ◌^◌, ◌+◌, bytes_eq, codes, List, [], ◌∷◌, length, Bool, true, false, not, ◌&&◌, cond, Some, None, Ok, refl, ap, sym, ◌∙◌, arith}
 use Rattle.std.specs.Char.{is_ascii_digit}
 use Rattle.std.specs.List.{list_all}
 use Rattle.std.specs.Str.Parse.{digits_value}

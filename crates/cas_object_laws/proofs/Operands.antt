@@ -1,25 +1,22 @@
 -- Operands are read from their pieces, which have no comma.
-use Rattle.std.proofs.Common.{◌≡◌, ℕ, zero, suc, ◌<◌, ◌^◌, List, [], ◌∷◌, Bool, true, false, ◌||◌, Option, Some, None, Ok, refl, ap, sym, ◌∙◌, arith}
+use Rattle.std.proofs.Common.{◌≡◌, ℕ, zero, suc, ◌<◌, ◌^◌, List, [], ◌∷◌, Bool, true, false, ◌||◌, Option, Some, None, Ok, refl, ap, ◌∙◌, arith}
 use Rattle.std.specs.Option.{option_map}
 use Rattle.std.specs.Fmt.{decimal}
 use Rattle.std.specs.Prelude.{ℤ, pos, negsuc}
 use Rattle.cas_base.specs.Name.{is_name}
-use Rattle.cas_base.specs.Word.{signed}
 use Rattle.cas_base.specs.declared.reg.Reg.{Reg}
 use Rattle.cas_asm.specs.declared.instr.Mem.{Mem}
 use Rattle.cas_pieces.specs.declared.piece.Mark.TheVariants.{At, Dot, Open, Close}
 use Rattle.cas_pieces.specs.declared.piece.Piece.{Piece}
 use Rattle.cas_pieces.specs.declared.piece.Piece.TheVariants.{Word, Mark}
-use Rattle.cas_object_line.specs.declared.fault.LineFault.{LineFault}
 use Rattle.cas_object_line.specs.declared.operand.Address.{Address}
-use Rattle.cas_object_line.specs.declared.operand.Operand.{Operand}
 use Rattle.cas_object_line.specs.declared.operand.Operand.TheVariants as operand
 use Rattle.cas_object_line.specs.Instructions.{mem_of}
 use Rattle.cas_object_line.specs.Operands.{operand_of, address_of, register_piece}
 use Rattle.cas_object_print.specs.Operands.{is_there}
 use Rattle.cas_object_print.specs.Words.{register}
 use Rattle.cas_object_laws.specs.Formed.{IsFormedSymbol, IsFormedInteger, IsFormedMem}
-use Rattle.cas_object_laws.proofs.Addresses.{written, address, read_address}
+use Rattle.cas_object_laws.proofs.Addresses.{address, read_address}
 use Rattle.cas_object_laws.proofs.Numerals.{numeral_of, displacement_of-integer, is_numeral-decimal, is_positive-decimal}
 use Rattle.cas_object_laws.proofs.Registers.{is_numeral-register, register_of-register}
 use Rattle.cas_object_laws.proofs.Sequences.{no_comma}

@@ -1,17 +1,17 @@
 -- The pieces of memory operands are proper.
-use Rattle.std.proofs.Common.{◌≡◌, ℕ, zero, suc, ◌<◌, ◌^◌, List, [], ◌∷◌, codes, Bool, true, false, ◌||◌, Option, Some, None, refl, arith}
+use Rattle.std.proofs.Common.{◌≡◌, ℕ, zero, suc, List, ◌∷◌, Bool, true, false, ◌||◌, Option, Some, None, refl, arith}
 use Rattle.std.specs.Fmt.{decimal}
 use Rattle.std.specs.Prelude.{ℤ, pos, negsuc}
 use Rattle.cas_base.specs.declared.reg.Reg.{Reg}
 use Rattle.cas_asm.specs.declared.instr.Mem.{Mem}
-use Rattle.cas_pieces.specs.declared.piece.Mark.TheVariants.{Space, Comma, At, Dot, Plus, Minus, Star, Open, Close}
+use Rattle.cas_pieces.specs.declared.piece.Mark.TheVariants.{Close}
 use Rattle.cas_pieces.specs.declared.piece.Piece.{Piece}
 use Rattle.cas_pieces.specs.declared.piece.Piece.TheVariants.{Word, Mark}
 use Rattle.cas_pieces.specs.Pieces.{AreProper, begins_with_word}
 use Rattle.cas_pieces.specs.Words.{is_word}
 use Rattle.cas_object_print.specs.Operands.{is_there}
 use Rattle.cas_object_print.specs.Words.{register}
-use Rattle.cas_object_laws.specs.Formed.{IsFormedSymbol, IsFormedIndex, IsFormedInteger, IsFormedMem}
+use Rattle.cas_object_laws.specs.Formed.{IsFormedSymbol, IsFormedInteger, IsFormedMem}
 use Rattle.cas_object_laws.proofs.Numerals.{is_word-decimal, is_word-name}
 use Rattle.cas_object_laws.proofs.Registers.{is_word-register}
 use Rattle.cas_object_laws.proofs.Spelled.{symbol_pieces, base_pieces, scale_pieces, index_pieces, integer_pieces, number_pieces, mem_pieces}

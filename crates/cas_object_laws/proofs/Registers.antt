@@ -1,5 +1,5 @@
 -- Registers as they are printed are words, are no numbers, and are read as themselves.
-use Rattle.std.proofs.Common.{◌≡◌, ℕ, List, Bool, true, false, Option, Some, None, refl, sym, ◌∙◌, ap}
+use Rattle.std.proofs.Common.{◌≡◌, ℕ, List, true, false, Option, Some, None, refl, sym, ◌∙◌, ap}
 use Rattle.cas_base.specs.declared.reg.Reg.{Reg}
 use Rattle.cas_base.specs.declared.reg.Reg.TheVariants.{Eax, Ecx, Edx, Ebx, Esp, Ebp, Esi, Edi}
 use Rattle.cas_pieces.specs.Words.{is_word}

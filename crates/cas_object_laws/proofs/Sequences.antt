@@ -1,18 +1,17 @@
 -- Operands before and after a comma.
-use Rattle.std.proofs.Common.{◌≡◌, ℕ, suc, ◌+◌, ◌<◌, nat_lt, List, [], ◌∷◌, ◌++◌, length, take, drop, Bool, true, false, not, ◌&&◌, cond, Option, Some, None, Ok, refl, ap, sym, ◌∙◌, append_assoc, arith, codes}
+use Rattle.std.proofs.Common.{◌≡◌, ℕ, suc, ◌+◌, nat_lt, List, [], ◌∷◌, ◌++◌, length, take, drop, Bool, true, false, not, ◌&&◌, Some, None, refl, ap, sym, ◌∙◌, append_assoc, arith, codes}
 use Rattle.std.specs.List.{list_all, position, position_or_len}
-use Rattle.std.proofs.lemmas.List.{append-nil}
 use Rattle.std.proofs.lemmas.Bool.Decides.{nat_tests}
 use Rattle.cas_pieces.specs.declared.piece.Mark.TheVariants.{Space, Comma}
 use Rattle.cas_pieces.specs.declared.piece.Piece.{Piece}
 use Rattle.cas_pieces.specs.declared.piece.Piece.TheVariants.{Word, Mark}
 use Rattle.cas_pieces.specs.Marks.{is_mark}
-use Rattle.cas_pieces.specs.Pieces.{text, AreProper, begins_with_word, mark_byte}
+use Rattle.cas_pieces.specs.Pieces.{text, AreProper, mark_byte}
 use Rattle.cas_pieces.specs.Words.{is_word}
 use Rattle.cas_object_line.specs.declared.mnemonic.Mnemonic.{Mnemonic}
 use Rattle.cas_object_line.specs.declared.operand.Operand.{Operand}
-use Rattle.cas_object_line.specs.Codes.{code_line, instruction, instruction_line, operands, operands_by}
-use Rattle.cas_object_line.specs.Instructions.{Read, unary, binary}
+use Rattle.cas_object_line.specs.Codes.{code_line, instruction, instruction_line}
+use Rattle.cas_object_line.specs.Instructions.{unary, binary}
 use Rattle.cas_object_line.specs.Operands.{operand_of}
 use Rattle.cas_object_line.specs.Tables.{mnemonic_of}
 use Rattle.cas_object_laws.proofs.Proper.{Follows}

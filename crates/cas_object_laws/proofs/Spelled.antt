@@ -1,18 +1,17 @@
 -- The pieces that lines are printed as. Each function puts them before `rest`.
-use Rattle.std.proofs.Common.{◌≡◌, ℕ, zero, suc, List, [], ◌∷◌, ◌++◌, codes, Bool, true, false, not, ◌||◌, cond, Option, Some, None, refl, ap, sym, ◌∙◌, arith}
-use Rattle.std.specs.Fmt.{decimal, signed_decimal}
+use Rattle.std.proofs.Common.{◌≡◌, ℕ, zero, suc, List, ◌∷◌, ◌++◌, codes, Bool, true, false, ◌||◌, cond, Option, Some, None, refl, ap, sym, ◌∙◌, arith}
+use Rattle.std.specs.Fmt.{decimal}
 use Rattle.std.specs.Prelude.{ℤ, pos, negsuc, int_lt}
 use Rattle.std.specs.Ordering.{int_eq}
 use Rattle.std.proofs.lemmas.Int.{ints}
 use Rattle.std.proofs.lemmas.Bool.Decides.{nat_tests}
 use Rattle.cas_base.specs.declared.reg.Reg.{Reg}
-use Rattle.cas_base.specs.Word.{signed}
 use Rattle.cas_asm.specs.declared.instr.Mem.{Mem}
-use Rattle.cas_pieces.specs.declared.piece.Mark.TheVariants.{Space, Comma, At, Dot, Plus, Minus, Star, Open, Close}
+use Rattle.cas_pieces.specs.declared.piece.Mark.TheVariants.{At, Plus, Minus, Star, Open, Close}
 use Rattle.cas_pieces.specs.declared.piece.Piece.{Piece}
 use Rattle.cas_pieces.specs.declared.piece.Piece.TheVariants.{Word, Mark}
 use Rattle.cas_pieces.specs.Pieces.{text}
-use Rattle.cas_object_print.specs.Operands.{named, is_there, symbol_part, joint, base_part, scale, index_part, is_joined, number_part, mem, word}
+use Rattle.cas_object_print.specs.Operands.{is_there, symbol_part, joint, base_part, scale, index_part, is_joined, number_part, mem}
 use Rattle.cas_object_print.specs.Page.{integer}
 use Rattle.cas_object_print.specs.Words.{register}
 

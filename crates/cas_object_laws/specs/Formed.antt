@@ -9,7 +9,7 @@ use Rattle.cas_asm.specs.declared.instr.Callee.TheVariants as callee
 use Rattle.cas_asm.specs.declared.instr.Count.{Count}
 use Rattle.cas_asm.specs.declared.instr.Count.TheVariants.{Fixed, Ecx}
 use Rattle.cas_asm.specs.declared.instr.Instr.{Instr}
-use Rattle.cas_asm.specs.declared.instr.Instr.TheVariants.{Mov, Store, Extend, Lea, Operate, Cmp, CmpMem, Test, Neg, Not, Shift, Cdq, Idiv, Div, Push, Pop, Jmp, JumpIf, Call, Ret, Out, LockDec, Set}
+use Rattle.cas_asm.specs.declared.instr.Instr.TheVariants.{Mov, Store, Lea, Operate, Cmp, CmpMem, Test, Shift, Jmp, JumpIf, Call, LockDec}
 use Rattle.cas_asm.specs.declared.instr.Mem.{Mem}
 use Rattle.cas_asm.specs.declared.instr.Source.{Source}
 use Rattle.cas_asm.specs.declared.instr.Source.TheVariants as source

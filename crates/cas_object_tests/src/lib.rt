@@ -1,4 +1,4 @@
-//! Tests of the lines of objects and of lock texts. They stand in a library of their own, so that no part is proved
+//! Tests of objects texts and of lock texts. They stand in a library of their own, so that no part is proved
 //! once more for them.
 #![tactic(auto)]
 
@@ -6,3 +6,5 @@
 mod lines_tests;
 #[cfg(test)]
 mod lock_tests;
+#[cfg(test)]
+mod objects_tests;
