@@ -60,7 +60,8 @@ spot_within m c at k e =
 
 -- Answers without a load.
 
--- a fact of answers that holds of each that an instruction can give once its word is known, where there are so many words
+-- a fact of answers that holds of each that an instruction can give once its word is known, where there are so many
+-- words
 record Holds (n : ℕ) (P : Ask → Type 0) : Type 0 where
   plain : P ask.Plain
   store : (k v : ℕ) → k < n → P (ask.Store k v)
@@ -73,7 +74,8 @@ record Holds (n : ℕ) (P : Ask → Type 0) : Type 0 where
 module _ (m : Image) (c : Cpu) (P : Ask → Type 0) (h : Holds (length m.words) P) where
   stored_holds : (s : Spot) (v : ℕ) → ((k : ℕ) → s ≡ Shared k → k < length m.words) → P (ask_stored m s v)
   stored_holds (Own k) v w = h.plain
-  stored_holds (Shared k) v w = both P (is_constant m k) (ask.Bad ConstWrite) (ask.Store k v) (h.bad ConstWrite) (h.store k v (w k refl))
+  stored_holds (Shared k) v w = both P (is_constant m k) (ask.Bad ConstWrite) (ask.Store k v) (h.bad ConstWrite)
+      (h.store k v (w k refl))
   stored_holds Nowhere v w = h.bad Address
 
   quiet_holds : (e : Effect) (read : ℕ) → P (ask_quiet e c.core read)
@@ -95,7 +97,8 @@ module _ (m : Image) (c : Cpu) (P : Ask → Type 0) (h : Holds (length m.words) 
 
   locked_holds : (s : Spot) → ((k : ℕ) → s ≡ Shared k → k < length m.words) → P (ask_locked m s)
   locked_holds (Own k) w = h.bad Address
-  locked_holds (Shared k) w = both P (is_constant m k) (ask.Bad ConstWrite) (ask.LockedDec k) (h.bad ConstWrite) (h.decrement k (w k refl))
+  locked_holds (Shared k) w = both P (is_constant m k) (ask.Bad ConstWrite) (ask.LockedDec k) (h.bad ConstWrite)
+      (h.decrement k (w k refl))
   locked_holds Nowhere w = h.bad Address
 
 -- Places.
@@ -111,9 +114,11 @@ are_among n = record {
   bad = λ why. tt;
 }
 
-spot_asks : (m : Image) (c : Cpu) (e : Effect) (o : Option ℕ) (s : Spot) → ((k : ℕ) → s ≡ Shared k → k < length m.words) →
+spot_asks : (m : Image) (c : Cpu) (e : Effect) (o : Option ℕ) (s : Spot) →
+    ((k : ℕ) → s ≡ Shared k → k < length m.words) →
     IsAmongWords (length m.words) (ask_spot m c e o s)
-spot_asks m c e o (Own k) w = read_holds m c (IsAmongWords (length m.words)) (are_among (length m.words)) e (slice_index c.stack k)
+spot_asks m c e o (Own k) w = read_holds m c (IsAmongWords (length m.words)) (are_among (length m.words)) e
+    (slice_index c.stack k)
 spot_asks m c e None (Shared k) w = w k refl
 spot_asks m c e (Some v) (Shared k) w = read_holds m c (IsAmongWords (length m.words)) (are_among (length m.words)) e v
 spot_asks m c e o Nowhere w = tt
@@ -124,9 +129,11 @@ at_asks m c e o (Some at) =
     let n = length m.words in
     let s = spot_of m c at in
     both (IsAmongWords n) (is_locked e) (ask_locked m s) (ask_spot m c e o s)
-    (locked_holds m c (IsAmongWords n) (are_among n) s (λ k. spot_within m c at k)) (spot_asks m c e o s (λ k. spot_within m c at k))
+    (locked_holds m c (IsAmongWords n) (are_among n) s (λ k. spot_within m c at k))
+    (spot_asks m c e o s (λ k. spot_within m c at k))
 
-instr_asks : (m : Image) (c : Cpu) (o : Option ℕ) (i : Option (Instr ℕ)) → IsAmongWords (length m.words) (ask_instr m c o i)
+instr_asks : (m : Image) (c : Cpu) (o : Option ℕ) (i : Option (Instr ℕ)) →
+    IsAmongWords (length m.words) (ask_instr m c o i)
 instr_asks m c o None = tt
 instr_asks m c o (Some i) = at_asks m c (effect_of in_image i) o (read_at (effect_of in_image i) c.core.regs)
 
@@ -140,7 +147,8 @@ asks_among m c o = instr_asks m c o (slice_get m.code c.core.place)
 abbrev IsQuietAfter : Effect → Type 0
 IsQuietAfter e = ((c : Core) (read : ℕ) → write_of e c read ≡ None) × (is_output e ≡ false)
 
-reads_only : (i : Instr ℕ) (r : Regs) (at : ℕ) → read_at (effect_of in_image i) r ≡ Some at → is_locked (effect_of in_image i) ≡ false → IsQuietAfter (effect_of in_image i)
+reads_only : (i : Instr ℕ) (r : Regs) (at : ℕ) → read_at (effect_of in_image i) r ≡ Some at →
+    is_locked (effect_of in_image i) ≡ false → IsQuietAfter (effect_of in_image i)
 reads_only (instr.Mov k from) r at e l = (λ c read. refl, refl)
 reads_only (instr.Store m (value.Reg k)) r at e l = cc
 reads_only (instr.Store m (value.Num n)) r at e l = cc
@@ -172,10 +180,12 @@ read_settles m c e read q =
     let store = ask_store m c e read (write_of e c.core read) in
     let returns = is_return e && (read == 4294967295) in
     let quiet : IsSettled (ask_quiet e c.core read) =
-    subst (λ (b : Bool). IsSettled (if b then ask.Out c.core.regs.eax else (if returns then ask.Finish else ask.Plain))) (sym q.1)
+    subst (λ (b : Bool). IsSettled (if b then ask.Out c.core.regs.eax else (if returns then ask.Finish else ask.Plain)))
+    (sym q.1)
     (both IsSettled returns ask.Finish ask.Plain tt tt) in
     both IsSettled (faults e c.core) (ask.Bad Divide) (if full then ask.Stack else store) tt
-    (both IsSettled full ask.Stack store tt (subst (λ (w : Option Write). IsSettled (ask_store m c e read w)) (sym (q.0 c.core read)) quiet))
+    (both IsSettled full ask.Stack store tt (subst (λ (w : Option Write). IsSettled (ask_store m c e read w))
+    (sym (q.0 c.core read)) quiet))
 
 -- an answer that isn't a load is the same with a word
 abbrev Keeps : Ask → Type 0
@@ -192,16 +202,19 @@ are_kept n = record {
   bad = λ why. refl;
 }
 
-spot_follows : (m : Image) (c : Cpu) (e : Effect) (v : ℕ) (s : Spot) → IsQuietAfter e → Follows (ask_spot m c e None s) (ask_spot m c e (Some v) s)
+spot_follows : (m : Image) (c : Cpu) (e : Effect) (v : ℕ) (s : Spot) → IsQuietAfter e →
+    Follows (ask_spot m c e None s) (ask_spot m c e (Some v) s)
 spot_follows m c e v (Own k) q = read_holds m c Keeps (are_kept (length m.words)) e (slice_index c.stack k)
 spot_follows m c e v (Shared k) q = read_settles m c e v q
 spot_follows m c e v Nowhere q = refl
 
-test_follows : (b : Bool) (x y z : Ask) → (b ≡ true → Keeps x) → (b ≡ false → Follows y z) → Follows (if b then x else y) (if b then x else z)
+test_follows : (b : Bool) (x y z : Ask) → (b ≡ true → Keeps x) → (b ≡ false → Follows y z) →
+    Follows (if b then x else y) (if b then x else z)
 test_follows true x y z h k = h refl
 test_follows false x y z h k = k refl
 
-at_follows : (m : Image) (c : Cpu) (i : Instr ℕ) (v : ℕ) (at : Option ℕ) → read_at (effect_of in_image i) c.core.regs ≡ at →
+at_follows : (m : Image) (c : Cpu) (i : Instr ℕ) (v : ℕ) (at : Option ℕ) →
+    read_at (effect_of in_image i) c.core.regs ≡ at →
     Follows (ask_at m c (effect_of in_image i) None at) (ask_at m c (effect_of in_image i) (Some v) at)
 at_follows m c i v None is = read_holds m c Keeps (are_kept (length m.words)) (effect_of in_image i) 0
 at_follows m c i v (Some at) is =
@@ -211,7 +224,8 @@ at_follows m c i v (Some at) is =
     (λ locked. locked_holds m c Keeps (are_kept (length m.words)) s (λ k. spot_within m c at k))
     (λ free. spot_follows m c e v s (reads_only i c.core.regs at is free))
 
-instr_follows : (m : Image) (c : Cpu) (v : ℕ) (i : Option (Instr ℕ)) → Follows (ask_instr m c None i) (ask_instr m c (Some v) i)
+instr_follows : (m : Image) (c : Cpu) (v : ℕ) (i : Option (Instr ℕ)) →
+    Follows (ask_instr m c None i) (ask_instr m c (Some v) i)
 instr_follows m c v None = refl
 instr_follows m c v (Some i) = at_follows m c i v (read_at (effect_of in_image i) c.core.regs) refl
 

@@ -24,4 +24,5 @@ settled_plain o c (ask.Bad why) h e = cc
 pub plain_after : (m : Image) (o : Options) (c : Thread) (at word : ℕ) → ask_of m c.cpu None ≡ ask.Load at →
     stop_of o c (ask_of m c.cpu (Some word)) ≡ None → IsPlain (ask_of m c.cpu (Some word))
 plain_after m o c at word e h =
-    settled_plain o c (ask_of m c.cpu (Some word)) (subst (λ (a : Ask). Follows a (ask_of m c.cpu (Some word))) e (asks_follow m c.cpu word)) h
+    settled_plain o c (ask_of m c.cpu (Some word)) (subst (λ (a : Ask). Follows a (ask_of m c.cpu (Some word))) e
+    (asks_follow m c.cpu word)) h

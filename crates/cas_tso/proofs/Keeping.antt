@@ -38,7 +38,8 @@ goes_on o ask.Stack n le h = fuel_left n o.fuel le h
 goes_on o (ask.Bad why) n le h = fuel_left n o.fuel le h
 
 -- an item of a list with one more at its end
-at_longer : (xs : List Pending) (y x : Pending) (k : ℕ) → slice_get (xs ++ y ∷ []) k ≡ Some x → (slice_get xs k ≡ Some x) ⊎ (y ≡ x)
+at_longer : (xs : List Pending) (y x : Pending) (k : ℕ) → slice_get (xs ++ y ∷ []) k ≡ Some x →
+    (slice_get xs k ≡ Some x) ⊎ (y ≡ x)
 at_longer [] y x zero e = inr cc
 at_longer [] y x (suc k) e = cc
 at_longer (z ∷ zs) y x zero e = inl e
@@ -47,8 +48,10 @@ at_longer (z ∷ zs) y x (suc k) e = at_longer zs y x k e
 module _ (p : Setup) (small : p.options.fuel ≤ most_fuel) (c : Thread) (h : IsKeptThread p c) where
   -- a thread that executed one instruction more, and whose other counts and buffer still fit
   after_instruction : (d : Thread) (a : Ask) → c.ended ≡ None → d.counts.executed ≡ c.counts.executed + 1 →
-      d.ended ≡ end_after p.options a (c.counts.executed + 1) → (IsCounted c → d.counts.executed ≤ most_fuel → IsCounted d) →
-      d.counts.outs ≤ p.options.outs → ((k : ℕ) (x : Pending) → slice_get d.buffer k ≡ Some x → x.at < length p.image.words) → IsKeptThread p d
+      d.ended ≡ end_after p.options a (c.counts.executed + 1) →
+      (IsCounted c → d.counts.executed ≤ most_fuel → IsCounted d) →
+      d.counts.outs ≤ p.options.outs → ((k : ℕ) (x : Pending) → slice_get d.buffer k ≡ Some x →
+      x.at < length p.image.words) → IsKeptThread p d
   after_instruction d a runs is ends counts outs within =
       let left : c.counts.executed < p.options.fuel = h.running runs in
       let le : c.counts.executed + 1 ≤ p.options.fuel = omega arith in
@@ -64,17 +67,41 @@ module _ (p : Setup) (small : p.options.fuel ≤ most_fuel) (c : Thread) (h : Is
   takes_kept plain d t =
       subst (λ (u : Thread). IsKeptThread p u) (sym t.2)
       (after_instruction (after_plain p c) (asks p c None) t.0 refl refl
-      (λ k le. record { loads = omega arith; forwarded = k.forwarded; stores = omega arith; outs = omega arith; fuel = le; full = k.full })
+      (λ k le. record {
+        loads = omega arith;
+        forwarded = k.forwarded;
+        stores = omega arith;
+        outs = omega arith;
+        fuel =
+            le;
+        full = k.full;
+      })
       h.outs h.within)
   takes_kept (forwarded at word) d t =
       subst (λ (u : Thread). IsKeptThread p u) (sym t.4)
       (after_instruction (after_forward p c word) (asks p c (Some word)) t.0 refl refl
-      (λ k le. record { loads = omega arith; forwarded = omega arith; stores = omega arith; outs = omega arith; fuel = le; full = k.full })
+      (λ k le. record {
+        loads = omega arith;
+        forwarded = omega arith;
+        stores = omega arith;
+        outs = omega arith;
+        fuel =
+            le;
+        full = k.full;
+      })
       h.outs h.within)
   takes_kept (loaded at word) d t =
       subst (λ (u : Thread). IsKeptThread p u) (sym t.4)
       (after_instruction (after_load p c word) (asks p c (Some word)) t.0 refl refl
-      (λ k le. record { loads = omega arith; forwarded = omega arith; stores = omega arith; outs = omega arith; fuel = le; full = k.full })
+      (λ k le. record {
+        loads = omega arith;
+        forwarded = omega arith;
+        stores = omega arith;
+        outs = omega arith;
+        fuel =
+            le;
+        full = k.full;
+      })
       h.outs h.within)
   takes_kept (stored at value) d t =
       let new : Pending = record { at = at; value = value; entered = c.counts.executed + 1 } in
@@ -84,7 +111,15 @@ module _ (p : Setup) (small : p.options.fuel ≤ most_fuel) (c : Thread) (h : Is
       subst (λ (a : Ask). IsAmongWords (length p.image.words) a) t.1 (asks_among p.image c.cpu None) in
       subst (λ (u : Thread). IsKeptThread p u) (sym t.3)
       (after_instruction (after_store p c at value) (asks p c None) t.0 refl refl
-      (λ k le. record { loads = omega arith; forwarded = k.forwarded; stores = omega arith; outs = omega arith; fuel = le; full = omega arith })
+      (λ k le. record {
+        loads = omega arith;
+        forwarded = k.forwarded;
+        stores = omega arith;
+        outs = omega arith;
+        fuel =
+            le;
+        full = omega arith;
+      })
       h.outs
       (λ k x at_k. ⊎_elim (h.within k x)
       (λ (e : new ≡ x). let place = ap (λ (y : Pending). y.at) e in omega arith) (at_longer c.buffer new x k at_k)))
@@ -93,7 +128,16 @@ module _ (p : Setup) (small : p.options.fuel ≤ most_fuel) (c : Thread) (h : Is
       let is = ap (λ (l : List Pending). length l) t.2 in
       let k = h.counted in
       subst (λ (u : Thread). IsKeptThread p u) (sym t.3) record {
-        counted = record { loads = k.loads; forwarded = k.forwarded; stores = omega arith; outs = k.outs; fuel = k.fuel; full = omega arith };
+        counted =
+            record {
+              loads = k.loads;
+              forwarded = k.forwarded;
+              stores = omega arith;
+              outs = k.outs;
+              fuel =
+                  k.fuel;
+              full = omega arith;
+            };
         fuel = h.fuel;
         running = h.running;
         outs = h.outs;
@@ -102,26 +146,53 @@ module _ (p : Setup) (small : p.options.fuel ≤ most_fuel) (c : Thread) (h : Is
   takes_kept (decremented at word) d t =
       subst (λ (u : Thread). IsKeptThread p u) (sym t.3)
       (after_instruction (after_decrement p c word) (asks p c None) t.0 refl refl
-      (λ k le. record { loads = omega arith; forwarded = k.forwarded; stores = omega arith; outs = omega arith; fuel = le; full = k.full })
+      (λ k le. record {
+        loads = omega arith;
+        forwarded = k.forwarded;
+        stores = omega arith;
+        outs = omega arith;
+        fuel =
+            le;
+        full = k.full;
+      })
       h.outs h.within)
   takes_kept (printed ticket word) d t =
       let more = t.2 in
       subst (λ (u : Thread). IsKeptThread p u) (sym t.3)
       (after_instruction (after_out p c) (asks p c None) t.0 refl refl
-      (λ k le. record { loads = omega arith; forwarded = k.forwarded; stores = omega arith; outs = omega arith; fuel = le; full = k.full })
+      (λ k le. record {
+        loads = omega arith;
+        forwarded = k.forwarded;
+        stores = omega arith;
+        outs = omega arith;
+        fuel =
+            le;
+        full = k.full;
+      })
       (omega arith) h.within)
   takes_kept (stopped read e) d t =
       subst (λ (u : Thread). IsKeptThread p u) (sym t.2) record {
-        counted = record { loads = h.counted.loads; forwarded = h.counted.forwarded; stores = h.counted.stores; outs = h.counted.outs; fuel = h.counted.fuel; full = h.counted.full };
+        counted =
+            record {
+              loads = h.counted.loads;
+              forwarded = h.counted.forwarded;
+              stores = h.counted.stores;
+              outs =
+                  h.counted.outs;
+              fuel = h.counted.fuel;
+              full = h.counted.full;
+            };
         fuel = h.fuel;
         running = λ none. absurd (some_is_some e none);
         outs = h.outs;
         within = h.within;
       }
 
-all_outs_set : (ts : List Thread) (i : ℕ) (c d : Thread) → slice_get ts i ≡ Some c → all_outs (set ts i d) + c.counts.outs ≡ all_outs ts + d.counts.outs
+all_outs_set : (ts : List Thread) (i : ℕ) (c d : Thread) → slice_get ts i ≡ Some c →
+    all_outs (set ts i d) + c.counts.outs ≡ all_outs ts + d.counts.outs
 all_outs_set [] i c d e = cc
-all_outs_set (x ∷ xs) zero c d e = let is : x ≡ c = cc in let outs = ap (λ (u : Thread). u.counts.outs) is in omega arith
+all_outs_set (x ∷ xs) zero c d e = let is : x ≡ c = cc in let outs =
+    ap (λ (u : Thread). u.counts.outs) is in omega arith
 all_outs_set (x ∷ xs) (suc i) c d e = let r = all_outs_set xs i c d e in omega arith
 
 -- an act adds as many outputs to the output as to its thread's count
@@ -137,7 +208,7 @@ outs_together p i c (printed ticket word) d o t =
     let e = ap (λ (u : Thread). u.counts.outs) t.3 in let l = length-append o ((i, word) ∷ []) in omega arith
 outs_together p i c (stopped read e) d o t = let e' = ap (λ (u : Thread). u.counts.outs) t.2 in omega arith
 
-memory_length : (a : Act) (m : List ℕ) → length (memory_after a m) ≡ length m
+pub memory_length : (a : Act) (m : List ℕ) → length (memory_after a m) ≡ length m
 memory_length plain m = refl
 memory_length (forwarded at word) m = refl
 memory_length (loaded at word) m = refl
@@ -148,14 +219,16 @@ memory_length (printed ticket word) m = refl
 memory_length (stopped read e) m = refl
 
 -- a thread of a list in which one was replaced
-at_set : (ts : List Thread) (i j : ℕ) (d e : Thread) → slice_get (set ts i d) j ≡ Some e → (d ≡ e) ⊎ (slice_get ts j ≡ Some e)
+at_set : (ts : List Thread) (i j : ℕ) (d e : Thread) → slice_get (set ts i d) j ≡ Some e → (d ≡ e)
+    ⊎ (slice_get ts j ≡ Some e)
 at_set [] i j d e h = inr h
 at_set (x ∷ xs) zero zero d e h = inl cc
 at_set (x ∷ xs) zero (suc j) d e h = inr h
 at_set (x ∷ xs) (suc i) zero d e h = inr h
 at_set (x ∷ xs) (suc i) (suc j) d e h = at_set xs i j d e h
 
-pub step_kept : (p : Setup) (s t : State) (i : ℕ) (a : Act) → p.options.fuel ≤ most_fuel → IsKept p s → Step p s i a t → IsKept p t
+pub step_kept : (p : Setup) (s t : State) (i : ℕ) (a : Act) → p.options.fuel ≤ most_fuel → IsKept p s → Step p s i a t →
+    IsKept p t
 step_kept p s t i a small h (c, d, at, takes, agrees, is) =
     let sum = all_outs_set s.threads i c d at in
     let total = h.outputs in
@@ -165,24 +238,38 @@ step_kept p s t i a small h (c, d, at, takes, agrees, is) =
       memory = memory_length a s.memory ∙ h.memory;
       outputs = omega arith;
       count = length-set s.threads i d ∙ h.count;
-      threads = λ j e at_j. ⊎_elim (λ (x : d ≡ e). subst (λ (u : Thread). IsKeptThread p u) x kept) (h.threads j e) (at_set s.threads i j d e at_j);
+      threads = λ j e at_j. ⊎_elim (λ (x : d ≡ e). subst (λ (u : Thread). IsKeptThread p u) x kept) (h.threads j e)
+          (at_set s.threads i j d e at_j);
     }
 
 first_kept : (p : Setup) (i : ℕ) → IsKeptThread p (first_thread p i)
 first_kept p i = record {
-  counted = record { loads = omega arith; forwarded = omega arith; stores = omega arith; outs = omega arith; fuel = omega arith; full = omega arith };
+  counted =
+      record {
+        loads = omega arith;
+        forwarded = omega arith;
+        stores = omega arith;
+        outs = omega arith;
+        fuel =
+            omega arith;
+        full = omega arith;
+      };
   fuel = omega arith;
-  running = λ none. let ne : p.options.fuel ≡ 0 → ⊥ = eqb-false p.options.fuel 0 (unequal (nat_eq p.options.fuel 0) end.Fuel none) in omega arith;
+  running = λ none. let ne : p.options.fuel ≡ 0 → ⊥ = eqb-false p.options.fuel 0
+      (unequal (nat_eq p.options.fuel 0) end.Fuel none) in omega arith;
   outs = omega arith;
   within = λ k x e. cc;
 }
 
-first_or_rest : (p : Setup) (i : ℕ) (es : List ℕ) → ((j : ℕ) (c : Thread) → slice_get (threads_from p (i + 1) es) j ≡ Some c → IsKeptThread p c) →
+first_or_rest : (p : Setup) (i : ℕ) (es : List ℕ) →
+    ((j : ℕ) (c : Thread) → slice_get (threads_from p (i + 1) es) j ≡ Some c → IsKeptThread p c) →
     (j : ℕ) (c : Thread) → slice_get (first_thread p i ∷ threads_from p (i + 1) es) j ≡ Some c → IsKeptThread p c
-first_or_rest p i es h zero c e = let is : first_thread p i ≡ c = cc in subst (λ (u : Thread). IsKeptThread p u) is (first_kept p i)
+first_or_rest p i es h zero c e = let is : first_thread p i ≡ c =
+    cc in subst (λ (u : Thread). IsKeptThread p u) is (first_kept p i)
 first_or_rest p i es h (suc j) c e = h j c e
 
-first_threads : (p : Setup) (i : ℕ) (es : List ℕ) → (length (threads_from p i es) ≡ length es) × (all_outs (threads_from p i es) ≡ 0)
+first_threads : (p : Setup) (i : ℕ) (es : List ℕ) → (length (threads_from p i es) ≡ length es)
+    × (all_outs (threads_from p i es) ≡ 0)
     × ((j : ℕ) (c : Thread) → slice_get (threads_from p i es) j ≡ Some c → IsKeptThread p c)
 first_threads p i [] = (refl, refl, λ j c e. cc)
 first_threads p i (x ∷ es) =
@@ -199,6 +286,7 @@ start_kept p = let f = first_threads p 0 p.image.entries in record {
   threads = f.2;
 }
 
-pub run_kept : (p : Setup) (steps : List (ℕ × Act)) (s : State) → p.options.fuel ≤ most_fuel → Run p steps s → IsKept p s
+pub run_kept : (p : Setup) (steps : List (ℕ × Act)) (s : State) → p.options.fuel ≤ most_fuel → Run p steps s →
+    IsKept p s
 run_kept p steps s small (at_start) = start_kept p
 run_kept p steps s small (and_step r i a t step) = step_kept p _ s i a small (run_kept p _ _ small r) step

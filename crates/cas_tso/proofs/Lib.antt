@@ -4,3 +4,5 @@ pub mod Going
 pub mod Keeping
 pub mod Machines
 pub mod Rounding
+pub mod Framing
+pub mod Tallying

@@ -26,7 +26,8 @@ set_same [] i c e = refl
 set_same (x ∷ xs) zero c e = let is : x ≡ c = cc in ap (λ (u : Thread). u ∷ xs) (sym is)
 set_same (x ∷ xs) (suc i) c e = ap (λ (us : List Thread). x ∷ us) (set_same xs i c e)
 
-few : (ts : List Thread) (most : ℕ) → ((j : ℕ) (d : Thread) → slice_get ts j ≡ Some d → d.counts.outs ≤ most) → all_outs ts ≤ most * length ts
+few : (ts : List Thread) (most : ℕ) → ((j : ℕ) (d : Thread) → slice_get ts j ≡ Some d → d.counts.outs ≤ most) →
+    all_outs ts ≤ most * length ts
 few [] most h = omega arith
 few (x ∷ xs) most h =
     let a = h 0 x refl in
@@ -36,7 +37,8 @@ few (x ∷ xs) most h =
 
 -- as long as a thread has outputs left, there is room for one
 pub room_left : (ts : List Thread) (i : ℕ) (c : Thread) (most : ℕ) → slice_get ts i ≡ Some c →
-    ((j : ℕ) (d : Thread) → slice_get ts j ≡ Some d → d.counts.outs ≤ most) → c.counts.outs < most → all_outs ts < most * length ts
+    ((j : ℕ) (d : Thread) → slice_get ts j ≡ Some d → d.counts.outs ≤ most) → c.counts.outs < most →
+    all_outs ts < most * length ts
 room_left [] i c most e h lt = cc
 room_left (x ∷ xs) zero c most e h lt =
     let is : x ≡ c = cc in
@@ -51,28 +53,35 @@ room_left (x ∷ xs) (suc i) c most e h lt =
     omega arith
 
 -- the room for outputs stays
-pub room_after : (ts : List Thread) (i : ℕ) (d : Thread) (most old new : ℕ) → new ≡ old → most * length ts ≤ old → most * length (set ts i d) ≤ new
+pub room_after : (ts : List Thread) (i : ℕ) (d : Thread) (most old new : ℕ) → new ≡ old → most * length ts ≤ old →
+    most * length (set ts i d) ≤ new
 room_after ts i d most old new same room =
-    subst (λ (n : ℕ). most * n ≤ new) (sym (length-set ts i d)) (subst (λ (k : ℕ). most * length ts ≤ k) (sym same) room)
+    subst (λ (n : ℕ). most * n ≤ new) (sym (length-set ts i d))
+    (subst (λ (k : ℕ). most * length ts ≤ k) (sym same) room)
 
 abbrev pub with_part : State → (thread : ℕ) → Thread → (memory : List ℕ) → (output : List (ℕ × ℕ)) → State
 with_part s i d m o = record { memory = m; output = o; threads = set s.threads i d }
 
 -- what a thread does in its part is a step
-pub act_steps : (p : Setup) (s : State) (i : ℕ) (c d : Thread) (m : List ℕ) (o : List (ℕ × ℕ)) (a : Act) → slice_get s.threads i ≡ Some c →
+pub act_steps : (p : Setup) (s : State) (i : ℕ) (c d : Thread) (m : List ℕ) (o : List (ℕ × ℕ)) (a : Act) →
+    slice_get s.threads i ≡ Some c →
     Acts p i a (part c s.memory s.output) (part d m o) → Step p s i a (with_part s i d m o)
 act_steps p s i c d m o a at (takes, agrees, em, eo) =
     (c, d, at, takes, agrees, λ n. record { memory = em n; output = eo n; threads = set s.threads i d })
 
 -- whatever a thread does or doesn't, the state stays sound
-pub kept_after : (p : Setup) (s : State) (i : ℕ) (c d : Thread) (m : List ℕ) (o : List (ℕ × ℕ)) (r : Result (Unit {0}) Refused) →
+pub kept_after : (p : Setup) (s : State) (i : ℕ) (c d : Thread) (m : List ℕ) (o : List (ℕ × ℕ))
+    (r : Result (Unit {0}) Refused) →
     p.options.fuel ≤ most_fuel → IsKept p s → slice_get s.threads i ≡ Some c →
     OnOk r ((a : Act) × Acts p i a (part c s.memory s.output) (part d m o)) →
     OnErr r ((d ≡ c) × (m ≡ s.memory) × (o ≡ s.output)) → IsKept p (with_part s i d m o)
-kept_after p s i c d m o (Ok u) small k at goes still = step_kept p s (with_part s i d m o) i goes.0 small k (act_steps p s i c d m o goes.0 at goes.1)
+kept_after p s i c d m o (Ok u) small k at goes still =
+    step_kept p s (with_part s i d m o) i goes.0 small k (act_steps p s i c d m o goes.0 at goes.1)
 kept_after p s i c d m o (Err e) small k at goes (ed, em, eo) =
     let same : with_part s i d m o ≡ s =
-    (λ n. with_part s i (ed n) (em n) (eo n)) ∙ ap (λ (ts : List Thread). let u : State = record { memory = s.memory; output = s.output; threads = ts } in u) (set_same s.threads i c at) in
+    (λ n. with_part s i (ed n) (em n) (eo n))
+    ∙ ap (λ (ts : List Thread). let u : State = record { memory = s.memory; output = s.output; threads = ts } in u)
+    (set_same s.threads i c at) in
     subst (λ (u : State). IsKept p u) (sym same) k
 
 pub on_ok : {A B : Type 0} (r : Result (Unit {0}) Refused) → (A → B) → OnOk r A → OnOk r B
@@ -94,16 +103,19 @@ pub drains_moves : (p : Setup) (i : ℕ) (u v : Part) → Drains p i u v → (a 
 drains_moves p i u v g = (g.0, g.2)
 
 -- an instruction or an end is a step of a run, and a drain one of a drain
-pub goes_steps : (p : Setup) (s : State) (i : ℕ) (c d : Thread) (m : List ℕ) (o : List (ℕ × ℕ)) → slice_get s.threads i ≡ Some c →
+pub goes_steps : (p : Setup) (s : State) (i : ℕ) (c d : Thread) (m : List ℕ) (o : List (ℕ × ℕ)) →
+    slice_get s.threads i ≡ Some c →
     Goes p i (part c s.memory s.output) (part d m o) → StepsAs p s (choice.Run i) (with_part s i d m o)
 goes_steps p s i c d m o at g = (g.0, g.1, act_steps p s i c d m o g.0 at g.2)
 
-pub drains_steps : (p : Setup) (s : State) (i : ℕ) (c d : Thread) (m : List ℕ) (o : List (ℕ × ℕ)) → slice_get s.threads i ≡ Some c →
+pub drains_steps : (p : Setup) (s : State) (i : ℕ) (c d : Thread) (m : List ℕ) (o : List (ℕ × ℕ)) →
+    slice_get s.threads i ≡ Some c →
     Drains p i (part c s.memory s.output) (part d m o) → StepsAs p s (choice.Drain i) (with_part s i d m o)
 drains_steps p s i c d m o at g = (g.0, g.1, act_steps p s i c d m o g.0 at g.2)
 
 -- the threads from one on are that one and those after it
-pub threads_step : (p : Setup) (ts : List Thread) (k : ℕ) (es : List ℕ) (x : Thread) → k < length es → x ≡ first_thread p k →
+pub threads_step : (p : Setup) (ts : List Thread) (k : ℕ) (es : List ℕ) (x : Thread) → k < length es →
+    x ≡ first_thread p k →
     (ts ++ x ∷ []) ++ threads_from p (k + 1) (drop (k + 1) es) ≡ ts ++ threads_from p k (drop k es)
 threads_step p ts k es x lt is =
     append_assoc ts (x ∷ []) (threads_from p (k + 1) (drop (k + 1) es))
@@ -111,7 +123,8 @@ threads_step p ts k es x lt is =
     ∙ (ap (λ (n : ℕ). ts ++ first_thread p k ∷ threads_from p (k + 1) (drop n es)) (add-one k)
     ∙ ap (λ (fs : List ℕ). ts ++ threads_from p k fs) (sym (drop-cons es k 0 lt))))
 
-pub threads_whole : (p : Setup) (ts : List Thread) (k : ℕ) (es : List ℕ) → length es ≤ k → ts ++ threads_from p k (drop k es) ≡ ts
+pub threads_whole : (p : Setup) (ts : List Thread) (k : ℕ) (es : List ℕ) → length es ≤ k →
+    ts ++ threads_from p k (drop k es) ≡ ts
 threads_whole p ts k es le = ap (λ (fs : List ℕ). ts ++ threads_from p k fs) (drop_all k es le) ∙ append-nil ts
 
 pub item_there : (ts : List Thread) (i : ℕ) → i < length ts → (c : Thread) × (slice_get ts i ≡ Some c)

@@ -37,7 +37,8 @@ pub granted : {A : Type 0} (r : Result (Unit {0}) Refused) (o : Option Refused) 
 granted (Ok u) o m e h = h
 granted (Err why) o m e h = absurd (other o why e m)
 
-due_stores : (m : Image) (hold : ℕ) (c : Thread) (b : List Pending) (o : Option End) → is_due_at m hold c b o ≡ true → refused_drain b ≡ None
+due_stores : (m : Image) (hold : ℕ) (c : Thread) (b : List Pending) (o : Option End) → is_due_at m hold c b o ≡ true →
+    refused_drain b ≡ None
 due_stores m hold c [] o e = cc
 due_stores m hold c (x ∷ xs) o e = refl
 
@@ -59,9 +60,11 @@ or_right : (a b : Bool) → (a || b) ≡ false → b ≡ false
 or_right true b e = cc
 or_right false b e = e
 
-free_at : (m : Image) (hold : ℕ) (c : Thread) (b : List Pending) → is_due_at m hold c b None ≡ false → must_drain (ask_of m c.cpu None) b ≡ false
+free_at : (m : Image) (hold : ℕ) (c : Thread) (b : List Pending) → is_due_at m hold c b None ≡ false →
+    must_drain (ask_of m c.cpu None) b ≡ false
 free_at m hold c [] e = empty_free (ask_of m c.cpu None)
-free_at m hold c (x ∷ xs) e = or_right (nat_le hold (c.counts.executed - x.entered)) (must_drain (ask_of m c.cpu None) (x ∷ xs)) e
+free_at m hold c (x ∷ xs) e = or_right (nat_le hold (c.counts.executed - x.entered))
+    (must_drain (ask_of m c.cpu None) (x ∷ xs)) e
 
 refused_by : (b : Bool) (why : Refused) (r : Refused) → (if b then Some r else None) ≡ Some why → b ≡ false → ⊥
 refused_by b why r e f = cc
@@ -70,10 +73,13 @@ ends_at : (m : Image) (hold : ℕ) (c : Thread) (o : Option End) (why : Refused)
     refused_run m c o ≡ Some why → (e : End) × (o ≡ Some e)
 ends_at m hold c (Some e) why free refused = (e, refl)
 ends_at m hold c None why free refused =
-    absurd (refused_by (must_drain (ask_of m c.cpu None) c.buffer) why Rattle.cas_tso.specs.declared.refused.Refused.TheVariants.MustDrain refused (free_at m hold c c.buffer free))
+    absurd (refused_by (must_drain (ask_of m c.cpu None) c.buffer)
+    why Rattle.cas_tso.specs.declared.refused.Refused.TheVariants.MustDrain refused
+    (free_at m hold c c.buffer free))
 
 -- a thread without a store that is due is refused only for its end
-pub refused_ends : (m : Image) (hold : ℕ) (c : Thread) (why : Refused) → is_due m hold c ≡ false → refused_run m c c.ended ≡ Some why →
+pub refused_ends : (m : Image) (hold : ℕ) (c : Thread) (why : Refused) → is_due m hold c ≡ false →
+    refused_run m c c.ended ≡ Some why →
     (e : End) × (c.ended ≡ Some e)
 refused_ends m hold c why free refused = ends_at m hold c c.ended why free refused
 
@@ -102,14 +108,16 @@ stores_of (c ∷ cs) zero = length c.buffer
 stores_of (c ∷ cs) (suc i) = stores_of cs i
 
 -- an instruction was executed, and at most one store entered
-goes_lighter : (p : Setup) (c d : Thread) → c.ended ≡ None → c.counts.executed < p.options.fuel → d.counts.executed ≡ c.counts.executed + 1 →
+goes_lighter : (p : Setup) (c d : Thread) → c.ended ≡ None → c.counts.executed < p.options.fuel →
+    d.counts.executed ≡ c.counts.executed + 1 →
     length d.buffer ≤ length c.buffer + 1 → weight p d < weight p c
 goes_lighter p c d e lt is long =
     let was : running c.ended ≡ 1 = ap running e in
     let le = running_le d.ended in
     omega arith
 
-takes_lighter : (p : Setup) (c : Thread) (a : Act) (d : Thread) → IsKeptThread p c → Takes p c a d → weight p d < weight p c
+takes_lighter : (p : Setup) (c : Thread) (a : Act) (d : Thread) → IsKeptThread p c → Takes p c a d →
+    weight p d < weight p c
 takes_lighter p c plain d k t =
     let e = ap (λ (u : Thread). u.counts.executed) t.2 in let b = ap (λ (u : Thread). length u.buffer) t.2 in
     goes_lighter p c d t.0 (k.running t.0) e (omega arith)
@@ -144,13 +152,15 @@ takes_lighter p c (stopped read x) d k t =
     let was : running c.ended ≡ 1 = ap running t.0 in
     omega arith
 
-total_set : (p : Setup) (ts : List Thread) (i : ℕ) (c d : Thread) → slice_get ts i ≡ Some c → weight p d < weight p c → total p (set ts i d) < total p ts
+total_set : (p : Setup) (ts : List Thread) (i : ℕ) (c d : Thread) → slice_get ts i ≡ Some c → weight p d < weight p c →
+    total p (set ts i d) < total p ts
 total_set p [] i c d e lt = cc
 total_set p (x ∷ xs) zero c d e lt = let is : x ≡ c = cc in let w = ap (weight p) is in omega arith
 total_set p (x ∷ xs) (suc i) c d e lt = let r = total_set p xs i c d e lt in omega arith
 
 -- each step makes the whole lighter
-steps_lighter : (p : Setup) (s t : State) (i : ℕ) (a : Act) → IsKept p s → Step p s i a t → total p t.threads < total p s.threads
+steps_lighter : (p : Setup) (s t : State) (i : ℕ) (a : Act) → IsKept p s → Step p s i a t →
+    total p t.threads < total p s.threads
 steps_lighter p s t i a k (c, d, at, takes, agrees, is) =
     let lt = total_set p s.threads i c d at (takes_lighter p c a d (k.threads i c at) takes) in
     let e = ap (λ (u : State). total p u.threads) is in
@@ -161,12 +171,14 @@ stores_at [] i c e = cc
 stores_at (x ∷ xs) zero c e = let is : x ≡ c = cc in ap (λ (u : Thread). length u.buffer) is
 stores_at (x ∷ xs) (suc i) c e = stores_at xs i c e
 
-stores_set : (ts : List Thread) (i : ℕ) (c d : Thread) → slice_get ts i ≡ Some c → stores_of (set ts i d) i ≡ length d.buffer
+stores_set : (ts : List Thread) (i : ℕ) (c d : Thread) → slice_get ts i ≡ Some c →
+    stores_of (set ts i d) i ≡ length d.buffer
 stores_set [] i c d e = cc
 stores_set (x ∷ xs) zero c d e = refl
 stores_set (x ∷ xs) (suc i) c d e = stores_set xs i c d e
 
-drain_fewer : (p : Setup) (c : Thread) (a : Act) (d : Thread) → IsDrain a → Takes p c a d → length d.buffer < length c.buffer
+drain_fewer : (p : Setup) (c : Thread) (a : Act) (d : Thread) → IsDrain a → Takes p c a d →
+    length d.buffer < length c.buffer
 drain_fewer p c plain d h t = absurd h
 drain_fewer p c (forwarded at word) d h t = absurd h
 drain_fewer p c (loaded at word) d h t = absurd h
@@ -178,7 +190,8 @@ drain_fewer p c (printed ticket word) d h t = absurd h
 drain_fewer p c (stopped read x) d h t = absurd h
 
 -- a drain leaves its thread with fewer stores
-pub drains_fewer : (p : Setup) (s t : State) (i : ℕ) → StepsAs p s (choice.Drain i) t → stores_of t.threads i < stores_of s.threads i
+pub drains_fewer : (p : Setup) (s t : State) (i : ℕ) → StepsAs p s (choice.Drain i) t →
+    stores_of t.threads i < stores_of s.threads i
 drains_fewer p s t i (a, drains, (c, d, at, takes, agrees, is)) =
     let fewer = drain_fewer p c a d drains takes in
     let was = stores_at s.threads i c at in
@@ -188,15 +201,18 @@ drains_fewer p s t i (a, drains, (c, d, at, takes, agrees, is)) =
 
 -- Rounds come to an end.
 
-drained_lighter : (p : Setup) (hold i : ℕ) (s t : State) → p.options.fuel ≤ most_fuel → IsKept p s → Drained p hold i s t →
+drained_lighter : (p : Setup) (hold i : ℕ) (s t : State) → p.options.fuel ≤ most_fuel → IsKept p s →
+    Drained p hold i s t →
     IsKept p t × ((total p t.threads < total p s.threads) ⊎ (t ≡ s))
 drained_lighter p hold i s t small k none = (k, inr refl)
 drained_lighter p hold i s t small k (one_more u v before due (a, drains, step)) =
     let r = drained_lighter p hold i s u small k before in
     let lt = steps_lighter p u t i a r.0 step in (
       step_kept p u t i a small r.0 step,
-      inl (⊎_elim (λ (x : total p u.threads < total p s.threads). let y : total p t.threads < total p s.threads = omega arith in y)
-          (λ (x : u ≡ s). let e = ap (λ (w : State). total p w.threads) x in let y : total p t.threads < total p s.threads = omega arith in y) r.1),
+      inl (⊎_elim (λ (x : total p u.threads < total p s.threads). let y : total p t.threads < total p s.threads =
+          omega arith in y)
+          (λ (x : u ≡ s). let e = ap (λ (w : State). total p w.threads) x in
+          let y : total p t.threads < total p s.threads = omega arith in y) r.1),
     )
 
 turn_lighter : (p : Setup) (hold i : ℕ) (s t : State) → p.options.fuel ≤ most_fuel → IsKept p s → Turn p hold i s t →
@@ -205,18 +221,27 @@ turn_lighter p hold i s t small k (steps u v before free (a, goes, step)) =
     let r = drained_lighter p hold i s u small k before in
     let lt = steps_lighter p u t i a r.0 step in (
       step_kept p u t i a small r.0 step,
-      inl (⊎_elim (λ (x : total p u.threads < total p s.threads). let y : total p t.threads < total p s.threads = omega arith in y)
-          (λ (x : u ≡ s). let e = ap (λ (w : State). total p w.threads) x in let y : total p t.threads < total p s.threads = omega arith in y) r.1),
+      inl (⊎_elim (λ (x : total p u.threads < total p s.threads). let y : total p t.threads < total p s.threads =
+          omega arith in y)
+          (λ (x : u ≡ s). let e = ap (λ (w : State). total p w.threads) x in
+          let y : total p t.threads < total p s.threads = omega arith in y) r.1),
     )
 turn_lighter p hold i s t small k (rests u before free ended) =
     let r = drained_lighter p hold i s t small k before in (
       r.0,
       ⊎_elim (λ (x : total p t.threads < total p s.threads). inl x)
-          (λ (x : t ≡ s). inr (x, subst (λ (w : State). IsNotDue p hold w i) x free, subst (λ (w : State). HasEnd p hold w i) x ended)) r.1,
+          (λ (x : t ≡ s). inr (
+            x,
+            subst (λ (w : State). IsNotDue p hold w i) x free,
+            subst
+                (λ (w : State). HasEnd p hold w i) x ended,
+          )) r.1,
     )
 
-turns_lighter : (p : Setup) (hold : ℕ) (s : State) (n : ℕ) (t : State) → p.options.fuel ≤ most_fuel → IsKept p s → Turns p hold s n t →
-    IsKept p t × ((total p t.threads < total p s.threads) ⊎ ((t ≡ s) × ((i : ℕ) → i < n → IsNotDue p hold s i × HasEnd p hold s i)))
+turns_lighter : (p : Setup) (hold : ℕ) (s : State) (n : ℕ) (t : State) → p.options.fuel ≤ most_fuel → IsKept p s →
+    Turns p hold s n t →
+    IsKept p t × ((total p t.threads < total p s.threads)
+    ⊎ ((t ≡ s) × ((i : ℕ) → i < n → IsNotDue p hold s i × HasEnd p hold s i)))
 turns_lighter p hold s n t small k begin = (k, inr (refl, λ i lt. absurd (omega arith)))
 turns_lighter p hold s n t small k (next m u v before below turn) =
     let r = turns_lighter p hold s m u small k before in
@@ -224,13 +249,16 @@ turns_lighter p hold s n t small k (next m u v before below turn) =
       q.0,
       ⊎_elim
           (λ (x : total p u.threads < total p s.threads). ⊎_elim
-          (λ (y : total p t.threads < total p u.threads). let z : total p t.threads < total p s.threads = omega arith in inl z)
+          (λ (y : total p t.threads < total p u.threads). let z : total p t.threads < total p s.threads = omega arith in
+          inl z)
           (λ (y : (t ≡ u) × IsNotDue p hold u m × HasEnd p hold u m).
-          let e = ap (λ (w : State). total p w.threads) y.0 in let z : total p t.threads < total p s.threads = omega arith in inl z)
+          let e = ap (λ (w : State). total p w.threads) y.0 in let z : total p t.threads < total p s.threads =
+          omega arith in inl z)
           q.1)
           (λ (x : (u ≡ s) × ((i : ℕ) → i < m → IsNotDue p hold s i × HasEnd p hold s i)). ⊎_elim
           (λ (y : total p t.threads < total p u.threads).
-          let e = ap (λ (w : State). total p w.threads) x.0 in let z : total p t.threads < total p s.threads = omega arith in inl z)
+          let e = ap (λ (w : State). total p w.threads) x.0 in let z : total p t.threads < total p s.threads =
+          omega arith in inl z)
           (λ (y : (t ≡ u) × IsNotDue p hold u m × HasEnd p hold u m). inr (
             y.0 ∙ x.0,
             below_more (λ i. IsNotDue p hold s i × HasEnd p hold s i) m x.1
@@ -240,7 +268,8 @@ turns_lighter p hold s n t small k (next m u v before below turn) =
           r.1,
     )
 
-finished_at : (m : Image) (hold : ℕ) (c : Thread) (b : List Pending) (o : Option End) → is_due_at m hold c b o ≡ false → (e : End) × (o ≡ Some e) →
+finished_at : (m : Image) (hold : ℕ) (c : Thread) (b : List Pending) (o : Option End) → is_due_at m hold c b o ≡ false →
+    (e : End) × (o ≡ Some e) →
     has_finished_at o b ≡ true
 finished_at m hold c b None free (e, is) = cc
 finished_at m hold c [] (Some end.Done) free h = refl
@@ -251,17 +280,20 @@ finished_at m hold c b (Some end.Outs) free h = refl
 finished_at m hold c b (Some (end.Bad why)) free h = refl
 
 -- a round that begins in a state that isn't ended makes the whole lighter
-pub round_lighter : (p : Setup) (hold : ℕ) (s t : State) → p.options.fuel ≤ most_fuel → IsKept p s → Turns p hold s (length s.threads) t →
+pub round_lighter : (p : Setup) (hold : ℕ) (s t : State) → p.options.fuel ≤ most_fuel → IsKept p s →
+    Turns p hold s (length s.threads) t →
     (IsEnded s → ⊥) → total p t.threads < total p s.threads
 round_lighter p hold s t small k turns unended =
     ⊎_elim (λ (x : total p t.threads < total p s.threads). x)
     (λ (x : (t ≡ s) × ((i : ℕ) → i < length s.threads → IsNotDue p hold s i × HasEnd p hold s i)).
-    absurd (unended (λ i c at. let f = x.1 i (slice_get_within s.threads i c at) in finished_at p.image hold c c.buffer c.ended (f.0 c at) (f.1 c at))))
+    absurd (unended (λ i c at. let f = x.1 i (slice_get_within s.threads i c at) in
+    finished_at p.image hold c c.buffer c.ended (f.0 c at) (f.1 c at))))
     (turns_lighter p hold s (length s.threads) t small k turns).1
 
 -- Rounds are timed runs.
 
-drains_in_time : (p : Setup) (c : Thread) (a : Act) → IsDrain a → is_due p.image p.options.hold c ≡ true → IsInTime p c a
+drains_in_time : (p : Setup) (c : Thread) (a : Act) → IsDrain a → is_due p.image p.options.hold c ≡ true →
+    IsInTime p c a
 drains_in_time p c plain h e = absurd h
 drains_in_time p c (forwarded at word) h e = absurd h
 drains_in_time p c (loaded at word) h e = absurd h
@@ -271,7 +303,8 @@ drains_in_time p c (decremented at word) h e = absurd h
 drains_in_time p c (printed ticket word) h e = absurd h
 drains_in_time p c (stopped read x) h e = absurd h
 
-goes_in_time : (p : Setup) (c : Thread) (a : Act) → (IsDrain a → ⊥) → is_due p.image p.options.hold c ≡ false → IsInTime p c a
+goes_in_time : (p : Setup) (c : Thread) (a : Act) → (IsDrain a → ⊥) → is_due p.image p.options.hold c ≡ false →
+    IsInTime p c a
 goes_in_time p c plain h e = e
 goes_in_time p c (forwarded at word) h e = e
 goes_in_time p c (loaded at word) h e = e
@@ -302,20 +335,24 @@ turns_timed p s n t r (next m u v before below turn) = turn_timed p m u t (turns
 
 pub rounds_timed : (p : Setup) (s t : State) → IsTimed p s → Rounds p p.options.hold s t → IsTimed p t
 rounds_timed p s t r no_round = r
-rounds_timed p s t r (one_round u v before unended turns) = turns_timed p u (length u.threads) t (rounds_timed p s u r before) turns
+rounds_timed p s t r (one_round u v before unended turns) =
+    turns_timed p u (length u.threads) t (rounds_timed p s u r before) turns
 
 -- What the code's calls tell.
 
 -- a drain that was due is one more
-pub drained_more : (p q : Setup) (hold i : ℕ) (s t u : State) → q ≡ p → Drained p hold i s t → IsDue q hold t i → StepsAs q t (choice.Drain i) u → Drained p hold i s u
+pub drained_more : (p q : Setup) (hold i : ℕ) (s t u : State) → q ≡ p → Drained p hold i s t → IsDue q hold t i →
+    StepsAs q t (choice.Drain i) u → Drained p hold i s u
 drained_more p q hold i s t u e d due step =
-    one_more t u d (subst (λ (x : Setup). IsDue x hold t i) e due) (subst (λ (x : Setup). StepsAs x t (choice.Drain i) u) e step)
+    one_more t u d (subst (λ (x : Setup). IsDue x hold t i) e due)
+    (subst (λ (x : Setup). StepsAs x t (choice.Drain i) u) e step)
 
 -- what a run answers after the stores that were due
 pub turned : (p : Setup) (hold i : ℕ) (s : State) (t u : Machine) (r : Result (Unit {0}) Refused) → t.setup ≡ p →
     Drained p hold i s t.state → IsNotDue p hold t.state i →
     ((c : Thread) → slice_get t.state.threads i ≡ Some c →
-    MatchResult r (λ _. refused_run t.setup.image c c.ended ≡ None) (λ why. refused_run t.setup.image c c.ended ≡ Some why)) →
+    MatchResult r (λ _. refused_run t.setup.image c c.ended ≡ None)
+    (λ why. refused_run t.setup.image c c.ended ≡ Some why)) →
     OnOk r (StepsAs t.setup t.state (choice.Run i) u.state) → OnErr r (u ≡ t) → Turn p hold i s u.state
 turned p hold i s t u (Ok v) e d free answer ok still =
     steps t.state u.state d free (subst (λ (x : Setup). StepsAs x t.state (choice.Run i) u.state) e ok)

@@ -7,7 +7,8 @@ use Rattle.cas_tso.specs.declared.pending.Pending.{Pending}
 abbrev pub most_fuel : ℕ
 most_fuel = 4000000000
 
--- a thread's counts fit each other: not more loads than instructions, not more forwarded than loads, each store entered by an
+-- a thread's counts fit each other: not more loads than instructions, not more forwarded than loads, each store entered
+-- by an
 -- instruction and is either in the buffer or was drained, each output was made by an instruction
 pub record IsCounted (c : Thread) : Type 0 where
   pub loads : c.counts.loads ≤ c.counts.executed
@@ -17,7 +18,8 @@ pub record IsCounted (c : Thread) : Type 0 where
   pub fuel : c.counts.executed ≤ most_fuel
   pub full : length c.buffer ≤ room
 
--- a thread of a machine: a running one has fuel left, it has made no more outputs than it may, and its stores are to memory
+-- a thread of a machine: a running one has fuel left, it has made no more outputs than it may, and its stores are to
+-- memory
 pub record IsKeptThread (p : Setup) (c : Thread) : Type 0 where
   pub counted : IsCounted c
   pub fuel : c.counts.executed ≤ p.options.fuel
@@ -30,7 +32,8 @@ abbrev pub all_outs : List Thread → ℕ
 all_outs [] = 0
 all_outs (c ∷ cs) = c.counts.outs + all_outs cs
 
--- a state of a machine: memory has the image's words, as many outputs stand in the output as the threads have made, and there is
+-- a state of a machine: memory has the image's words, as many outputs stand in the output as the threads have made, and
+-- there is
 -- a thread for each entry
 pub record IsKept (p : Setup) (s : State) : Type 0 where
   pub memory : length s.memory ≡ length p.image.words

@@ -9,3 +9,6 @@ pub mod Asking
 pub mod Machine
 pub mod Inside
 pub mod Rounds
+pub mod Report
+pub mod Frame
+pub mod Tally

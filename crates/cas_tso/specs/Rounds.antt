@@ -1,4 +1,5 @@
--- Rounds: in its turn a thread drains its due stores and executes one instruction, and the threads take turns in the order of
+-- Rounds: in its turn a thread drains its due stores and executes one instruction, and the threads take turns in the
+-- order of
 -- their numbers.
 use Rattle.std.specs.Prelude.{◌≡◌, ℕ, ◌+◌, ◌<◌, true, false, length, Some, slice_get}
 use Rattle.cas_tso.specs.Refusal.{StepsAs}

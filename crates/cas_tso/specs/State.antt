@@ -1,4 +1,5 @@
--- The states of the x86-TSO machine (Sewell, Sarkar, Owens, Zappa Nardelli and Myreen): one memory, and for each thread a
+-- The states of the x86-TSO machine (Sewell, Sarkar, Owens, Zappa Nardelli and Myreen): one memory, and for each thread
+-- a
 -- processor with a first-in first-out buffer of stores.
 use Rattle.std.specs.Prelude.{ℕ, List, [], ◌∷◌, Option, Some, None, if◌then◌else◌, nat_eq, slice_index}
 use Rattle.std.specs.Option.{option_or, unwrap_or}
@@ -8,7 +9,8 @@ use Rattle.cas_tso.specs.declared.end.End.{End}
 use Rattle.cas_tso.specs.declared.options.Options.{Options}
 use Rattle.cas_tso.specs.declared.pending.Pending.{Pending}
 
--- how many instructions a thread executed, how many of them loaded a shared word, how many of these took it from the thread's
+-- how many instructions a thread executed, how many of them loaded a shared word, how many of these took it from the
+-- thread's
 -- own buffer, how many stores were drained, and how many outputs were made
 pub record Counts : Type 0 where
   pub executed : ℕ
@@ -17,7 +19,8 @@ pub record Counts : Type 0 where
   pub drains : ℕ
   pub outs : ℕ
 
--- a thread: its processor, its stores that aren't in memory yet, the oldest first, its counts, and its end, if it has one
+-- a thread: its processor, its stores that aren't in memory yet, the oldest first, its counts, and its end, if it has
+-- one
 pub record Thread : Type 0 where
   pub cpu : Cpu
   pub buffer : List Pending

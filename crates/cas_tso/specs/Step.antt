@@ -1,4 +1,5 @@
--- The seven steps of the machine. What a thread does is said of its own state alone (`Takes`), by an act that names the words
+-- The seven steps of the machine. What a thread does is said of its own state alone (`Takes`), by an act that names the
+-- words
 -- that it met. What an act needs of memory and output (`Agrees`) and what it does to them is said apart.
 use Rattle.std.specs.Prelude.{◌≡◌, ⊤, ℕ, ◌+◌, ◌<◌, List, [], ◌∷◌, ◌++◌, length, Option, Some, None, if◌then◌else◌, nat_eq, nat_lt, slice_get, slice_set}
 use Rattle.cas_base.specs.Word.{word_sub}
@@ -53,11 +54,13 @@ stop_of o c _ = None
 abbrev pub Stops : Setup → Thread → Read → End → Type 0
 Stops p c unread e = stop_of p.options c (asks p c None) ≡ Some e
 Stops p c (from_buffer at word) e =
-    (asks p c None ≡ ask.Load at) × (newest c.buffer at ≡ Some word) × (stop_of p.options c (asks p c (Some word)) ≡ Some e)
+    (asks p c None ≡ ask.Load at) × (newest c.buffer at ≡ Some word)
+    × (stop_of p.options c (asks p c (Some word)) ≡ Some e)
 Stops p c (from_memory at word) e =
     (asks p c None ≡ ask.Load at) × (newest c.buffer at ≡ None) × (stop_of p.options c (asks p c (Some word)) ≡ Some e)
 
--- the end of a thread that has executed so many instructions, the last of them that to which this was the answer: Done by the
+-- the end of a thread that has executed so many instructions, the last of them that to which this was the answer: Done
+-- by the
 -- return to the outermost place, else Fuel as soon as no fuel is left
 abbrev pub end_after : Options → Ask → (executed : ℕ) → Option End
 end_after o ask.Finish n = Some end.Done
@@ -74,7 +77,8 @@ executed p c asked word = record {
 
 -- so many loads more, and so many of them forwarded
 abbrev pub counting_load : Thread → (forwards : ℕ) → Thread
-counting_load c n = record c { counts = record c.counts { loads = c.counts.loads + 1; forwarded = c.counts.forwarded + n } }
+counting_load c n =
+    record c { counts = record c.counts { loads = c.counts.loads + 1; forwarded = c.counts.forwarded + n } }
 
 abbrev pub after_plain : Setup → Thread → Thread
 after_plain p c = executed p c (asks p c None) 0

@@ -11,18 +11,21 @@ use Rattle.cas_tso.specs.declared.end.End.{End}
 use Rattle.cas_tso.specs.declared.end.End.TheVariants as end
 use Rattle.cas_tso.specs.declared.pending.Pending.{Pending}
 
--- an instruction that asks for this can't be executed before the oldest store is drained: it stores where the buffer is full, or
+-- an instruction that asks for this can't be executed before the oldest store is drained: it stores where the buffer is
+-- full, or
 -- is locked where the buffer isn't empty
 abbrev pub must_drain : Ask → List Pending → Bool
 must_drain (ask.Store at value) b = nat_le room (length b)
 must_drain (ask.LockedDec at) b = nat_lt 0 (length b)
 must_drain _ b = false
 
--- whether the oldest of these stores is due, by the thread's end: the thread is Done, or it has no end, and `hold` further
+-- whether the oldest of these stores is due, by the thread's end: the thread is Done, or it has no end, and `hold`
+-- further
 -- instructions were executed after it, or it must be drained before the next
 abbrev pub is_due_at : Image → (hold : ℕ) → Thread → List Pending → Option End → Bool
 is_due_at m hold c [] ended = false
-is_due_at m hold c (x ∷ xs) None = nat_le hold (c.counts.executed - x.entered) || must_drain (ask_of m c.cpu None) (x ∷ xs)
+is_due_at m hold c (x ∷ xs) None = nat_le hold (c.counts.executed - x.entered) || must_drain (ask_of m c.cpu None)
+    (x ∷ xs)
 is_due_at m hold c (x ∷ xs) (Some end.Done) = true
 is_due_at m hold c (x ∷ xs) (Some _) = false
 

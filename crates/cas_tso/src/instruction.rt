@@ -30,7 +30,8 @@ fn forward(core: &mut ThreadCore, image: &Image, options: &Options, at: u32, wor
     requires load { ask_of image.now core.old.cpu None ≡ ask.Load at }
     requires newest { newest core.old.buffer at ≡ Some word }
     requires fuel { core.old.counts.executed < 4000000000 }
-    ensures { (i : ℕ) (m : List ℕ) (o : List (ℕ × ℕ)) → Goes (setup image.now options.now) i (part core.old m o) (part core.new m o) }
+    ensures { (i : ℕ) (m : List ℕ) (o : List (ℕ × ℕ)) → Goes (setup image.now options.now) i (part core.old m o)
+        (part core.new m o) }
 {
     match core.stop_of(options, core.ask(image, Some(word))) {
         Some(end) => core.stop(end),
@@ -45,7 +46,8 @@ fn load(core: &mut ThreadCore, image: &Image, options: &Options, memory: &[u32],
     requires newest { newest core.old.buffer at ≡ None }
     requires fuel { core.old.counts.executed < 4000000000 }
     requires place { at < length memory.now }
-    ensures { (i : ℕ) (o : List (ℕ × ℕ)) → Goes (setup image.now options.now) i (part core.old memory.now o) (part core.new memory.now o) }
+    ensures { (i : ℕ) (o : List (ℕ × ℕ)) → Goes (setup image.now options.now) i (part core.old memory.now o)
+        (part core.new memory.now o) }
 {
     let word = word_at(memory, at);
     match core.stop_of(options, core.ask(image, Some(word))) {
@@ -68,7 +70,8 @@ fn decrement(
     requires fuel { core.old.counts.executed < 4000000000 }
     requires place { at < vec_len memory.old }
     ensures wide { vec_len memory.new ≡ vec_len memory.old }
-    ensures goes { (i : ℕ) (o : List (ℕ × ℕ)) → Goes (setup image.now options.now) i (part core.old memory.old.items o) (part core.new memory.new.items o) }
+    ensures goes { (i : ℕ) (o : List (ℕ × ℕ)) → Goes (setup image.now options.now) i
+        (part core.old memory.old.items o) (part core.new memory.new.items o) }
 {
     let word = word_at(memory, at);
     core.decrement(image, options, at, word);
@@ -89,7 +92,8 @@ fn print(
     requires fuel { core.old.counts.executed < 4000000000 }
     requires room { core.old.counts.outs < options.now.outs → vec_len output.old < vec_capacity output.old }
     ensures capacity { vec_capacity output.new ≡ vec_capacity output.old }
-    ensures goes { (m : List ℕ) → Goes (setup image.now options.now) thread (part core.old m output.old.items) (part core.new m output.new.items) }
+    ensures goes { (m : List ℕ) → Goes (setup image.now options.now) thread (part core.old m output.old.items)
+        (part core.new m output.new.items) }
 {
     match core.stop_of(options, Ask::Out { value: word }) {
         Some(end) => core.stop(end),
@@ -116,7 +120,8 @@ fn execute(
     requires room { core.old.counts.outs < options.now.outs → vec_len output.old < vec_capacity output.old }
     ensures wide { vec_len memory.new ≡ vec_len memory.old }
     ensures capacity { vec_capacity output.new ≡ vec_capacity output.old }
-    ensures goes { Goes (setup image.now options.now) thread (part core.old memory.old.items output.old.items) (part core.new memory.new.items output.new.items) }
+    ensures goes { Goes (setup image.now options.now) thread (part core.old memory.old.items output.old.items)
+        (part core.new memory.new.items output.new.items) }
 {
     match core.ask(image, None) {
         Ask::Plain | Ask::Finish => core.run(image, options),
@@ -146,9 +151,12 @@ pub(crate) fn run_next(
     requires room { core.old.counts.outs < options.now.outs → vec_len output.old < vec_capacity output.old }
     ensures wide { vec_len memory.new ≡ vec_len memory.old }
     ensures capacity { vec_capacity output.new ≡ vec_capacity output.old }
-    ensures goes { OnOk result (Goes (setup image.now options.now) thread (part core.old memory.old.items output.old.items) (part core.new memory.new.items output.new.items)) }
-    ensures answer { MatchResult result (λ _. refused_run image.now core.old core.old.ended ≡ None) (λ why. refused_run image.now core.old core.old.ended ≡ Some why) }
-    ensures still { OnErr result ((core.new ≡ core.old) × (memory.new.items ≡ memory.old.items) × (output.new.items ≡ output.old.items)) }
+    ensures goes { OnOk result (Goes (setup image.now options.now) thread
+        (part core.old memory.old.items output.old.items) (part core.new memory.new.items output.new.items)) }
+    ensures answer { MatchResult result (λ _. refused_run image.now core.old core.old.ended ≡ None)
+        (λ why. refused_run image.now core.old core.old.ended ≡ Some why) }
+    ensures still { OnErr result ((core.new ≡ core.old) × (memory.new.items ≡ memory.old.items)
+        × (output.new.items ≡ output.old.items)) }
 {
     if core.end().is_some() {
         return Err(Refused::Ended);
@@ -164,8 +172,10 @@ pub(crate) fn run_next(
 pub(crate) fn drain_oldest(core: &mut ThreadCore, memory: &mut Vec<u32>) -> Result<(), Refused>
     requires { (k : ℕ) (x : Pending) → slice_get core.old.buffer k ≡ Some x → x.at < vec_len memory.old }
     ensures wide { vec_len memory.new ≡ vec_len memory.old }
-    ensures drains { OnOk result ((p : Setup) (i : ℕ) (o : List (ℕ × ℕ)) → Drains p i (part core.old memory.old.items o) (part core.new memory.new.items o)) }
-    ensures answer { MatchResult result (λ _. refused_drain core.old.buffer ≡ None) (λ why. refused_drain core.old.buffer ≡ Some why) }
+    ensures drains { OnOk result ((p : Setup) (i : ℕ) (o : List (ℕ × ℕ))
+        → Drains p i (part core.old memory.old.items o) (part core.new memory.new.items o)) }
+    ensures answer { MatchResult result (λ _. refused_drain core.old.buffer ≡ None)
+        (λ why. refused_drain core.old.buffer ≡ Some why) }
     ensures still { OnErr result ((core.new ≡ core.old) × (memory.new.items ≡ memory.old.items)) }
 {
     let Some(store) = core.drain() else {

@@ -8,6 +8,7 @@ mod machine;
 mod options;
 mod pending;
 mod refused;
+mod report;
 mod rounds;
 mod thread;
 
@@ -16,4 +17,5 @@ pub use machine::Tso;
 pub use options::Options;
 pub use pending::Pending;
 pub use refused::{Choice, Refused};
+pub use report::{Report, ThreadEnd, print_report};
 pub use thread::{ROOM, ThreadCore};

@@ -1,10 +1,11 @@
 //! The machine.
 
-ghost use Rattle.std.specs.Prelude.{◌≡◌, ◌*◌, ◌<◌, ◌≤◌, ℕ, Some, None, IfOk, OnErr, OnOk, MatchResult, length, slice_get};
+ghost use Rattle.std.specs.Prelude.{◌≡◌, ◌*◌, ◌<◌, ◌≤◌, ℕ, Some, None, IfOk, OnErr, OnOk, MatchResult, length, map, slice_get};
 ghost use Rattle.std.specs.Bool.{MatchBool};
 ghost use Rattle.cas_tso.specs.Counted.{IsKept, most_fuel};
 ghost use Rattle.cas_tso.specs.Machine.{machine};
 ghost use Rattle.cas_tso.specs.Refusal.{StepsAs, refused_choice, refused_drain, refused_run, thread_of};
+ghost use Rattle.cas_tso.specs.Report.{report_of, thread_end};
 ghost use Rattle.cas_tso.specs.Run.{start_state, threads_from};
 ghost use Rattle.cas_tso.specs.State.{Thread, setup};
 ghost use Rattle.cas_tso.specs.Timed.{AreFinished, IsEnded, is_due};
@@ -13,9 +14,10 @@ ghost use Rattle.cas_tso.specs.declared.refused.Choice.TheVariants as choice;
 use crate::instruction::{drain_oldest, run_next};
 use crate::options::Options;
 use crate::refused::{Choice, Refused};
+use crate::report::{Report, ThreadEnd};
 use crate::thread::ThreadCore;
-use cas_asm::Image;
-use cas_base::NoMemory;
+use cas_asm::{Core, Image};
+use cas_base::{NoMemory, Seq};
 use std::alloc::Global;
 use std::marker::Model;
 
@@ -42,7 +44,8 @@ impl<'a> Model for Tso<'a> {
 }
 
 impl<'a> Tso<'a> {
-    /// The machine of an image at its start, with one thread for each entry. All memory that it ever needs is taken here.
+    /// The machine of an image at its start, with one thread for each entry. All memory that it ever needs is taken
+    /// here.
     ///
     /// # Errors
     ///
@@ -52,7 +55,8 @@ impl<'a> Tso<'a> {
         requires least { 16 ≤ options.now.stack }
         requires most { options.now.stack ≤ 1048576 }
         requires outs { options.now.outs * length image.now.entries ≤ 16777216 }
-        ensures { IfOk result (λ t. t ≡ machine (setup image.now options.now) (start_state (setup image.now options.now))) }
+        ensures { IfOk result (λ t. t ≡ machine (setup image.now options.now) (start_state
+            (setup image.now options.now))) }
     {
         let memory = Vec::from_slice(alloc, image.words.as_slice())?;
         let outs = options.outs as usize * image.entries.as_slice().len();
@@ -74,10 +78,34 @@ impl<'a> Tso<'a> {
         self.threads.len() as u32
     }
 
+    /// The words of memory.
+    pub fn memory(&self) -> &[u32]
+        ensures { result.now ≡ self.now.state.memory }
+    {
+        self.memory.as_slice()
+    }
+
+    /// The registers, flags and place of a thread's processor.
+    pub fn core(&self, thread: u32) -> Core
+        requires { thread < length self.now.state.threads }
+        ensures { (c : Thread) → slice_get self.now.state.threads thread ≡ Some c → result ≡ c.cpu.core }
+    {
+        self.threads[thread as usize].core()
+    }
+
+    /// How many stores are in a thread's buffer.
+    pub fn stores(&self, thread: u32) -> usize
+        requires { thread < length self.now.state.threads }
+        ensures { (c : Thread) → slice_get self.now.state.threads thread ≡ Some c → result ≡ length c.buffer }
+    {
+        self.threads[thread as usize].stores()
+    }
+
     /// Whether a store of the thread is due.
     pub(crate) fn is_due(&self, thread: u32, hold: u32) -> bool
         requires { thread < length self.now.state.threads }
-        ensures due { (c : Thread) → slice_get self.now.state.threads thread ≡ Some c → result ≡ is_due self.now.setup.image hold c }
+        ensures due { (c : Thread) → slice_get self.now.state.threads thread ≡ Some c
+            → result ≡ is_due self.now.setup.image hold c }
         ensures kept { IsKept self.now.setup self.now.state }
         ensures fuel { self.now.setup.options.fuel ≤ most_fuel }
     {
@@ -93,12 +121,31 @@ impl<'a> Tso<'a> {
         are_finished(&self.threads)
     }
 
+    /// What the machine has come to.
+    ///
+    /// # Errors
+    ///
+    /// `NoMemory` for want of memory.
+    pub fn report(&self, alloc: Global) -> Result<Report, NoMemory>
+        ensures report { IfOk result (λ report. report ≡ report_of self.now.state) }
+        ensures few { IfOk result (λ report. length report.threads ≤ 64) }
+    {
+        let out = Vec::from_slice(alloc, &self.output)?;
+        let threads = thread_ends(alloc, &self.threads)?;
+        Ok(Report {
+            out: Seq::of(out),
+            threads: Seq::of(threads),
+        })
+    }
+
     // The thread executes its next instruction, or ends in place of it.
     pub(crate) fn run(&mut self, thread: u32) -> Result<(), Refused>
         requires { thread < length self.old.state.threads }
         ensures setup { self.new.setup ≡ self.old.setup }
         ensures threads { length self.new.state.threads ≡ length self.old.state.threads }
-        ensures answer { (c : Thread) → slice_get self.old.state.threads thread ≡ Some c → MatchResult result (λ _. refused_run self.old.setup.image c c.ended ≡ None) (λ why. refused_run self.old.setup.image c c.ended ≡ Some why) }
+        ensures answer { (c : Thread) → slice_get self.old.state.threads thread ≡ Some c
+            → MatchResult result (λ _. refused_run self.old.setup.image c c.ended
+            ≡ None) (λ why. refused_run self.old.setup.image c c.ended ≡ Some why) }
         ensures steps { OnOk result (StepsAs self.old.setup self.old.state (choice.Run thread) self.new.state) }
         ensures still { OnErr result (self.new ≡ self.old) }
     {
@@ -118,7 +165,8 @@ impl<'a> Tso<'a> {
         requires { thread < length self.old.state.threads }
         ensures setup { self.new.setup ≡ self.old.setup }
         ensures threads { length self.new.state.threads ≡ length self.old.state.threads }
-        ensures answer { (c : Thread) → slice_get self.old.state.threads thread ≡ Some c → MatchResult result (λ _. refused_drain c.buffer ≡ None) (λ why. refused_drain c.buffer ≡ Some why) }
+        ensures answer { (c : Thread) → slice_get self.old.state.threads thread ≡ Some c
+            → MatchResult result (λ _. refused_drain c.buffer ≡ None) (λ why. refused_drain c.buffer ≡ Some why) }
         ensures steps { OnOk result (StepsAs self.old.setup self.old.state (choice.Drain thread) self.new.state) }
         ensures still { OnErr result (self.new ≡ self.old) }
     {
@@ -126,19 +174,21 @@ impl<'a> Tso<'a> {
         drain_oldest(core, &mut self.memory)
     }
 
-    /// Takes a step that is chosen: the thread executes its next instruction or ends in place of it, or its oldest store goes to
-    /// memory. It takes no memory.
+    /// Takes a step that is chosen: the thread executes its next instruction or ends in place of it, or its oldest
+    /// store goes to memory. It takes no memory.
     ///
     /// # Errors
     ///
-    /// `Refused`, and then nothing changes: `Ended` exactly where a thread with an end is to run, `NothingToDrain` exactly where
-    /// a thread with an empty buffer is to drain, and `MustDrain` exactly where the next instruction of a thread that is to run
-    /// is locked while its buffer isn't empty, or stores while its buffer is full.
+    /// `Refused`, and then nothing changes: `Ended` exactly where a thread with an end is to run, `NothingToDrain`
+    /// exactly where a thread with an empty buffer is to drain, and `MustDrain` exactly where the next instruction of
+    /// a thread that is to run is locked while its buffer isn't empty, or stores while its buffer is full.
     pub fn step(&mut self, choice: Choice) -> Result<(), Refused>
         requires { thread_of choice < length self.old.state.threads }
         ensures setup { self.new.setup ≡ self.old.setup }
         ensures threads { length self.new.state.threads ≡ length self.old.state.threads }
-        ensures answer { (c : Thread) → slice_get self.old.state.threads (thread_of choice) ≡ Some c → MatchResult result (λ _. refused_choice self.old.setup.image c choice ≡ None) (λ why. refused_choice self.old.setup.image c choice ≡ Some why) }
+        ensures answer { (c : Thread) → slice_get self.old.state.threads (thread_of choice) ≡ Some c
+            → MatchResult result (λ _. refused_choice self.old.setup.image c choice
+            ≡ None) (λ why. refused_choice self.old.setup.image c choice ≡ Some why) }
         ensures steps { OnOk result (StepsAs self.old.setup self.old.state choice self.new.state) }
         ensures still { OnErr result (self.new ≡ self.old) }
     {
@@ -147,6 +197,17 @@ impl<'a> Tso<'a> {
             Choice::Drain(thread) => self.drain(thread),
         }
     }
+}
+
+// What is reported of each of these threads.
+fn thread_ends(alloc: Global, threads: &[ThreadCore]) -> Result<Vec<ThreadEnd>, NoMemory>
+    ensures { IfOk result (λ ends. ends.items ≡ map thread_end threads.now) }
+{
+    let mut ends = Vec::new(alloc);
+    for core in threads {
+        ends.push(core.report())?;
+    }
+    Ok(ends)
 }
 
 // Whether each of these threads has an end, and nothing is left to drain of it.

@@ -41,9 +41,9 @@ impl<'a> Tso<'a> {
         }
     }
 
-    /// Rounds over the threads in order of their numbers, until every thread has an end and each Done thread's buffer is empty. In
-    /// its turn a thread drains the stores that are due, with this hold, and executes one instruction. From the start, with
-    /// the hold of the options, this is an ended timed run. It takes no memory.
+    /// Rounds over the threads in order of their numbers, until every thread has an end and each Done thread's buffer
+    /// is empty. In its turn a thread drains the stores that are due, with this hold, and executes one instruction.
+    /// From the start, with the hold of the options, this is an ended timed run. It takes no memory.
     pub fn run_rounds(&mut self, hold: u32)
         ensures setup { self.new.setup ≡ self.old.setup }
         ensures rounds { Rounds self.old.setup hold self.old.state self.new.state }

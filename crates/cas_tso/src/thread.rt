@@ -4,6 +4,7 @@ ghost use Rattle.std.specs.Prelude.{◌≡◌, ◌+◌, ◌<◌, ◌≤◌, ℕ,
 ghost use Rattle.cas_asm.specs.Ask.{ask_of};
 ghost use Rattle.cas_asm.specs.declared.ask.Ask.TheVariants as ask;
 ghost use Rattle.cas_tso.specs.Asking.{IsAmongWords};
+ghost use Rattle.cas_tso.specs.Report.{thread_end};
 ghost use Rattle.cas_tso.specs.Run.{first_end, first_thread};
 ghost use Rattle.cas_tso.specs.State.{Setup, newest, room, setup};
 ghost use Rattle.cas_tso.specs.Step as act;
@@ -13,7 +14,8 @@ ghost use Rattle.cas_tso.specs.Timed.{has_finished, is_due, must_drain};
 use crate::end::End;
 use crate::options::Options;
 use crate::pending::{Pending, newest};
-use cas_asm::{Ask, Cpu, Image, cpu_ask, cpu_step};
+use crate::report::ThreadEnd;
+use cas_asm::{Ask, Core, Cpu, Image, cpu_ask, cpu_step};
 use cas_base::NoMemory;
 use circular_buffer::HeapCircularBuffer;
 use std::alloc::Global;
@@ -106,6 +108,26 @@ impl ThreadCore {
         }
     }
 
+    /// What is reported of the thread.
+    pub fn report(&self) -> ThreadEnd
+        ensures { result ≡ thread_end self.now }
+    {
+        ThreadEnd {
+            end: self.end,
+            executed: self.executed,
+            loads: self.loads,
+            forwarded: self.forwarded,
+            drains: self.drains,
+        }
+    }
+
+    /// The registers, flags and place of its processor.
+    pub fn core(&self) -> Core
+        ensures { result ≡ self.now.cpu.core }
+    {
+        self.cpu.core()
+    }
+
     /// How many stores are in the buffer.
     pub fn stores(&self) -> usize
         ensures { result ≡ length self.now.buffer }
@@ -184,7 +206,8 @@ impl ThreadCore {
     /// Step 4: the oldest store leaves the buffer. Without a store nothing changes.
     pub fn drain(&mut self) -> Option<Pending>
         ensures value { result ≡ slice_get self.old.buffer 0 }
-        ensures taken { MatchOption result ((self.old.buffer ≡ []) × (self.new ≡ self.old)) (λ x. (p : Setup) → Takes p self.old (act.drained x.at x.value) self.new) }
+        ensures taken { MatchOption result ((self.old.buffer ≡ []) × (self.new ≡ self.old)) (λ x. (p : Setup)
+            → Takes p self.old (act.drained x.at x.value) self.new) }
     {
         let store = self.buffer.pop_front()?;
         self.drains += 1;

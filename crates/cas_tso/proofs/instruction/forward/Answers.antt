@@ -19,7 +19,8 @@ returns-in-Some c = λ i m o. (
       (
         c.requires.load,
         c.requires.newest,
-        ap (stop_of c.args.options.now c.args.core.now) (sym c.ask.ensures.asked) ∙ (sym c.stop_of.ensures ∙ c.in-Some.is),
+        ap (stop_of c.args.options.now c.args.core.now) (sym c.ask.ensures.asked)
+            ∙ (sym c.stop_of.ensures ∙ c.in-Some.is),
       ),
       c.stop.ensures,
     ),

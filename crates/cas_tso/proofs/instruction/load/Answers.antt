@@ -19,7 +19,8 @@ returns-in-Some c = λ i o. (
       (
         c.requires.load,
         c.requires.newest,
-        ap (stop_of c.args.options.now c.args.core.now) (sym c.ask.ensures.asked) ∙ (sym c.stop_of.ensures ∙ c.in-Some.is),
+        ap (stop_of c.args.options.now c.args.core.now) (sym c.ask.ensures.asked)
+            ∙ (sym c.stop_of.ensures ∙ c.in-Some.is),
       ),
       c.stop.ensures,
     ),
@@ -30,4 +31,5 @@ returns-in-Some c = λ i o. (
 )
 
 pub returns-in-None : goal.returns-in-None
-returns-in-None c = λ i o. (loaded c.args.at c.word_at-word.result, (λ x. x), (c.load.ensures, c.word_at-word.ensures, refl, refl))
+returns-in-None c =
+    λ i o. (loaded c.args.at c.word_at-word.result, (λ x. x), (c.load.ensures, c.word_at-word.ensures, refl, refl))

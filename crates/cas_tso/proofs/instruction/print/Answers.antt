@@ -6,7 +6,17 @@ pub returns-in-Some-clause-goes : goal.returns-in-Some-clause-goes
 returns-in-Some-clause-goes c = λ m. (
   stopped unread c.in-Some.end,
   (λ x. x),
-  ((c.requires.running, ap (stop_of c.args.options.now c.args.core.now) c.requires.out ∙ (sym c.stop_of.ensures ∙ c.in-Some.is), c.stop.ensures), tt, refl, refl),
+  (
+    (
+      c.requires.running,
+      ap (stop_of c.args.options.now c.args.core.now) c.requires.out
+          ∙ (sym c.stop_of.ensures ∙ c.in-Some.is),
+      c.stop.ensures,
+    ),
+    tt,
+    refl,
+    refl,
+  ),
 )
 
 pub returns-in-None-clause-goes : goal.returns-in-None-clause-goes

@@ -18,7 +18,8 @@ due-smaller c =
     let r = c.drain-drained in
     let step : StepsAs m.setup m.state (choice.Drain i) r.new.self.state =
     granted r.result (refused_drain item.0.buffer) (r.ensures.answer item.0 item.1)
-    (due_drains m.setup.image c.args.hold item.0 (sym (c.is_due.ensures.due item.0 item.1) ∙ c.due-test.true)) r.ensures.steps in
+    (due_drains m.setup.image c.args.hold item.0 (sym (c.is_due.ensures.due item.0 item.1) ∙ c.due-test.true))
+    r.ensures.steps in
     drains_fewer m.setup m.state r.new.self.state i step
 
 pub due-preserved : goal.due-preserved
@@ -30,10 +31,12 @@ due-preserved c =
     let r = c.drain-drained in
     let step : StepsAs m.setup m.state (choice.Drain i) r.new.self.state =
     granted r.result (refused_drain item.0.buffer) (r.ensures.answer item.0 item.1)
-    (due_drains m.setup.image c.args.hold item.0 (sym (c.is_due.ensures.due item.0 item.1) ∙ c.due-test.true)) r.ensures.steps in
+    (due_drains m.setup.image c.args.hold item.0 (sym (c.is_due.ensures.due item.0 item.1) ∙ c.due-test.true))
+    r.ensures.steps in
     record {
       setup = r.ensures.setup ∙ c.due.invariant.setup;
       threads = r.ensures.threads ∙ c.due.invariant.threads;
-      drained = drained_more c.args.self.now.setup m.setup c.args.hold i c.args.self.now.state m.state r.new.self.state c.due.invariant.setup c.due.invariant.drained
+      drained = drained_more c.args.self.now.setup m.setup c.args.hold i c.args.self.now.state m.state r.new.self.state
+          c.due.invariant.setup c.due.invariant.drained
           (λ d at. sym (c.is_due.ensures.due d at) ∙ c.due-test.true) step;
     }

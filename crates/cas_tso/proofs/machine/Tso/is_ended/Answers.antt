@@ -16,4 +16,5 @@ pub returns-clause-ended : goal.returns-clause-ended
 returns-clause-ended c =
     let r = c.are_finished.result in
     subst (λ (u : Machine). MatchBool r (IsEnded u.state) (IsEnded u.state → ⊥)) c.self.view_is
-    (subst (λ (ts : List Thread). MatchBool r (AreFinished ts) (AreFinished ts → ⊥)) c.deref.ensures.value c.are_finished.ensures)
+    (subst (λ (ts : List Thread). MatchBool r (AreFinished ts) (AreFinished ts → ⊥))
+    c.deref.ensures.value c.are_finished.ensures)

@@ -16,5 +16,6 @@ loop-thread-preserved c =
       setup = r.ensures.setup ∙ inv.setup;
       threads = r.ensures.threads ∙ inv.threads;
       turns = next c.loop-thread.thread m.state r.new.self.state inv.turns lt
-          (subst (λ (p : Setup). Turn p c.args.hold c.loop-thread.thread m.state r.new.self.state) inv.setup r.ensures.turn);
+          (subst (λ (p : Setup). Turn p c.args.hold c.loop-thread.thread m.state r.new.self.state)
+          inv.setup r.ensures.turn);
     }

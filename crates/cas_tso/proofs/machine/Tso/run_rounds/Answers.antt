@@ -15,8 +15,11 @@ rounds-preserved c =
     let r = c.round in
     record {
       setup = r.ensures.setup ∙ inv.setup;
-      rounds = one_round m.state r.new.self.state inv.rounds (match_false (IsEnded m.state) (IsEnded m.state → ⊥) c.is_ended.result c.rounds-test.true c.is_ended.ensures.ended)
-          (subst (λ (p : Setup). Turns p c.args.hold m.state (length m.state.threads) r.new.self.state) inv.setup r.ensures.turns);
+      rounds = one_round m.state r.new.self.state inv.rounds
+          (match_false (IsEnded m.state) (IsEnded m.state → ⊥) c.is_ended.result c.rounds-test.true
+          c.is_ended.ensures.ended)
+          (subst (λ (p : Setup). Turns p c.args.hold m.state (length m.state.threads) r.new.self.state)
+          inv.setup r.ensures.turns);
     }
 
 pub rounds-smaller : goal.rounds-smaller
@@ -24,5 +27,6 @@ rounds-smaller c =
     let m = c.rounds.self in
     let r = c.round in
     subst (λ (p : Setup). total p r.new.self.state.threads < total m.setup m.state.threads) (sym r.ensures.setup)
-    (round_lighter m.setup c.args.hold m.state r.new.self.state c.is_ended.ensures.fuel c.is_ended.ensures.kept r.ensures.turns
+    (round_lighter m.setup c.args.hold m.state r.new.self.state c.is_ended.ensures.fuel c.is_ended.ensures.kept
+    r.ensures.turns
     (match_false (IsEnded m.state) (IsEnded m.state → ⊥) c.is_ended.result c.rounds-test.true c.is_ended.ensures.ended))

@@ -14,12 +14,19 @@ invariant_of-result c =
     let em : c.in_ok-memory.memory.items ≡ p.image.words = c.in_ok-memory.ensures.items ∙ c.as_slice.ensures in
     let eo : output.items ≡ [] = c.in_ok-output.ensures.items in
     let et : c.in_ok-threads.threads.items ≡ (start_state p).threads = c.in_ok-threads.ensures in
-    let is : (let u : State = record { memory = c.in_ok-memory.memory.items; output = output.items; threads = c.in_ok-threads.threads.items } in u) ≡ start_state p =
+    let is : (let u : State = record {
+      memory = c.in_ok-memory.memory.items;
+      output = output.items;
+      threads =
+          c.in_ok-threads.threads.items;
+    } in u) ≡ start_state p =
     λ n. record { memory = em n; output = eo n; threads = et n } in
     let room : outs * length p.image.entries ≤ vec_capacity output =
-    subst (λ (l : List ℕ). outs * length l ≤ vec_capacity output) c.as_slice-2.ensures c.in_ok-output.ensures.capacity in
+    subst (λ (l : List ℕ). outs * length l ≤ vec_capacity output) c.as_slice-2.ensures c.in_ok-output.ensures.capacity
+    in
     record {
       kept = subst (λ (u : State). IsKept p u) (sym is) (start_kept p);
       fuel = c.requires.fuel;
-      room = subst (λ (n : ℕ). outs * n ≤ vec_capacity output) (sym (ap (λ (ts : List Thread). length ts) et ∙ (start_kept p).count)) room;
+      room = subst (λ (n : ℕ). outs * n ≤ vec_capacity output)
+          (sym (ap (λ (ts : List Thread). length ts) et ∙ (start_kept p).count)) room;
     }

@@ -10,5 +10,6 @@ returns-in-Run-clause-answer c =
     let m = c.args.self.now in
     subst
     (λ (k : Choice). (t : Thread) → slice_get m.state.threads (thread_of k) ≡ Some t →
-    MatchResult c.run.result (λ _. refused_choice m.setup.image t k ≡ None) (λ why. refused_choice m.setup.image t k ≡ Some why))
+    MatchResult c.run.result (λ _. refused_choice m.setup.image t k ≡ None)
+    (λ why. refused_choice m.setup.image t k ≡ Some why))
     (sym c.in-Run.is) c.run.ensures.answer

@@ -15,11 +15,19 @@ returns-clause-taken c =
     λ p. (
       x.entered,
       drop 1 c.args.self.now.buffer,
-      first_and_rest c.args.self.now.buffer x (ap (λ (l : List Pending). slice_get l 0) (sym was) ∙ sym c.in_ok-store.ensures.value),
+      first_and_rest c.args.self.now.buffer x (ap (λ (l : List Pending). slice_get l 0) (sym was)
+          ∙ sym c.in_ok-store.ensures.value),
       ap (λ (b : Buffer Pending). let u : Thread = record {
         cpu = d.cpu;
         buffer = b.items;
-        counts = record { executed = d.executed; loads = d.loads; forwarded = d.forwarded; drains = d.drains + 1; outs = d.outs };
+        counts = record {
+          executed = d.executed;
+          loads = d.loads;
+          forwarded = d.forwarded;
+          drains = d.drains + 1;
+          outs =
+              d.outs;
+        };
         ended = d.end;
       } in u) c.pop_front.ensures.items ∙ ap (λ (t : Thread). after_drain t (drop 1 t.buffer)) is,
     )
