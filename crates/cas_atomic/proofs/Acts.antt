@@ -1,45 +1,62 @@
 -- What a thread over atomic locks may do where its next step isn't Bad.
 use Rattle.std.proofs.Common.{◌≡◌, ℕ, Bool, true, false, Option, Some, None, slice_get, sym, refl, ap, ◌∙◌, subst, inl, inr, ◌⊎◌}
 use Rattle.cas_atomic.specs.Leftover.{Leftover, one_less}
-use Rattle.cas_atomic.specs.Label.{Cell, LockWord, SharedWord, TableWord, IsLock, IsUnder, under, values, Unlock}
-use Rattle.cas_atomic.specs.Atomic.{Setup, Atomic, Event, Plain, Load, Store, Decrement, CallLock, CallUnlock, Act, Quiet, Emits, Locks, Bad, Stops, IsBad, Access, Mine, Constant, Denied, access_of, access, After, Goes, loaded, loads, stores, goes, writes, is_lock, takes_if, gives_if, locked, unlocked, act_by, act}
+use Rattle.cas_atomic.proofs.Inner.{Atomic, Access, Mine, Constant, Denied, access_of, access, loaded, loads, stores, goes, writes, takes_if, gives_if, locked, unlocked, act_by, act}
+use Rattle.cas_atomic.specs.Atomic.{is_lock}
+use Rattle.cas_atomic.specs.Cells.{IsLock, IsUnder, under, values}
+use Rattle.cas_atomic.specs.Program.{Setup, Event, Load, Store, Decrement, CallLock, CallUnlock, After, Goes}
+use Rattle.cas_base.specs.declared.kind.Kind.{Kind}
+use Rattle.cas_runs.specs.Edge.{Cell, LockWord, SharedWord, TableWord}
+use Rattle.cas_runs.specs.Machine as run
+use Rattle.cas_runs.specs.Machine.{Act, Quiet, Emits, Locks, Bad, Stops, IsBad}
+
+pub is_a_lock : {X : Type 0} (p : Setup X) (l : ℕ) → is_lock (slice_get p.edge.cells l) ≡ true → IsLock p.edge.cells l
+is_a_lock p l h = by (slice_get p.edge.cells l) refl h
+  where
+    by : (o : Option Cell) → slice_get p.edge.cells l ≡ o → is_lock o ≡ true → IsLock p.edge.cells l
+    by None e t = absurd (cc t)
+    by (Some LockWord) e t = record { is = e }
+    by (Some (SharedWord kind g initial)) e t = absurd (cc t)
+    by (Some (TableWord v)) e t = absurd (cc t)
 
 module _ {X : Type 0} (p : Setup X) (u : ℕ → Leftover) (a : Atomic X) where
   -- the word is in the thread's share
   pub record IsMine (w : ℕ) : Type 0 where
     pub guard : ℕ
-    pub guarded : IsUnder p.cells guard w
+    pub guarded : IsUnder p.edge.cells guard w
     pub holds : a.holds guard ≡ true
 
   pub record IsConstant (w : ℕ) : Type 0 where
     pub value : ℕ
-    pub is : slice_get p.cells w ≡ Some (TableWord value)
+    pub is : slice_get p.edge.cells w ≡ Some (TableWord value)
 
   sort_access : (w : ℕ) → (IsMine w × (access p a w ≡ Mine)) ⊎ ((c : IsConstant w) × (access p a w ≡ Constant c.value))
       ⊎ (access p a w ≡ Denied)
-  sort_access w = by (slice_get p.cells w) refl
+  sort_access w = by (slice_get p.edge.cells w) refl
     where
-      guarded_by : (g initial : ℕ) → slice_get p.cells w ≡ Some (SharedWord (Some g) initial) → (t : Bool) →
+      guarded_by : (kind : Kind) (g initial : ℕ) → slice_get p.edge.cells w ≡ Some (SharedWord kind (Some g) initial) →
+          (t : Bool) →
           a.holds g ≡ t → (IsMine w × (access p a w ≡ Mine)) ⊎ ((c : IsConstant w) × (access p a w ≡ Constant c.value))
           ⊎ (access p a w ≡ Denied)
-      guarded_by g initial e true h =
+      guarded_by kind g initial e true h =
           inl (
-            record { guard = g; guarded = record { initial = initial; is = e }; holds = h },
+            record { guard = g; guarded = record { kind = kind; initial = initial; is = e }; holds = h },
             ap
-                (λ (o : Option Cell). access_of o a.holds) e ∙ ap (λ (t : Bool). Rattle.cas_atomic.specs.Atomic.mine_if t) h,
+                (λ (o : Option Cell). access_of o a.holds) e
+                ∙ ap (λ (t : Bool). Rattle.cas_atomic.proofs.Inner.mine_if t) h,
           )
-      guarded_by g initial e false h =
+      guarded_by kind g initial e false h =
           inr (inr (ap (λ (o : Option Cell). access_of o a.holds) e
-          ∙ ap (λ (t : Bool). Rattle.cas_atomic.specs.Atomic.mine_if t) h))
+          ∙ ap (λ (t : Bool). Rattle.cas_atomic.proofs.Inner.mine_if t) h))
 
-      by : (o : Option Cell) → slice_get p.cells w ≡ o → (IsMine w × (access p a w ≡ Mine))
+      by : (o : Option Cell) → slice_get p.edge.cells w ≡ o → (IsMine w × (access p a w ≡ Mine))
           ⊎ ((c : IsConstant w) × (access p a w ≡ Constant c.value)) ⊎ (access p a w ≡ Denied)
       by None e = inr (inr (ap (λ (o : Option Cell). access_of o a.holds) e))
       by (Some LockWord) e = inr (inr (ap (λ (o : Option Cell). access_of o a.holds) e))
-      by (Some (SharedWord None initial)) e = inr (inr (ap (λ (o : Option Cell). access_of o a.holds) e))
+      by (Some (SharedWord kind None initial)) e = inr (inr (ap (λ (o : Option Cell). access_of o a.holds) e))
       by (Some (TableWord v)) e =
           inr (inl (record { value = v; is = e }, ap (λ (o : Option Cell). access_of o a.holds) e))
-      by (Some (SharedWord (Some g) initial)) e = guarded_by g initial e (a.holds g) refl
+      by (Some (SharedWord kind (Some g) initial)) e = guarded_by kind g initial e (a.holds g) refl
 
   act_of : (e : Event X) → p.next a.at ≡ e → act p u a ≡ act_by p u a e
   act_of e h = ap (act_by p u a) h
@@ -82,27 +99,19 @@ module _ {X : Type 0} (p : Setup X) (u : ℕ → Leftover) (a : Atomic X) where
         (bad_by fine (act_of (Decrement w k) h ∙ ap (stores a w (one_less (a.words w)) (k (a.words w))) d))
   ]
 
-  is_a_lock : (l : ℕ) → is_lock (slice_get p.cells l) ≡ true → IsLock p.cells l
-  is_a_lock l h = by (slice_get p.cells l) refl h
-    where
-      by : (o : Option Cell) → slice_get p.cells l ≡ o → is_lock o ≡ true → IsLock p.cells l
-      by None e t = absurd (cc t)
-      by (Some LockWord) e t = record { is = e }
-      by (Some (SharedWord g initial)) e t = absurd (cc t)
-      by (Some (TableWord v)) e t = absurd (cc t)
-
   -- at a call of lock: it is a lock, which the thread takes where it doesn't hold it
-  pub may_lock : (l : ℕ) (k : Leftover → X) → p.next a.at ≡ CallLock l k → (IsBad (act p u a) → ⊥) → IsLock p.cells l
+  pub may_lock : (l : ℕ) (k : Leftover → X) → p.next a.at ≡ CallLock l k → (IsBad (act p u a) → ⊥) →
+      IsLock p.edge.cells l
       × (a.holds l ≡ false → act p u a ≡ Locks l (locked p u a l k))
-  may_lock l k h fine = by (is_lock (slice_get p.cells l)) refl
+  may_lock l k h fine = by (is_lock (slice_get p.edge.cells l)) refl
     where
-      at_act : act p u a ≡ takes_if p u a l k (is_lock (slice_get p.cells l)) (a.holds l)
+      at_act : act p u a ≡ takes_if p u a l k (is_lock (slice_get p.edge.cells l)) (a.holds l)
       at_act = act_of (CallLock l k) h
 
-      by : (t : Bool) → is_lock (slice_get p.cells l) ≡ t → IsLock p.cells l
+      by : (t : Bool) → is_lock (slice_get p.edge.cells l) ≡ t → IsLock p.edge.cells l
           × (a.holds l ≡ false → act p u a ≡ Locks l (locked p u a l k))
       by true e = (
-        is_a_lock l e,
+        is_a_lock p l e,
         λ f. at_act ∙ ap (λ (t : Bool). takes_if p u a l k t (a.holds l)) e
             ∙ ap (takes_if p u a l k true) f,
       )
@@ -110,17 +119,18 @@ module _ {X : Type 0} (p : Setup X) (u : ℕ → Leftover) (a : Atomic X) where
 
   -- at a call of unlock: it is a lock, which the thread holds
   pub may_unlock : (l : ℕ) (k : Leftover → X) → p.next a.at ≡ CallUnlock l k → (IsBad (act p u a) → ⊥)
-      → IsLock p.cells l × (a.holds l ≡ true)
-      × (act p u a ≡ Emits (Unlock l (values a.words (under p.cells 0 l))) (unlocked u a l k))
-  may_unlock l k h fine = by (is_lock (slice_get p.cells l)) refl (a.holds l) refl
+      → IsLock p.edge.cells l × (a.holds l ≡ true)
+      × (act p u a ≡ Emits (run.Unlocks l (values a.words (under p.edge.cells 0 l))) (unlocked u a l k))
+  may_unlock l k h fine = by (is_lock (slice_get p.edge.cells l)) refl (a.holds l) refl
     where
-      at_act : act p u a ≡ gives_if p u a l k (is_lock (slice_get p.cells l)) (a.holds l)
+      at_act : act p u a ≡ gives_if p u a l k (is_lock (slice_get p.edge.cells l)) (a.holds l)
       at_act = act_of (CallUnlock l k) h
 
-      by : (t : Bool) → is_lock (slice_get p.cells l) ≡ t → (b : Bool) → a.holds l ≡ b → IsLock p.cells l
-          × (a.holds l ≡ true) × (act p u a ≡ Emits (Unlock l (values a.words (under p.cells 0 l))) (unlocked u a l k))
+      by : (t : Bool) → is_lock (slice_get p.edge.cells l) ≡ t → (b : Bool) → a.holds l ≡ b → IsLock p.edge.cells l
+          × (a.holds l ≡ true)
+          × (act p u a ≡ Emits (run.Unlocks l (values a.words (under p.edge.cells 0 l))) (unlocked u a l k))
       by true e true f = (
-        is_a_lock l e,
+        is_a_lock p l e,
         f,
         at_act ∙ ap (λ (t : Bool). gives_if p u a l k t (a.holds l)) e
             ∙ ap (gives_if p u a l k true) f,

@@ -92,7 +92,8 @@ pub refused_alike : {X : Type 0} (lock place place' : ℕ) (f f' : Leftover) (l 
     (Inside place f l k)
 refused_alike lock place place' f f' l k e = ap (λ (t : Bool). nat_eq l lock && t) e
 
-pub never_refused : {X : Type 0} (lock place : ℕ) (f : Leftover) (l : ℕ) (k : Leftover → X) → refused_at place f ≡ false →
+pub never_refused : {X : Type 0} (lock place : ℕ) (f : Leftover) (l : ℕ) (k : Leftover → X) →
+    refused_at place f ≡ false →
     is_refused lock (Inside place f l k) ≡ false
 never_refused lock place f l k e = by (nat_eq l lock) (refused_at place f) e
   where

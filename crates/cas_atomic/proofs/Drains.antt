@@ -2,11 +2,14 @@
 use Rattle.std.proofs.Common.{◌≡◌, ℕ, zero, suc, Bool, true, false, List, ◌∷◌, None, sym, refl, ap, ◌∙◌, subst, inl, inr}
 use Rattle.cas_atomic.specs.Leftover.{Leftover, IsMinus}
 use Rattle.cas_atomic.specs.Buffer.{Store, store, newest, put}
-use Rattle.cas_atomic.specs.Label.{ThreadLabel, state_of}
-use Rattle.cas_atomic.specs.Atomic.{Setup, Atomic}
+use Rattle.cas_atomic.proofs.Explaining.{Explains}
+use Rattle.cas_atomic.proofs.Inner.{Atomic}
+use Rattle.cas_atomic.proofs.Places.{beside, Stands, AfterSign, AsksEmpty}
 use Rattle.cas_atomic.specs.Buffered.{Point, Outside, Inside, Thread, thread, State, moved_in}
-use Rattle.cas_atomic.specs.Table.{beside, Stands, AfterSign, AsksEmpty, refusals}
-use Rattle.cas_atomic.specs.Sound.{Unknown, Explains}
+use Rattle.cas_atomic.specs.Program.{Setup}
+use Rattle.cas_atomic.specs.Sound.{Unknown}
+use Rattle.cas_atomic.specs.Table.{refusals}
+use Rattle.cas_runs.specs.Legal.{ThreadLabel, state_of}
 use Rattle.cas_atomic.proofs.Basic.{put_else, popped_none, oldest_there}
 use Rattle.cas_atomic.proofs.Words.{sort_of}
 use Rattle.cas_atomic.proofs.Locks.{AreSame, popped_same, put_same}
@@ -51,27 +54,28 @@ module _ {X : Type 0} (p : Setup X) (u : Unknown) (s : State X) (ls : List Threa
       moves p u s ls e i d a m' None s.output (e.runs i)
       (stands_after p a c.buffer rest (store w v) c.executed h c.at (e.stands i)) (e.ends i) e.legal e.outs
       (e.occasion i)
-      (λ l lk. elim (sort_of p.cells l w) [
+      (λ l lk. elim (sort_of p.edge.cells l w) [
         | inl q ↦ subst (λ (m : ℕ → ℕ). LockAfter p u s ls e i d a m None l) (ap (λ (k : ℕ). put k v s.memory) (sym q))
-            (drains_lock p.cells l p.threads (λ j. (s.threads j).buffer) s.memory (refusals p.threads l s.threads)
-            (λ j. (e.asm j).holds l) (λ j. (e.asm j).words) (state_of p.cells l ls)
+            (drains_lock p.edge.cells l p.threads (λ j. (s.threads j).buffer) s.memory (refusals p.threads l s.threads)
+            (λ j. (e.asm j).holds l) (λ j. (e.asm j).words) (state_of p.edge.cells l ls)
             (λ j. (put i d s.threads j).buffer) (put l v s.memory) (refusals p.threads l (put i d s.threads))
-            (λ j. (put i a e.asm j).holds l) (λ j. (put i a e.asm j).words) (state_of p.cells l ls) i
+            (λ j. (put i a e.asm j).holds l) (λ j. (put i a e.asm j).words) (state_of p.edge.cells l ls) i
             v rest lk (h ∙ ap (λ (k : ℕ). store k v ∷ rest) q) (buffer_here p u s ls e i d a m' None)
             (buffer_else p u s ls e i d a m' None) (λ at. refl) (holds_same p u s ls e i d a m' None l refl) refl
             (e.locks l lk))
-        | inr (inl g) ↦ drains_own p.cells l p.threads (λ j. (s.threads j).buffer) s.memory
-            (refusals p.threads l s.threads) (λ j. (e.asm j).holds l) (λ j. (e.asm j).words) (state_of p.cells l ls)
+        | inr (inl g) ↦ drains_own p.edge.cells l p.threads (λ j. (s.threads j).buffer) s.memory
+            (refusals p.threads l s.threads) (λ j. (e.asm j).holds l) (λ j. (e.asm j).words)
+            (state_of p.edge.cells l ls)
             (λ j. (put i d s.threads j).buffer) m' (refusals p.threads l (put i d s.threads))
-            (λ j. (put i a e.asm j).holds l) (λ j. (put i a e.asm j).words) (state_of p.cells l ls) i
+            (λ j. (put i a e.asm j).holds l) (λ j. (put i a e.asm j).words) (state_of p.edge.cells l ls) i
             w v rest lk g h (buffer_here p u s ls e i d a m' None) (buffer_else p u s ls e i d a m' None) (λ at. refl)
             (bound l (s.memory l)) (holds_same p u s ls e i d a m' None l refl)
             (words_same p u s ls e i d a m' None (λ at. refl) i) refl (e.locks l lk)
         | inr (inr k) ↦ untouched p u s ls e i d a m' None l lk
-            (subst (λ (b : List Store). AreSame p.cells l b rest) (sym h) (popped_same p.cells l w v rest k))
-            (put_same p.cells l w v s.memory k)
+            (subst (λ (b : List Store). AreSame p.edge.cells l b rest) (sym h) (popped_same p.edge.cells l w v rest k))
+            (put_same p.edge.cells l w v s.memory k)
             (λ z. subst (λ (y : ℕ). IsMinus (refusals p.threads l (put i d s.threads)) y)
-            (sym (put_same p.cells l w v s.memory k l (inl refl))) (bound l (s.memory l) z)) refl
+            (sym (put_same p.edge.cells l w v s.memory k l (inl refl))) (bound l (s.memory l) z)) refl
             (λ at g. refl) refl
       ])
       (λ at t is. put_else w v s.memory at

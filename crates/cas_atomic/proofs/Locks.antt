@@ -2,8 +2,11 @@
 use Rattle.std.proofs.Common.{◌≡◌, ℕ, Bool, List, [], ◌∷◌, ◌++◌, Option, sym, refl, ap, ◌∙◌, subst, inl, inr, ◌⊎◌}
 use Rattle.cas_atomic.specs.Leftover.{IsMinus}
 use Rattle.cas_atomic.specs.Buffer.{Store, store, newest, seen, view, put}
-use Rattle.cas_atomic.specs.Label.{Cell, IsUnder, LockState, Free}
-use Rattle.cas_atomic.specs.Table.{scene, IsClear, Releases, now, later, LockIs, is_free, is_held, is_released}
+use Rattle.cas_atomic.proofs.Places.{scene, LockIs, is_free, is_held, is_released}
+use Rattle.cas_atomic.specs.Cells.{IsUnder}
+use Rattle.cas_atomic.specs.Table.{IsClear, Releases, now, later}
+use Rattle.cas_runs.specs.Edge.{Cell}
+use Rattle.cas_runs.specs.Legal.{LockState, Free}
 use Rattle.cas_atomic.proofs.Basic.{put_else, appended_else, popped_else}
 use Rattle.cas_atomic.proofs.Words.{same_values, IsApart}
 

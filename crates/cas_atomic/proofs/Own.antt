@@ -2,8 +2,11 @@
 use Rattle.std.proofs.Common.{◌≡◌, ℕ, suc, ◌≤◌, ◌<◌, Bool, true, false, List, [], ◌∷◌, ◌++◌, Option, None, sym, refl, ap, ◌∙◌, subst, inl, inr, ◌⊎◌, arith}
 use Rattle.cas_atomic.specs.Leftover.{IsMinus, one_less}
 use Rattle.cas_atomic.specs.Buffer.{Store, store, newest, seen, view, put}
-use Rattle.cas_atomic.specs.Label.{Cell, IsLock, IsUnder, under, values, LockState, Free, IsHeld}
-use Rattle.cas_atomic.specs.Table.{scene, IsClear, Releases, now, later, LockIs, is_free, is_held, is_released}
+use Rattle.cas_atomic.proofs.Places.{scene, LockIs, is_free, is_held, is_released}
+use Rattle.cas_atomic.specs.Cells.{IsLock, IsUnder, under, values}
+use Rattle.cas_atomic.specs.Table.{IsClear, Releases, now, later}
+use Rattle.cas_runs.specs.Edge.{Cell}
+use Rattle.cas_runs.specs.Legal.{LockState, Free, IsHeld}
 use Rattle.cas_atomic.proofs.Basic.{same_or_not, put_here, put_else, appended_here, appended_else, popped_none, oldest_there, drained_view, view_none}
 use Rattle.cas_atomic.proofs.Words.{same_values, lock_not_under}
 use Rattle.cas_atomic.proofs.Locks.{popped_releases}

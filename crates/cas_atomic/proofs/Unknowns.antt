@@ -1,35 +1,31 @@
 -- The flags that nothing fixes can be taken from the run.
-use Rattle.std.proofs.Common.{◌≡◌, ℕ, ◌≤◌, ◌<◌, List, ◌∷◌, Option, Some, None, sym, refl, ap, ◌∙◌, subst, inl, inr, arith}
+use Rattle.std.proofs.Common.{◌≡◌, ℕ, ◌≤◌, ◌<◌, List, length, ◌∷◌, Option, Some, None, sym, refl, ap, ◌∙◌, subst, inl, inr, arith}
 use Rattle.cas_asm.specs.Flags.{cleared}
 use Rattle.cas_atomic.specs.Leftover.{Leftover}
 use Rattle.cas_atomic.specs.Buffer.{put}
-use Rattle.cas_atomic.specs.Label.{RunLabel, Lock, Unlock, Out, Done, ThreadLabel, by_thread, projection, and_occasion, occasions}
-use Rattle.cas_atomic.specs.Atomic.{Setup}
-use Rattle.cas_atomic.specs.Buffered.{State, Run, opens, and_then, listed}
-use Rattle.cas_atomic.specs.Sound.{Unknown, flags_at, FitsLabel, Fits}
+use Rattle.cas_atomic.proofs.Explaining.{flags_at, FitsLabel, Fits}
+use Rattle.cas_atomic.specs.Buffered.{State, Run, opens, and_then}
+use Rattle.cas_atomic.specs.Labels.{by_thread, listed}
+use Rattle.cas_atomic.specs.Program.{Setup}
+use Rattle.cas_atomic.specs.Sound.{Unknown}
+use Rattle.cas_runs.specs.Label.{RunLabel, Lock, Unlock, Out, Done, Enter, Back, Call, Leave}
+use Rattle.cas_runs.specs.Legal.{ThreadLabel, projection}
 use Rattle.cas_atomic.proofs.Basic.{same_or_not, put_here, put_else}
 use Rattle.cas_atomic.proofs.Moving.{projection_own, projection_else}
 
-grown_by : (l : RunLabel) (n : ℕ) → n ≤ and_occasion l n
-grown_by (Lock k ws) n = omega arith
-grown_by (Unlock k ws) n = omega arith
-grown_by (Out w) n = omega arith
-grown_by Done n = omega arith
-
--- occasions only grow
+-- labels only grow
 grown : (i j : ℕ) (o : Option RunLabel) (ls : List ThreadLabel) →
-    occasions (projection j ls) ≤ occasions (projection j (listed i o ls))
+    length (projection j ls) ≤ length (projection j (listed i o ls))
 grown i j None ls = omega arith
 grown i j (Some l) ls = elim (same_or_not j i) [
-  | inl q ↦ subst (λ (k : ℕ). occasions (projection k ls) ≤ occasions (projection k (by_thread i l ∷ ls))) (sym q)
-      (subst (λ (m : List RunLabel). occasions (projection i ls) ≤ occasions m) (sym (projection_own i l ls))
-      (grown_by l (occasions (projection i ls))))
-  | inr d ↦ subst (λ (m : List RunLabel). occasions (projection j ls) ≤ occasions m)
+  | inl q ↦ subst (λ (k : ℕ). length (projection k ls) ≤ length (projection k (by_thread i l ∷ ls))) (sym q)
+      (subst (λ (m : List RunLabel). length (projection i ls) ≤ length m) (sym (projection_own i l ls)) (omega arith))
+  | inr d ↦ subst (λ (m : List RunLabel). length (projection j ls) ≤ length m)
       (sym (projection_else i j (Some l) ls d)) (omega arith)
 ]
 
 Agree : Unknown → Unknown → List ThreadLabel → Type 0
-Agree u v ls = (j n : ℕ) → n < occasions (projection j ls) → v j n ≡ u j n
+Agree u v ls = (j n : ℕ) → n < length (projection j ls) → v j n ≡ u j n
 
 agree_before : (u v : Unknown) (i : ℕ) (o : Option RunLabel) (ls : List ThreadLabel) → Agree u v (listed i o ls) →
     Agree u v ls
@@ -42,10 +38,16 @@ unfolding Agree
 fits_label u v i ls f None h e = tt
 fits_label u v i ls f (Some (Out w)) h e = tt
 fits_label u v i ls f (Some Done) h e = tt
-fits_label u v i ls f (Some (Lock l ws)) h e = let own = ap occasions (projection_own i (Lock l ws) ls) in
-    h i (occasions (projection i ls)) (omega arith) ∙ e
-fits_label u v i ls f (Some (Unlock l ws)) h e = let own = ap occasions (projection_own i (Unlock l ws) ls) in
-    h i (occasions (projection i ls)) (omega arith) ∙ e
+fits_label u v i ls f (Some (Enter g c)) h e = tt
+fits_label u v i ls f (Some (Back c)) h e = tt
+fits_label u v i ls f (Some (Call g c)) h e = tt
+fits_label u v i ls f (Some (Leave c)) h e = tt
+fits_label u v i ls f (Some (Lock l ws)) h e =
+    let own = ap (λ (k : List RunLabel). length k) (projection_own i (Lock l ws) ls) in
+    h i (length (projection i ls)) (omega arith) ∙ e
+fits_label u v i ls f (Some (Unlock l ws)) h e =
+    let own = ap (λ (k : List RunLabel). length k) (projection_own i (Unlock l ws) ls) in
+    h i (length (projection i ls)) (omega arith) ∙ e
 
 fits_too : {X : Type 0} {p : Setup X} (u v : Unknown) {s : State X} {ls : List ThreadLabel} (r : Run p s ls) →
     Agree u v ls → Fits u r → Fits v r
@@ -70,18 +72,22 @@ changed_else u i n f j m h = elim (same_or_not j i) [
 ]
 
 fits_new : (u : Unknown) (i : ℕ) (ls : List ThreadLabel) (f : Leftover) (o : Option RunLabel) →
-    FitsLabel (with_flags u i (occasions (projection i ls)) f) i ls f o
+    FitsLabel (with_flags u i (length (projection i ls)) f) i ls f o
 fits_new u i ls f None = tt
-fits_new u i ls f (Some (Lock l ws)) = changed u i (occasions (projection i ls)) f
-fits_new u i ls f (Some (Unlock l ws)) = changed u i (occasions (projection i ls)) f
+fits_new u i ls f (Some (Lock l ws)) = changed u i (length (projection i ls)) f
+fits_new u i ls f (Some (Unlock l ws)) = changed u i (length (projection i ls)) f
 fits_new u i ls f (Some (Out w)) = tt
 fits_new u i ls f (Some Done) = tt
+fits_new u i ls f (Some (Enter g c)) = tt
+fits_new u i ls f (Some (Back c)) = tt
+fits_new u i ls f (Some (Call g c)) = tt
+fits_new u i ls f (Some (Leave c)) = tt
 
 agrees : (u : Unknown) (i : ℕ) (ls : List ThreadLabel) (f : Leftover) →
-    Agree u (with_flags u i (occasions (projection i ls)) f) ls
+    Agree u (with_flags u i (length (projection i ls)) f) ls
 unfolding Agree
-agrees u i ls f j m less = changed_else u i (occasions (projection i ls)) f j m
-    (λ q e. let same = ap (λ (k : ℕ). occasions (projection k ls)) q in absurd (omega arith))
+agrees u i ls f j m less = changed_else u i (length (projection i ls)) f j m
+    (λ q e. let same = ap (λ (k : ℕ). length (projection k ls)) q in absurd (omega arith))
 
 pub unknown_of : {X : Type 0} (p : Setup X) (s : State X) (ls : List ThreadLabel) (r : Run p s ls) → (u : Unknown)
     × Fits u r
@@ -90,6 +96,6 @@ unknown_of p _ _ opens =
 unknown_of p _ _ (and_then {s = s} {ls = ls} i t o r below step may) =
     let before = unknown_of p s ls r in
     let f = flags_at p (t.threads i).at in
-    let n = occasions (projection i ls) in
+    let n = length (projection i ls) in
     let v = with_flags before.0 i n f in
     (v, (fits_too before.0 v r (agrees before.0 i ls f) before.1, fits_new before.0 i ls f o))

@@ -1,157 +1,125 @@
--- Threads over atomic locks. What a thread does between its calls of the lock object is any program. Its words are those of
--- the locks that it holds: Lock brings them, Unlock gives them back, and to touch another word is Bad.
-use Rattle.std.specs.Prelude.{⊤, ◌≡◌, ℕ, suc, Bool, true, false, List, [], ◌∷◌, Option, Some, slice_get, length}
+-- Threads over atomic locks: a call of the lock object is one step. A thread's words are those of the locks that it
+-- holds: Lock brings them, Unlock gives them back, and to touch another word is Bad.
+use Rattle.std.specs.Prelude.{ℕ, suc, Bool, true, false, List, [], ◌∷◌, Option, Some, None, slice_get, slice_set}
+use Rattle.cas_runs.specs.Label.{Share}
+use Rattle.cas_runs.specs.Edge.{Cell, LockWord, SharedWord, TableWord}
+use Rattle.cas_runs.specs.Machine as run
+use Rattle.cas_runs.specs.Machine.{Act, Quiet, Emits, Locks, Bad, Stops, Ended, Taken, Full, Footprint, Machine}
+use Rattle.cas_runs.specs.Access.{words_in, with_lock, without_lock, with_words, place_among, word_in}
 use Rattle.cas_atomic.specs.Leftover.{Leftover, one_less}
-use Rattle.cas_atomic.specs.Buffer.{put}
-use Rattle.cas_atomic.specs.Label.{Cell, LockWord, SharedWord, TableWord, under, values, with_values, RunLabel, Lock, Unlock, Out, Done}
+use Rattle.cas_atomic.specs.Program.{After, Goes, Fails, Halts, Event, Plain, Load, Store, Decrement, CallLock, CallUnlock, Prints, Ends, Over, NoRoom, Wrong, Setup}
 
--- what becomes of an instruction that loads, by the loaded word: it is executed, or is Bad, or has no next step
-pub data After (X : Type 0) : Type 0 where
-  Goes : (next : X) → After X
-  Fails : After X
-  Halts : After X
-
--- what the next instruction of a program does, as a program's state X says it
-pub data Event (X : Type 0) : Type 0 where
-  Plain : (next : X) → Event X
-  Load : (word : ℕ) (next : ℕ → After X) → Event X
-  Store : (word value : ℕ) (next : X) → Event X
-  -- a locked decrement: it goes on by the word that was there
-  Decrement : (word : ℕ) (next : ℕ → X) → Event X
-  CallLock : (lock : ℕ) (next : Leftover → X) → Event X
-  CallUnlock : (lock : ℕ) (next : Leftover → X) → Event X
-  Prints : (value : ℕ) (next : X) → Event X
-  Ends : (next : X) → Event X
-  Stuck : Event X
-  Wrong : Event X
-
-pub record Setup (X : Type 0) : Type 0 where
-  pub cells : List Cell
-  pub threads : ℕ
-  pub first : ℕ → X
-  pub flags : X → Leftover
-  pub next : X → Event X
-
--- where a thread over atomic locks stands
-pub record Atomic (X : Type 0) : Type 0 where
+-- where a thread stands: at a state of its program, with these words, after so many labels
+pub record Standing (X : Type 0) : Type 0 where
   pub at : X
-  pub words : ℕ → ℕ
-  pub holds : ℕ → Bool
+  pub share : Share
   pub occasion : ℕ
-  pub steps : ℕ
 
-abbrev pub atomic : {X : Type 0} → X → (ℕ → ℕ) → (ℕ → Bool) → ℕ → ℕ → Atomic X
-atomic x ws h o n = record { at = x; words = ws; holds = h; occasion = o; steps = n }
+abbrev pub standing : {X : Type 0} → X → Share → ℕ → Standing X
+standing x share n = record { at = x; share = share; occasion = n }
 
-pub data Act (S : Type 0) : Type 0 where
-  Quiet : (next : S) → Act S
-  Emits : (label : RunLabel) (next : S) → Act S
-  Locks : (lock : ℕ) (next : List ℕ → S) → Act S
-  Bad : Act S
-  Stops : Act S
+abbrev pub goes : {X : Type 0} → Standing X → X → Standing X
+goes b y = standing y b.share b.occasion
 
-abbrev pub IsBad : {S : Type 0} → Act S → Type 0
-IsBad Bad = ⊤
-IsBad _ = ⊥
+-- after a label
+abbrev pub tells : {X : Type 0} → Standing X → Share → X → Standing X
+tells b share y = standing y share (suc b.occasion)
 
-abbrev pub HasStopped : {S : Type 0} → Act S → Type 0
-HasStopped Stops = ⊤
-HasStopped _ = ⊥
+abbrev pub loaded : {X : Type 0} → Standing X → After X → Act (Standing X)
+loaded b (Goes y) = Quiet (goes b y)
+loaded b Fails = Bad
+loaded b Halts = Stops Full
 
-abbrev pub IsOut : RunLabel → Type 0
-IsOut (Out w) = ⊤
-IsOut _ = ⊥
+abbrev pub loads_as : {X : Type 0} → Standing X → Option ℕ → (ℕ → After X) → Act (Standing X)
+loads_as b None k = Bad
+loads_as b (Some v) k = loaded b (k v)
 
-abbrev pub IsPrinting : {S : Type 0} → Act S → Type 0
-IsPrinting (Emits label next) = IsOut label
-IsPrinting _ = ⊥
+-- a word of the share or of a table is read
+abbrev pub loads : {X : Type 0} → List Cell → Standing X → Option Cell → (word : ℕ) → (ℕ → After X) → Act (Standing X)
+loads cells b (Some (SharedWord kind (Some g) initial)) w k =
+    loads_as b (word_in (words_in b.share g) (place_among cells g w)) k
+loads cells b (Some (TableWord value)) w k = loaded b (k value)
+loads cells b _ w k = Bad
 
--- what a word is to a thread with these locks: its own, a constant, or not to be touched
-pub data Access : Type 0 where
-  Mine : Access
-  Constant : (value : ℕ) → Access
-  Denied : Access
+-- how a word is changed, and how the program goes on by what it was
+pub record Change (X : Type 0) : Type 0 where
+  pub to : ℕ → ℕ
+  pub next : ℕ → X
 
-abbrev pub mine_if : Bool → Access
-mine_if true = Mine
-mine_if false = Denied
+abbrev pub change : {X : Type 0} → (ℕ → ℕ) → (ℕ → X) → Change X
+change f k = record { to = f; next = k }
 
-abbrev pub access_of : Option Cell → (ℕ → Bool) → Access
-access_of (Some (SharedWord (Some g) initial)) h = mine_if (h g)
-access_of (Some (TableWord value)) h = Constant value
-access_of _ h = Denied
+abbrev pub changes_to : {X : Type 0} → Standing X → (lock : ℕ) → List ℕ → (place : ℕ) → Change X → Option ℕ →
+    Act (Standing X)
+changes_to b g words place c None = Bad
+changes_to b g words place c (Some v) =
+    Quiet (standing (c.next v) (with_words b.share g (slice_set words place (c.to v))) b.occasion)
 
-abbrev pub access : {X : Type 0} → Setup X → Atomic X → ℕ → Access
-access p a w = access_of (slice_get p.cells w) a.holds
+abbrev pub changes_in : {X : Type 0} → Standing X → (lock place : ℕ) → Change X → Option (List ℕ) → Act (Standing X)
+changes_in b g place c None = Bad
+changes_in b g place c (Some words) = changes_to b g words place c (slice_get words place)
 
-abbrev pub goes : {X : Type 0} → Atomic X → X → Atomic X
-goes a y = atomic y a.words a.holds a.occasion (suc a.steps)
-
-abbrev pub writes : {X : Type 0} → Atomic X → ℕ → ℕ → X → Atomic X
-writes a w v y = atomic y (put w v a.words) a.holds a.occasion (suc a.steps)
-
-abbrev pub loaded : {X : Type 0} → Atomic X → After X → Act (Atomic X)
-loaded a (Goes y) = Quiet (goes a y)
-loaded a Fails = Bad
-loaded a Halts = Stops
-
-abbrev pub loads : {X : Type 0} → Atomic X → ℕ → (ℕ → After X) → Access → Act (Atomic X)
-loads a w k Mine = loaded a (k (a.words w))
-loads a w k (Constant v) = loaded a (k v)
-loads a w k Denied = Bad
-
-abbrev pub stores : {X : Type 0} → Atomic X → ℕ → ℕ → X → Access → Act (Atomic X)
-stores a w v y Mine = Quiet (writes a w v y)
-stores a w v y (Constant c) = Bad
-stores a w v y Denied = Bad
+-- a word of the share is changed
+abbrev pub changes : {X : Type 0} → List Cell → Standing X → Option Cell → (word : ℕ) → Change X → Act (Standing X)
+changes cells b (Some (SharedWord kind (Some g) initial)) w c =
+    changes_in b g (place_among cells g w) c (words_in b.share g)
+changes cells b _ w c = Bad
 
 abbrev pub is_lock : Option Cell → Bool
 is_lock (Some LockWord) = true
 is_lock _ = false
 
-abbrev pub locked : {X : Type 0} → Setup X → (ℕ → Leftover) → Atomic X → ℕ → (Leftover → X) → List ℕ → Atomic X
-locked p u a l k ws = atomic (k (u a.occasion)) (with_values (under p.cells 0 l) ws a.words) (put l true a.holds)
-    (suc a.occasion) (suc a.steps)
+abbrev pub takes_if : {X : Type 0} → (ℕ → Leftover) → Standing X → ℕ → (Leftover → X) → (is_lock : Bool) →
+    Option (List ℕ) → Act (Standing X)
+takes_if u b l k true None = Locks l (λ words. tells b (with_lock b.share l words) (k (u b.occasion)))
+takes_if u b l k true (Some words) = Stops (Taken l)
+takes_if u b l k false words = Bad
 
-abbrev pub takes_if : {X : Type 0} → Setup X → (ℕ → Leftover) → Atomic X → ℕ → (Leftover → X) → (is_lock holds : Bool) →
-    Act (Atomic X)
-takes_if p u a l k true false = Locks l (locked p u a l k)
-takes_if p u a l k true true = Stops
-takes_if p u a l k false h = Bad
+abbrev pub gives_if : {X : Type 0} → (ℕ → Leftover) → Standing X → ℕ → (Leftover → X) → (is_lock : Bool) →
+    Option (List ℕ) → Act (Standing X)
+gives_if u b l k true (Some words) =
+    Emits (run.Unlocks l words) (tells b (without_lock b.share l) (k (u b.occasion)))
+gives_if u b l k true None = Bad
+gives_if u b l k false words = Bad
 
-abbrev pub unlocked : {X : Type 0} → (ℕ → Leftover) → Atomic X → ℕ → (Leftover → X) → Atomic X
-unlocked u a l k = atomic (k (u a.occasion)) a.words (put l false a.holds) (suc a.occasion) (suc a.steps)
+-- what a thread does at an event. A call of the lock object leaves at each occasion what u says
+abbrev pub act_by : {X : Type 0} → List Cell → (ℕ → Leftover) → Standing X → Event X → Act (Standing X)
+act_by cells u b (Plain y) = Quiet (goes b y)
+act_by cells u b (Load w k) = loads cells b (slice_get cells w) w k
+act_by cells u b (Store w v y) = changes cells b (slice_get cells w) w (change (λ old. v) (λ old. y))
+act_by cells u b (Decrement w k) = changes cells b (slice_get cells w) w (change one_less k)
+act_by cells u b (CallLock l k) = takes_if u b l k (is_lock (slice_get cells l)) (words_in b.share l)
+act_by cells u b (CallUnlock l k) = gives_if u b l k (is_lock (slice_get cells l)) (words_in b.share l)
+act_by cells u b (Prints v y) = Emits (run.Prints v) (tells b b.share y)
+act_by cells u b (Ends y) = Emits run.Ends (tells b b.share y)
+act_by cells u b Over = Stops Ended
+act_by cells u b NoRoom = Stops Full
+act_by cells u b Wrong = Bad
 
-abbrev pub gives_if : {X : Type 0} → Setup X → (ℕ → Leftover) → Atomic X → ℕ → (Leftover → X) → (is_lock holds : Bool) →
-    Act (Atomic X)
-gives_if p u a l k true true = Emits (Unlock l (values a.words (under p.cells 0 l))) (unlocked u a l k)
-gives_if p u a l k true false = Bad
-gives_if p u a l k false h = Bad
+abbrev pub act : {X : Type 0} → Setup X → (ℕ → Leftover) → Standing X → Act (Standing X)
+act p u b = act_by p.edge.cells u b (p.next b.at)
 
-abbrev pub act_by : {X : Type 0} → Setup X → (ℕ → Leftover) → Atomic X → Event X → Act (Atomic X)
-act_by p u a (Plain y) = Quiet (goes a y)
-act_by p u a (Load w k) = loads a w k (access p a w)
-act_by p u a (Store w v y) = stores a w v y (access p a w)
-act_by p u a (Decrement w k) = stores a w (one_less (a.words w)) (k (a.words w)) (access p a w)
-act_by p u a (CallLock l k) = takes_if p u a l k (is_lock (slice_get p.cells l)) (a.holds l)
-act_by p u a (CallUnlock l k) = gives_if p u a l k (is_lock (slice_get p.cells l)) (a.holds l)
-act_by p u a (Prints v y) = Emits (Out v) (goes a y)
-act_by p u a (Ends y) = Emits Done (goes a y)
-act_by p u a Stuck = Stops
-act_by p u a Wrong = Bad
+abbrev pub touching : (reads writes : List ℕ) → Footprint
+touching reads writes = record { reads = reads; writes = writes }
 
-abbrev pub act : {X : Type 0} → Setup X → (ℕ → Leftover) → Atomic X → Act (Atomic X)
-act p u a = act_by p u a (p.next a.at)
+-- a word of a table may be read at any time, and leaves no trace
+abbrev pub reading : Option Cell → (word : ℕ) → Footprint
+reading (Some (TableWord value)) w = touching [] []
+reading _ w = touching (w ∷ []) []
 
-abbrev pub start : {X : Type 0} → Setup X → ℕ → Atomic X
-start p i = atomic (p.first i) (λ w. 0) (λ l. false) 0 0
+abbrev pub touched : {X : Type 0} → List Cell → Event X → Footprint
+touched cells (Load w k) = reading (slice_get cells w) w
+touched cells (Store w v y) = touching [] (w ∷ [])
+touched cells (Decrement w k) = touching (w ∷ []) (w ∷ [])
+touched cells _ = touching [] []
 
--- a run over atomic locks, with its labels, the newest first. A Lock may bring any words, as many as it guards
-pub data AtomicRun {X : Type 0} (p : Setup X) (u : ℕ → Leftover) (i : ℕ) : List RunLabel → Atomic X → Type 0 where
-  begins : AtomicRun p u i [] (start p i)
-  quiet : {ls : List RunLabel} {a : Atomic X} (b : Atomic X) → AtomicRun p u i ls a → act p u a ≡ Quiet b →
-      AtomicRun p u i ls b
-  says : {ls : List RunLabel} {a : Atomic X} (l : RunLabel) (b : Atomic X) → AtomicRun p u i ls a →
-      act p u a ≡ Emits l b → AtomicRun p u i (l ∷ ls) b
-  locks : {ls : List RunLabel} {a : Atomic X} (l : ℕ) (f : List ℕ → Atomic X) (ws : List ℕ) → AtomicRun p u i ls a →
-      act p u a ≡ Locks l f → length ws ≡ length (under p.cells 0 l) → AtomicRun p u i (Lock l ws ∷ ls) (f ws)
+-- the thread i. (A processor doesn't know which functions are open.)
+abbrev pub thread : {X : Type 0} → Setup X → (ℕ → Leftover) → (i : ℕ) → Machine (Standing X)
+thread p u i = record {
+  start = standing (p.first i) [] 0;
+  act = act p u;
+  price = λ b. 1;
+  footprint = λ b. touched p.edge.cells (p.next b.at);
+  activations = λ b. [];
+  called = λ b. None;
+}

@@ -1,25 +1,17 @@
--- The same threads with store buffers over one memory. Between their programs they run the eight instructions of the lock
+-- The same threads with store buffers over one memory. Between their programs they run the instructions of the lock
 -- object, one step each.
 use Rattle.std.specs.Prelude.{⊤, ◌≡◌, ℕ, suc, ◌<◌, nat_eq, List, [], ◌∷◌, ◌++◌, Option, Some, None, slice_get, if◌then◌else◌}
+use Rattle.cas_base.specs.Word.{word_add}
+use Rattle.cas_runs.specs.Label.{RunLabel}
+use Rattle.cas_runs.specs.Label as label
+use Rattle.cas_runs.specs.Legal.{ThreadLabel}
 use Rattle.cas_atomic.specs.Leftover.{Leftover, one_less, after_decrement, after_compare, less_or_equal}
 use Rattle.cas_atomic.specs.Buffer.{Store, store, view, put}
-use Rattle.cas_atomic.specs.Label.{first_words, under, values, RunLabel, ThreadLabel, by_thread, projection, occasions}
-use Rattle.cas_atomic.specs.Label as label
-use Rattle.cas_atomic.specs.Atomic.{Setup, Event, After, Goes, Fails, Halts, Plain, Load, Decrement, CallLock, CallUnlock, Prints, Ends, Stuck, Wrong}
-use Rattle.cas_atomic.specs.Atomic as asm
-
-pub data Instr : Type 0 where
-  LockDec : Instr
-  JumpNotSign : (to : ℕ) → Instr
-  CompareZero : Instr
-  JumpLessEqual : (to : ℕ) → Instr
-  Jump : (to : ℕ) → Instr
-  Return : Instr
-  StoreOne : Instr
-
--- the lock object: lock at 0, unlock at 6. Each memory operand is the lock's word, whose address eax has
-abbrev pub object : List Instr
-object = LockDec ∷ JumpNotSign 5 ∷ CompareZero ∷ JumpLessEqual 2 ∷ Jump 0 ∷ Return ∷ StoreOne ∷ Return ∷ []
+use Rattle.cas_atomic.specs.Cells.{first_words, under, values}
+use Rattle.cas_atomic.specs.Labels.{listed}
+use Rattle.cas_atomic.specs.Object.{Instr, LockDec, JumpNotSign, CompareZero, JumpLessEqual, Jump, Return, StoreWord, AddOne}
+use Rattle.cas_atomic.specs.Program.{Setup, Event, After, Goes, Fails, Halts, Plain, Load, Decrement, CallLock, CallUnlock, Prints, Ends, NoRoom, Wrong}
+use Rattle.cas_atomic.specs.Program as program
 
 -- where a thread is: in its program, or in the lock object, at a place, with its flags, for a lock, and the program
 -- that it returns to
@@ -55,7 +47,7 @@ abbrev pub state_with : {X : Type 0} → (ℕ → ℕ) → List (ℕ × ℕ) →
 state_with m o ts = record { memory = m; output = o; threads = ts }
 
 abbrev pub opening : {X : Type 0} → Setup X → State X
-opening p = state_with (first_words p.cells) [] (λ i. thread (Outside (p.first i)) [] Running 0)
+opening p = state_with (first_words p.edge.cells) [] (λ i. thread (Outside (p.first i)) [] Running 0)
 
 -- only the thread i has changed
 abbrev pub moved : {X : Type 0} → State X → ℕ → Thread X → State X
@@ -107,7 +99,16 @@ decremented w x = one_less (w.before.memory x.lock)
 
 -- the words that the lock guards, where words are these
 abbrev pub guarded : {X : Type 0} → Turn X → Call X → (ℕ → ℕ) → List ℕ
-guarded w x words = values words (under w.setup.cells 0 x.lock)
+guarded w x words = values words (under w.setup.edge.cells 0 x.lock)
+
+-- the state after a plain store to the call's lock
+abbrev pub stored : {X : Type 0} → Turn X → Call X → (value : ℕ) → State X
+stored w x v = moved w.before w.thread (thread (Inside (suc x.place) x.flags x.lock x.back)
+    ((actor w).buffer ++ store x.lock v ∷ []) (actor w).ended (actor w).executed)
+
+-- what is listed as it enters the buffer: an Unlock, with what the thread sees of the words
+abbrev pub released : {X : Type 0} → Turn X → Call X → RunLabel
+released w x = label.Unlock x.lock (guarded w x (view (actor w).buffer w.before.memory))
 
 -- one instruction of the lock object, with what is listed
 abbrev pub Executes : {X : Type 0} → Turn X → Call X → Instr → State X → Option RunLabel → Type 0
@@ -126,11 +127,9 @@ Executes w x Return t o =
     (t ≡ moved w.before w.thread
     (thread (Outside (x.back x.flags)) (actor w).buffer (actor w).ended (actor w).executed))
     × (o ≡ None)
-Executes w x StoreOne t o =
-    (t ≡ moved w.before w.thread
-    (thread (Inside (suc x.place) x.flags x.lock x.back) ((actor w).buffer ++ store x.lock 1 ∷ [])
-    (actor w).ended (actor w).executed))
-    × (o ≡ Some (label.Unlock x.lock (guarded w x (view (actor w).buffer w.before.memory))))
+Executes w x (StoreWord v) t o = (t ≡ stored w x v) × (o ≡ Some (released w x))
+Executes w x AddOne t o =
+    (t ≡ stored w x (word_add (view (actor w).buffer w.before.memory x.lock) 1)) × (o ≡ Some (released w x))
 
 -- the thread's next instruction would be this, and a load would find this word
 pub data WouldBe {X : Type 0} (p : Setup X) (m : ℕ → ℕ) (c : Thread X) (event : Event X) (after : After X)
@@ -144,7 +143,7 @@ abbrev pub MayEnd : {X : Type 0} → Setup X → (ℕ → ℕ) → Thread X → 
 MayEnd p m c Running = ⊥
 MayEnd p m c IsDone = ⊥
 MayEnd p m c OutOfFuel = ⊤
-MayEnd p m c IsFull = WouldBe p m c Stuck Halts
+MayEnd p m c IsFull = WouldBe p m c NoRoom Halts
 MayEnd p m c HasFailed = WouldBe p m c Wrong Fails
 MayEnd {X} p m c OutOfOuts = (x : X) × (v : ℕ) × (y : X) × (c.at ≡ Outside x) × (p.next x ≡ Prints v y)
 
@@ -154,7 +153,7 @@ pub data Step {X : Type 0} (p : Setup X) (s : State X) (i : ℕ) : State X → O
       Step p s i (moved s i (out_of (s.threads i) y)) None
   load : (x : X) (w : ℕ) (k : ℕ → After X) (y : X) → (s.threads i).at ≡ Outside x → p.next x ≡ Load w k →
       k (view (s.threads i).buffer s.memory w) ≡ Goes y → Step p s i (moved s i (out_of (s.threads i) y)) None
-  put_off : (x : X) (w v : ℕ) (y : X) → (s.threads i).at ≡ Outside x → p.next x ≡ asm.Store w v y →
+  put_off : (x : X) (w v : ℕ) (y : X) → (s.threads i).at ≡ Outside x → p.next x ≡ program.Store w v y →
       Step p s i
       (moved s i (thread (Outside y) ((s.threads i).buffer ++ store w v ∷ []) (s.threads i).ended
       (suc (s.threads i).executed))) None
@@ -163,11 +162,11 @@ pub data Step {X : Type 0} (p : Setup X) (s : State X) (i : ℕ) : State X → O
       Step p s i (moved_in s (put w (one_less (s.memory w)) s.memory) i (out_of (s.threads i) (k (s.memory w)))) None
   call_lock : (x : X) (l : ℕ) (k : Leftover → X) → (s.threads i).at ≡ Outside x → p.next x ≡ CallLock l k →
       Step p s i
-      (moved s i (thread (Inside 0 (p.flags x) l k) (s.threads i).buffer (s.threads i).ended
+      (moved s i (thread (Inside p.object.lock (p.flags x) l k) (s.threads i).buffer (s.threads i).ended
       (suc (s.threads i).executed))) None
   call_unlock : (x : X) (l : ℕ) (k : Leftover → X) → (s.threads i).at ≡ Outside x → p.next x ≡ CallUnlock l k →
       Step p s i
-      (moved s i (thread (Inside 6 (p.flags x) l k) (s.threads i).buffer (s.threads i).ended
+      (moved s i (thread (Inside p.object.unlock (p.flags x) l k) (s.threads i).buffer (s.threads i).ended
       (suc (s.threads i).executed))) None
   prints : (x : X) (v : ℕ) (y : X) → (s.threads i).at ≡ Outside x → p.next x ≡ Prints v y →
       Step p s i (state_with s.memory ((i, v) ∷ s.output) (put i (out_of (s.threads i) y) s.threads))
@@ -176,17 +175,13 @@ pub data Step {X : Type 0} (p : Setup X) (s : State X) (i : ℕ) : State X → O
       Step p s i (moved s i (thread (Outside y) (s.threads i).buffer IsDone (suc (s.threads i).executed)))
       (Some label.Done)
   inside : (place : ℕ) (f : Leftover) (l : ℕ) (k : Leftover → X) (instr : Instr) (t : State X) (o : Option RunLabel) →
-      (s.threads i).at ≡ Inside place f l k → slice_get object place ≡ Some instr →
+      (s.threads i).at ≡ Inside place f l k → slice_get p.object.code place ≡ Some instr →
       Executes (turn p s i) (call place f l k) instr t o → Step p s i t o
   stops : (why : End) → MayEnd p s.memory (s.threads i) why →
       Step p s i (moved s i (thread (s.threads i).at (s.threads i).buffer why (s.threads i).executed)) None
   drain : (w v : ℕ) (rest : List Store) → (s.threads i).buffer ≡ store w v ∷ rest →
       Step p s i
       (moved_in s (put w v s.memory) i (thread (s.threads i).at rest (s.threads i).ended (s.threads i).executed)) None
-
-abbrev pub listed : ℕ → Option RunLabel → List ThreadLabel → List ThreadLabel
-listed i None ls = ls
-listed i (Some l) ls = by_thread i l ∷ ls
 
 -- a thread that has ended only drains
 abbrev pub MayStep : {X : Type 0} {p : Setup X} {s : State X} {i : ℕ} {t : State X} {o : Option RunLabel} →

@@ -1,46 +1,33 @@
--- What a Lock brings is in kind, if what threads give back is.
-use Rattle.std.specs.Prelude.{⊤, ℕ, Bool, IsTrue, List, [], ◌∷◌}
-use Rattle.cas_atomic.specs.Leftover.{Leftover}
-use Rattle.cas_atomic.specs.Label.{first_words, under, values, RunLabel, Lock, Unlock, Out, Done, ThreadLabel, IsLegal, projection}
-use Rattle.cas_atomic.specs.Atomic.{Setup, Atomic, AtomicRun}
-use Rattle.cas_atomic.specs.Sound.{Unknown}
+-- What a Lock brings is in kind, if the first words are and what threads give back is: so runs to which a Lock brings
+-- any words are runs.
+use Rattle.std.specs.Prelude.{ℕ, ◌<◌, List}
+use Rattle.cas_runs.specs.Label.{Each, RunLabel, Lock, Unlock}
+use Rattle.cas_runs.specs.Edge.{Edge, AreOfKinds, guarded}
+use Rattle.cas_runs.specs.Machine.{Machine, Always}
+use Rattle.cas_runs.specs.Legal.{ThreadLabel, IsLegal, projection}
+use Rattle.cas_runs.specs.Refines.{Reached, Reaches}
+use Rattle.cas_runs.specs.Unit.{IsInKind}
+use Rattle.cas_atomic.specs.AnyRun.{AnyRun}
 
--- the words of a lock are in kind
-abbrev pub Kinds : Type 0
-Kinds = ℕ → List ℕ → Bool
+abbrev pub BringsInKind : Edge → RunLabel → Type 0
+BringsInKind edge (Lock l words) = AreOfKinds words (guarded l edge.cells)
+BringsInKind edge _ = Unit {0}
 
-abbrev pub BringsIn : Kinds → RunLabel → Type 0
-BringsIn K (Lock l ws) = IsTrue (K l ws)
-BringsIn K (Unlock l ws) = ⊤
-BringsIn K (Out w) = ⊤
-BringsIn K Done = ⊤
+abbrev pub GivesInKind : Edge → RunLabel → Type 0
+GivesInKind edge (Unlock l words) = AreOfKinds words (guarded l edge.cells)
+GivesInKind edge _ = Unit {0}
 
-abbrev pub GivesIn : Kinds → RunLabel → Type 0
-GivesIn K (Unlock l ws) = IsTrue (K l ws)
-GivesIn K (Lock l ws) = ⊤
-GivesIn K (Out w) = ⊤
-GivesIn K Done = ⊤
+-- what its runs give back is in kind
+abbrev pub GivesBack : {S : Type 0} → Edge → Machine S → Type 0
+GivesBack edge m = Always edge m (λ ls x. Each (GivesInKind edge) ls)
 
-abbrev pub AllBring : Kinds → List RunLabel → Type 0
-AllBring K [] = ⊤
-AllBring K (l ∷ ls) = BringsIn K l × AllBring K ls
+-- the runs of all threads, with any words, have legal labels
+pub record RunTogether {S : Type 0} (edge : Edge) (n : ℕ) (t : ℕ → Machine S) (ls : List ThreadLabel)
+    (to : ℕ → Reached S) : Type 0 where
+  pub legal : IsLegal edge.cells n ls
+  pub runs : (i : ℕ) → i < n → AnyRun edge (t i) (projection i ls) (to i).blocks (to i).block (to i).at
 
-abbrev pub AllGive : Kinds → List RunLabel → Type 0
-AllGive K [] = ⊤
-AllGive K (l ∷ ls) = GivesIn K l × AllGive K ls
-
-abbrev pub AreInKind : Kinds → List ThreadLabel → Type 0
-AreInKind K [] = ⊤
-AreInKind K (l ∷ ls) = BringsIn K l.label × GivesIn K l.label × AreInKind K ls
-
--- a thread to which only words in kind are brought gives back such words
-pub record GivesBack {X : Type 0} (p : Setup X) (u : ℕ → Leftover) (i : ℕ) (K : Kinds) : Type 0 where
-  pub each : (ls : List RunLabel) (a : Atomic X) → AtomicRun p u i ls a → AllBring K ls → AllGive K ls
-
-pub record BeginsInKind {X : Type 0} (p : Setup X) (K : Kinds) : Type 0 where
-  pub each : (l : ℕ) → IsTrue (K l (values (first_words p.cells) (under p.cells 0 l)))
-
-abbrev pub KindsFollow : {X : Type 0} → Setup X → Type 0
-KindsFollow {X} p = (K : Kinds) (u : Unknown) → BeginsInKind p K → ((i : ℕ) → GivesBack p (u i) i K) →
-    (ls : List ThreadLabel) (asm : ℕ → Atomic X) → ((i : ℕ) → AtomicRun p (u i) i (projection i ls) (asm i)) →
-    IsLegal p.cells p.threads ls → AreInKind K ls
+abbrev pub KindsFollow : {S : Type 0} → Edge → ℕ → (ℕ → Machine S) → Type 0
+KindsFollow {S = S} edge n t =
+    Each IsInKind edge.cells → ((i : ℕ) → i < n → GivesBack edge (t i)) → (ls : List ThreadLabel) (to : ℕ → Reached S) →
+    RunTogether edge n t ls to → (i : ℕ) → i < n → Reaches edge (t i) (projection i ls) (to i)

@@ -1,8 +1,13 @@
 pub mod Leftover
 pub mod Buffer
-pub mod Label
+pub mod Cells
+pub mod Labels
+pub mod AnyRun
+pub mod Object
+pub mod Program
 pub mod Atomic
 pub mod Buffered
 pub mod Table
 pub mod Sound
+pub mod Unsound
 pub mod Kinds

@@ -23,9 +23,11 @@ use Rattle.cas_asm.specs.Effect.{effect_of}
 use Rattle.cas_asm.specs.Ask.{ask_of, ask_instr, ask_at, ask_spot, ask_locked, ask_stored, stepped, stepped_by, stack_set, word_at, spot_of}
 use Rattle.cas_atomic.specs.Leftover.{Leftover, one_less, after_decrement, after_compare, less_or_equal}
 use Rattle.cas_atomic.specs.Buffer.{Store, store, view, put}
-use Rattle.cas_atomic.specs.Label.{RunLabel, Lock, Unlock, under, values}
 use Rattle.cas_atomic.specs.Buffered.{Point, Outside, Inside, End, Running, IsDone, OutOfFuel, IsFull, HasFailed, OutOfOuts, if_zero}
+use Rattle.cas_atomic.specs.Cells.{under, values}
+use Rattle.cas_runs.specs.Label.{RunLabel, Lock, Unlock}
 use Rattle.cas_atomic.specs.Buffered as tso
+use Rattle.cas_atomic.specs.Object as object
 use Rattle.cas_lock.specs.Accepted.{word, accepted_code}
 use Rattle.cas_refine.specs.Object.{at_eax, HasObject}
 use Rattle.cas_refine.specs.Cpu.{Program, unfixed}
@@ -70,11 +72,11 @@ module _ (p : Linked) (s : World) (ats : ℕ → Point Program) (h : Matches p.i
         (y : Option RunLabel) → d ≡ cpu c.core.regs g pl c.stack c.bottom → pl ≡ place' → place' < 8 →
         x' ≡ unfixed g c.stack
         → t ≡ world mem s.output (put i (core d b r.ended (counted c r.executed)) s.threads) → o ≡ y
-        → Taken p s ats h i
+        → Taken p s ats h i 1
         (tso.state_with mem s.output (put i (tso.thread (Inside place' x' l k) b r.ended r.executed)
-        (λ j. lifted (ats j) (s.threads j)))) y → Result p s ats h i t o
+        (λ j. lifted (ats j) (s.threads j)))) y → Result p s ats h i 1 t o
     stays x' place' g pl d mem b y q at less fl z e step =
-        finish p s ats h i mem s.output (Inside place' x' l k)
+        finish p s ats h i 1 mem s.output (Inside place' x' l k)
         (core (cpu c.core.regs g pl c.stack c.bottom) b r.ended r.executed)
         (tso.thread (Inside place' x' l k) b r.ended r.executed) t o y
         (z ∙ ap (λ (a : State). world mem s.output (put i (core a b r.ended (counted c r.executed)) s.threads)) q
@@ -84,8 +86,9 @@ module _ (p : Linked) (s : World) (ats : ℕ → Point Program) (h : Matches p.i
         (record { room = (h.rooms i).room })
 
     -- the processor returns from the lock object
-    returns : slice_get m.code c.core.place ≡ Some instr.Ret → slice_get tso.object place ≡ Some tso.Return →
-        Takes (moment p s i) r (ask_of m c None) t o → Result p s ats h i t o
+    returns : slice_get m.code c.core.place ≡ Some instr.Ret →
+        slice_get object.accepted.code place ≡ Some object.Return →
+        Takes (moment p s i) r (ask_of m c None) t o → Result p s ats h i 1 t o
     returns q oq x =
         let read = slice_index c.stack n.object.slot in
         let own = n.object.slot_is c.core.flags c.core.place in
@@ -99,13 +102,13 @@ module _ (p : Linked) (s : World) (ats : ℕ → Point Program) (h : Matches p.i
         ∙ ap (λ (a : Spot). cpu (record c.core.regs { esp = word_add c.core.regs.esp 4 }) c.core.flags
         (word_at c a 0) c.stack c.bottom) own in
         let back : k f ≡ Some d = ap k n.flags_are ∙ n.object.back c.core.flags in
-        finish p s ats h i s.memory s.output (Outside (Some d)) (core d r.buffer r.ended r.executed)
+        finish p s ats h i 1 s.memory s.output (Outside (Some d)) (core d r.buffer r.ended r.executed)
         (tso.thread (Outside (k f)) r.buffer r.ended r.executed) t o None
         (y3.0 ∙ ap (λ (a : State). world s.memory s.output
         (put i (core a r.buffer r.ended (counted c r.executed)) s.threads)) is
         ∙ ap (λ (a : ℕ). world s.memory s.output (put i (core d r.buffer r.ended a) s.threads)) count_kept)
         y3.1 (ap (λ (x : Program). tso.thread (Outside x) r.buffer r.ended r.executed) back)
-        (tso.inside place f l k tso.Return _ _ here oq (refl, refl), live) refl (record { room = (h.rooms i).room })
+        (tso.inside place f l k object.Return _ _ here oq (refl, refl), live, refl) refl (record { room = (h.rooms i).room })
 
     -- an instruction without an operand in memory
     plainly : (low : Bool) (d : State) → Takes (moment p s i) r (cond low ask.Stack ask.Plain) t o →
@@ -131,7 +134,7 @@ module _ (p : Linked) (s : World) (ats : ℕ → Point Program) (h : Matches p.i
 
     pub executes : (place : ℕ) (f : Leftover) (l : ℕ) (k : Leftover → Program) → ats i ≡ Inside place f l k →
         IsInside p.image c place f l k → (t : World) (o : Option RunLabel) →
-        Takes (moment p s i) r (ask_of m c None) t o → Result p s ats h i t o
+        Takes (moment p s i) r (ask_of m c None) t o → Result p s ats h i 1 t o
     executes zero f l k here n t o x =
         let q = code_at 0 n.place_is n.within in
         let sp = spot_is 0 f l k here n t o in
@@ -146,13 +149,13 @@ module _ (p : Linked) (s : World) (ats : ℕ → Point Program) (h : Matches p.i
         (word_sub (word_at c a (s.memory l)) 1)) (c.core.place + 1)
         (stack_set c.stack a (word_sub (word_at c a (s.memory l)) 1)) c.bottom) sp in
         let e = n.place_is in
-        let lab = Lock l (values s.memory (under p.cells 0 l)) in
+        let lab = Lock l (values s.memory (under p.edge.cells 0 l)) in
         stays 0 f l k here n t o (after_decrement f v) 1
         (flag.decrement_flags c.core.flags.carry (word_sub (s.memory l) 1)) (c.core.place + 1)
         (stepped m c (s.memory l)) (put l v s.memory) r.buffer (if_zero v lab)
         is (omega arith) (omega arith) (ap (λ (g : Leftover). after_decrement g v) n.flags_are) y.1
         (y.2 ∙ ap (λ (j : ℕ). lock_listed j v lab) e)
-        (tso.inside 0 f l k tso.LockDec _ _ here refl (y.0, refl, refl), live)
+        (tso.inside 0 f l k object.LockDec _ _ here refl (y.0, refl, refl), live, refl)
     executes (suc zero) f l k here n t o x =
         let q = code_at 1 n.place_is n.within in
         let y = plainly 1 f l k here n t o (nat_lt c.core.regs.esp c.bottom) c
@@ -163,7 +166,7 @@ module _ (p : Linked) (s : World) (ats : ℕ → Point Program) (h : Matches p.i
         (cond (not c.core.flags.sign) 5 (c.core.place + 1)) (stepped m c 0) s.memory r.buffer None
         (ap (stepped_by m c 0) q) (by f.flags.sign c.core.flags.sign fl (c.core.place + 1) (omega arith))
         (low f.flags.sign) n.flags_are y.0 y.1
-        (tso.inside 1 f l k (tso.JumpNotSign 5) _ _ here refl (refl, refl), live)
+        (tso.inside 1 f l k (object.JumpNotSign 5) _ _ here refl (refl, refl), live, refl)
       where
         by : (a b : Bool) → a ≡ b → (pl : ℕ) → pl ≡ 2 → cond (not b) 5 pl ≡ (if a then 2 else 5)
         by true true g pl z = z
@@ -188,7 +191,7 @@ module _ (p : Linked) (s : World) (ats : ℕ → Point Program) (h : Matches p.i
         stays 2 f l k here n t o (after_compare f v) 3 (sub_flags v 0) (c.core.place + 1) (stepped m c v)
         s.memory r.buffer None
         is (omega arith) (omega arith) (ap (λ (g : Leftover). after_compare g v) n.flags_are) y.1 y.2
-        (tso.inside 2 f l k tso.CompareZero _ _ here refl (refl, refl), live)
+        (tso.inside 2 f l k object.CompareZero _ _ here refl (refl, refl), live, refl)
     executes (suc (suc (suc zero))) f l k here n t o x =
         let q = code_at 3 n.place_is n.within in
         let y = plainly 3 f l k here n t o (nat_lt c.core.regs.esp c.bottom) c
@@ -199,7 +202,7 @@ module _ (p : Linked) (s : World) (ats : ℕ → Point Program) (h : Matches p.i
         (cond (flag.holds Le c.core.flags) 2 (c.core.place + 1)) (stepped m c 0) s.memory r.buffer None
         (ap (stepped_by m c 0) q) (by (less_or_equal f) (flag.holds Le c.core.flags) fl (c.core.place + 1)
         (omega arith)) (low (less_or_equal f)) n.flags_are y.0 y.1
-        (tso.inside 3 f l k (tso.JumpLessEqual 2) _ _ here refl (refl, refl), live)
+        (tso.inside 3 f l k (object.JumpLessEqual 2) _ _ here refl (refl, refl), live, refl)
       where
         by : (a b : Bool) → a ≡ b → (pl : ℕ) → pl ≡ 4 → cond b 2 pl ≡ (if a then 2 else 4)
         by true true g pl z = refl
@@ -216,7 +219,7 @@ module _ (p : Linked) (s : World) (ats : ℕ → Point Program) (h : Matches p.i
         (asks_for 4 f l k here n t o (instr.Jmp (target.Label 0)) q x) in
         stays 4 f l k here n t o f 0 c.core.flags 0 (stepped m c 0) s.memory r.buffer None
         (ap (stepped_by m c 0) q) refl (omega arith) n.flags_are y.0 y.1
-        (tso.inside 4 f l k (tso.Jump 0) _ _ here refl (refl, refl), live)
+        (tso.inside 4 f l k (object.Jump 0) _ _ here refl (refl, refl), live, refl)
     executes (suc (suc (suc (suc (suc zero))))) f l k here n t o x =
         returns 5 f l k here n t o (code_at 5 n.place_is n.within) refl x
     executes (suc (suc (suc (suc (suc (suc zero)))))) f l k here n t o x =
@@ -230,11 +233,11 @@ module _ (p : Linked) (s : World) (ats : ℕ → Point Program) (h : Matches p.i
         ap (stepped_by m c 0) q
         ∙ ap (λ (a : Spot). cpu c.core.regs c.core.flags (c.core.place + 1) (stack_set c.stack a 1) c.bottom) sp in
         let e = n.place_is in
-        let lab = Unlock l (values (view r.buffer s.memory) (under p.cells 0 l)) in
+        let lab = Unlock l (values (view r.buffer s.memory) (under p.edge.cells 0 l)) in
         stays 6 f l k here n t o f 7 c.core.flags (c.core.place + 1) (stepped m c 0) s.memory
         (r.buffer ++ store l 1 ∷ []) (Some lab)
         is (omega arith) (omega arith) n.flags_are y.0 (y.1 ∙ ap (λ (j : ℕ). unlock_listed j lab) e)
-        (tso.inside 6 f l k tso.StoreOne _ _ here refl (refl, refl), live)
+        (tso.inside 6 f l k (object.StoreWord 1) _ _ here refl (refl, refl), live, refl)
     executes (suc (suc (suc (suc (suc (suc (suc zero))))))) f l k here n t o x =
         returns 7 f l k here n t o (code_at 7 n.place_is n.within) refl x
     executes (suc (suc (suc (suc (suc (suc (suc (suc j)))))))) f l k here n t o x = let z =

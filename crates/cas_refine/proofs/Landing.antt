@@ -11,10 +11,11 @@ use Rattle.cas_asm.specs.Links.{in_image}
 use Rattle.cas_asm.specs.Effect.{effect_of}
 use Rattle.cas_asm.specs.Ask.{stepped, stepped_by, stack_set, stack_after, spot_of, word_read}
 use Rattle.cas_atomic.specs.Buffer.{put}
-use Rattle.cas_atomic.specs.Label.{RunLabel}
-use Rattle.cas_atomic.specs.Atomic.{Wrong}
 use Rattle.cas_atomic.specs.Buffered.{Point, Outside, Inside}
+use Rattle.cas_atomic.specs.Program.{Wrong}
+use Rattle.cas_runs.specs.Label.{RunLabel}
 use Rattle.cas_atomic.specs.Buffered as tso
+use Rattle.cas_atomic.specs.Sound.{one_inside}
 use Rattle.cas_atomic.proofs.Basic.{same_or_not, put_here, put_else, each_put}
 use Rattle.cas_refine.specs.Cpu.{Program, event_of}
 use Rattle.cas_refine.specs.Machine.{Core, World, world, Linked, setup}
@@ -38,14 +39,15 @@ module _ (p : Linked) (s : World) (ats : ℕ → Point Program) (h : Matches p.i
       (put i w ats)
   lands m o w r t e = λ x. tso.state_with m o (λ j. threads_same w r t e j x)
 
-  -- an abstract step that may be taken
-  abbrev pub Taken : tso.State Program → Option RunLabel → Type 0
-  Taken v y = (step : tso.Step (setup p) (lift s ats) i v y) × tso.MayStep step
+  -- an abstract step that may be taken, with so many instructions of the lock object
+  abbrev pub Taken : ℕ → tso.State Program → Option RunLabel → Type 0
+  Taken n v y = (step : tso.Step (setup p) (lift s ats) i v y) × tso.MayStep step × (one_inside step ≡ n)
 
-  pub record Goes (t : World) (o : Option RunLabel) : Type 0 where
+  pub record Goes (n : ℕ) (t : World) (o : Option RunLabel) : Type 0 where
     pub at : Point Program
     pub step : tso.Step (setup p) (lift s ats) i (lift t (put i at ats)) o
     pub may : tso.MayStep step
+    pub inside : one_inside step ≡ n
     pub matches : Matches p.image t (put i at ats)
 
   pub record IsWrong : Type 0 where
@@ -53,22 +55,23 @@ module _ (p : Linked) (s : World) (ats : ℕ → Point Program) (h : Matches p.i
     pub outside : ats i ≡ Outside at
     pub wrong : event_of p.image at ≡ Wrong
 
-  abbrev pub Result : World → Option RunLabel → Type 0
-  Result t o = Goes t o ⊎ IsWrong
+  abbrev pub Result : ℕ → World → Option RunLabel → Type 0
+  Result n t o = Goes n t o ⊎ IsWrong
 
   -- an abstract step, and where the processor is then
-  pub finish : (m : ℕ → ℕ) (out : List (ℕ × ℕ)) (w : Point Program) (r : Core) (t : tso.Thread Program) (z : World)
+  pub finish : (n : ℕ) (m : ℕ → ℕ) (out : List (ℕ × ℕ)) (w : Point Program) (r : Core) (t : tso.Thread Program) (z : World)
       (o y : Option RunLabel) → z ≡ world m out (put i r s.threads) → o ≡ y → t ≡ lifted w r
-      → Taken (tso.state_with m out (put i t (λ k. lifted (ats k) (s.threads k)))) y → Stands p.image r w →
-      HasRoom r.cpu → Result z o
-  finish m out w r t z o y q l e step stands room =
-      let taken : Taken (lift (world m out (put i r s.threads)) (put i w ats)) y =
-      subst (λ (v : tso.State Program). Taken v y) (lands m out w r t e) step in
-      inl (subst (λ (v : World). Goes v o) (sym q)
-      (subst (λ (n : Option RunLabel). Goes (world m out (put i r s.threads)) n) (sym l) (record {
+      → Taken n (tso.state_with m out (put i t (λ k. lifted (ats k) (s.threads k)))) y → Stands p.image r w →
+      HasRoom r.cpu → Result n z o
+  finish n m out w r t z o y q l e step stands room =
+      let taken : Taken n (lift (world m out (put i r s.threads)) (put i w ats)) y =
+      subst (λ (v : tso.State Program). Taken n v y) (lands m out w r t e) step in
+      inl (subst (λ (v : World). Goes n v o) (sym q)
+      (subst (λ (k : Option RunLabel). Goes n (world m out (put i r s.threads)) k) (sym l) (record {
         at = w;
         step = taken.0;
         may = taken.1;
+        inside = taken.2;
         matches = record {
           stands = λ j. elim (same_or_not j i) [
             | inl same ↦ subst (λ (c : Core). Stands p.image c (put i w ats j)) (sym (put_here i r s.threads j same))

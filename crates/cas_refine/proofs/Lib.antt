@@ -2,7 +2,6 @@ pub mod Stacks
 pub mod Landing
 pub mod Inside
 pub mod Outside
-pub mod Over
 pub mod Whole
 pub mod Returning
 pub mod Opening

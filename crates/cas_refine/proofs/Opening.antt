@@ -1,43 +1,36 @@
 -- Where a run of the x86-TSO machine starts is where one of processors starts.
-use Rattle.std.proofs.Common.{◌≡◌, ℕ, zero, suc, ◌+◌, ◌*◌, ◌<◌, ◌≤◌, ◌-◌, nat_eq, nat_lt, Bool, true, false, List, [], ◌∷◌, length, Option, Some, None, slice_get, slice_set, if◌then◌else◌, sym, refl, ap, ◌∙◌, subst, inl, inr, ◌⊎◌, arith, length-set}
-use Rattle.std.specs.Prelude.{slice_index_or, replicate}
-use Rattle.std.specs.List.{list_any}
+use Rattle.std.proofs.Common.{◌≡◌, ℕ, zero, suc, ◌+◌, ◌*◌, ◌<◌, ◌≤◌, ◌-◌, nat_eq, nat_lt, Bool, true, false, List, [], ◌∷◌, length, Some, None, slice_get, slice_set, if◌then◌else◌, sym, refl, ap, ◌∙◌, subst, inl, inr, ◌⊎◌, arith, length-set}
+use Rattle.std.specs.Prelude.{replicate}
 use Rattle.std.proofs.Math.Nat.{mul-le-mul_right}
 use Rattle.cas_asm.specs.declared.image.Image.{Image}
 use Rattle.cas_asm.specs.Start.{start_of, stack_of}
 use Rattle.cas_tso.specs.State.{Setup}
 use Rattle.cas_tso.specs.Run.{first_thread, threads_from, start_state}
 use Rattle.cas_tso.specs.declared.end.End.TheVariants as end
-use Rattle.cas_atomic.specs.Label.{Cell, LockWord, SharedWord, TableWord, first_value, first_words}
+use Rattle.cas_atomic.specs.Cells.{first_value, first_words}
+use Rattle.cas_runs.specs.Edge.{Edge, Cell, LockWord, SharedWord, TableWord}
 use Rattle.cas_atomic.specs.Buffered as buffered
 use Rattle.cas_refine.specs.Machine.{core, world, Begins, opening}
-use Rattle.cas_refine.specs.Listing.{cell_of, cells_from, cells_of, IsLinked, HasRoom, first_cpu, linked, word_of, end_of, core_in, tables}
+use Rattle.cas_refine.specs.Listing.{IsCell, AreCells, IsLinked, HasRoom, first_cpu, linked, word_of, end_of, core_in, tables}
 use Rattle.cas_refine.proofs.Stacks.{lt_or_not}
 
 -- Words.
 
--- a word and its cell, or neither
-cell_or : (m : Image) (ws : List ℕ) (k i : ℕ) →
-    ((w : ℕ) × (slice_get ws i ≡ Some w) × (slice_get (cells_from m k ws) i ≡ Some (cell_of m (k + i) w)))
-    ⊎ ((slice_get ws i ≡ None) × (slice_get (cells_from m k ws) i ≡ None))
-cell_or m [] k i = inr (refl, refl)
-cell_or m (w ∷ ws) k zero = inl (w, refl, ap (λ (j : ℕ). Some (cell_of m j w)) (let e : k ≡ k + 0 = omega arith in e))
-cell_or m (w ∷ ws) k (suc i) = elim (cell_or m ws (k + 1) i) [
-  | inl h ↦ inl (
-    h.0,
-    h.1,
-    h.2 ∙ ap (λ (j : ℕ). Some (cell_of m j h.0))
-        (let e : k + 1 + i ≡ k + suc i = omega arith in e),
-  )
-  | inr h ↦ inr h
-]
+-- a cell's first value is the word
+cell_value : (m : Image) (k w : ℕ) (c : Cell) → IsCell m k w c → first_value (Some c) ≡ w
+cell_value m k w LockWord h = sym h.2
+cell_value m k w (TableWord v) h = h.1
+cell_value m k w (SharedWord kind guard initial) h = h.3
 
-value_of_cell : (a b : Bool) (g : Option ℕ) (w : ℕ) →
-    ((if a then TableWord w else (if b then LockWord else SharedWord g w)) ≡ LockWord → w ≡ 1) →
-    first_value (Some (if a then TableWord w else (if b then LockWord else SharedWord g w))) ≡ w
-value_of_cell true b g w h = refl
-value_of_cell false true g w h = sym (h refl)
-value_of_cell false false g w h = refl
+-- a word and its cell, or neither
+cell_or : (m : Image) (k : ℕ) (ws : List ℕ) (cs : List Cell) → AreCells m k ws cs → (i : ℕ) →
+    ((w : ℕ) × (slice_get ws i ≡ Some w) × (first_value (slice_get cs i) ≡ w))
+    ⊎ ((slice_get ws i ≡ None) × (first_value (slice_get cs i) ≡ 0))
+cell_or m k [] [] h i = inr (refl, refl)
+cell_or m k [] (c ∷ cs) h i = absurd h
+cell_or m k (w ∷ ws) [] h i = absurd h
+cell_or m k (w ∷ ws) (c ∷ cs) h zero = inl (w, refl, cell_value m k w c h.0)
+cell_or m k (w ∷ ws) (c ∷ cs) h (suc i) = cell_or m (k + 1) ws cs h.1 i
 
 word_there : (ws : List ℕ) (i w : ℕ) → slice_get ws i ≡ Some w → word_of ws i ≡ w
 word_there [] i w e = absurd (cc e)
@@ -49,18 +42,10 @@ word_absent [] i e = refl
 word_absent (x ∷ ws) zero e = absurd (cc e)
 word_absent (x ∷ ws) (suc i) e = word_absent ws i e
 
-first_word : (m : Image) → IsLinked m → (i : ℕ) → first_words (cells_of m) i ≡ word_of m.words i
-first_word m l i = elim (cell_or m m.words 0 i) [
-  | inl h ↦
-      let w = h.0 in
-      let at : slice_get (cells_of m) i ≡ Some (cell_of m i w) =
-      h.2 ∙ ap (λ (j : ℕ). Some (cell_of m j w)) (let e : 0 + i ≡ i = omega arith in e) in
-      ap first_value at
-      ∙ value_of_cell (slice_index_or m.constant i false) (list_any (nat_eq i) m.locks) (slice_index_or m.guards i None)
-      w
-      (λ is. l.locks i w (at ∙ ap (λ (c : Cell). Some c) is) h.1)
-      ∙ sym (word_there m.words i w h.1)
-  | inr h ↦ ap first_value h.1 ∙ sym (word_absent m.words i h.0)
+first_word : (m : Image) (edge : Edge) → IsLinked m edge → (i : ℕ) → first_words edge.cells i ≡ word_of m.words i
+first_word m edge l i = elim (cell_or m 0 m.words edge.cells l.words i) [
+  | inl h ↦ h.2 ∙ sym (word_there m.words i h.0 h.1)
+  | inr h ↦ h.1 ∙ sym (word_absent m.words i h.0)
 ]
 
 -- Threads.
@@ -104,8 +89,9 @@ first_core p i = elim (thread_or p p.image.entries 0 i) [
 ]
 
 -- both start alike
-pub opens_alike : (p : Setup) → IsLinked p.image → opening (linked p) ≡ tables p (start_state p) (λ j. 0)
-opens_alike p l = λ x. world (λ w. first_word p.image l w x) [] (λ i. first_core p i x)
+pub opens_alike : (edge : Edge) (p : Setup) → IsLinked p.image edge →
+    opening (linked edge p) ≡ tables p (start_state p) (λ j. 0)
+opens_alike edge p l = λ x. world (λ w. first_word p.image edge l w x) [] (λ i. first_core p i x)
 
 -- Stacks.
 
@@ -131,8 +117,8 @@ picked i n = elim (lt_or_not i n) [
   | inr h ↦ subst (λ (b : Bool). (if b then i else 0) ≤ n) (sym h.0) (omega arith)
 ]
 
-pub stacks_fit : (p : Setup) → HasRoom p → Begins (linked p)
-stacks_fit p h = record {
+pub stacks_fit : (edge : Edge) (p : Setup) → HasRoom p → Begins (linked edge p)
+stacks_fit edge p h = record {
   room = λ i.
       let n = length p.image.entries in
       let j = if nat_lt i n then i else 0 in

@@ -21,13 +21,14 @@ use Rattle.cas_asm.specs.After.{address}
 use Rattle.cas_asm.specs.Ask.{ask_of, ask_instr, ask_stored, stepped, stepped_by, stack_set, spot_of, spot_at}
 use Rattle.cas_atomic.specs.Leftover.{one_less}
 use Rattle.cas_atomic.specs.Buffer.{Store, store, view, put}
-use Rattle.cas_atomic.specs.Label.{RunLabel, Lock, Unlock, Out, Done, under, values}
-use Rattle.cas_atomic.specs.Atomic.{Event, CallLock, CallUnlock, Stuck, Wrong, After, Fails, Halts}
 use Rattle.cas_atomic.specs.Buffered.{Point, Outside, Inside, End, Running, IsDone, OutOfFuel, IsFull, HasFailed, OutOfOuts, if_zero}
+use Rattle.cas_atomic.specs.Cells.{under, values}
+use Rattle.cas_atomic.specs.Program.{Event, CallLock, CallUnlock, NoRoom, Wrong, After, Fails, Halts}
+use Rattle.cas_runs.specs.Label.{RunLabel, Lock, Unlock, Out, Done}
 use Rattle.cas_atomic.specs.Buffered as tso
 use Rattle.cas_refine.specs.Object.{at_eax, HasObject}
 use Rattle.cas_refine.specs.Cpu.{Program, if_changing, unfixed, behind, with_below, Called, ToLock, ToUnlock, Other, called_by, called_of, after_load, event_by, locks_at, unlocks_at, locks_by, unlocks_by, event_for, event_at}
-use Rattle.cas_refine.specs.Machine.{moment, Core, core, World, world, Linked, setup, counted, goes, lock_listed, unlock_listed, Takes, WouldAsk, outright, by_load, IsStack, IsBad, IsOut, MayEnd}
+use Rattle.cas_refine.specs.Machine.{in_object, moment, Core, core, World, world, Linked, setup, counted, goes, lock_listed, unlock_listed, Takes, WouldAsk, outright, by_load, IsStack, IsBad, IsOut, MayEnd}
 use Rattle.cas_refine.specs.Matching.{cpu, InObject, HasRoom, Matches, lifted}
 use Rattle.cas_refine.proofs.Stacks.{lt_or_not, below_set, IsSlot, own_slot, slot_within, slot_above}
 use Rattle.cas_refine.proofs.Landing.{Taken, Result, finish, room_after}
@@ -161,11 +162,11 @@ module _ (p : Linked) (obj : HasObject p.image) (s : World) (ats : ℕ → Point
     -- the processor goes on outside
     onward : (mem : ℕ → ℕ) (out : List (ℕ × ℕ)) (d : State) (b : List Store) (y : Option RunLabel) → HasRoom d →
         t ≡ world mem out (put i (core d b r.ended (counted c r.executed)) s.threads) → o ≡ y
-        → Taken p s ats h i
+        → Taken p s ats h i 0
         (tso.state_with mem out (put i (tso.thread (Outside (Some d)) b r.ended (suc r.executed))
-        (λ j. lifted (ats j) (s.threads j)))) y → Result p s ats h i t o
+        (λ j. lifted (ats j) (s.threads j)))) y → Result p s ats h i 0 t o
     onward mem out d b y room z q step =
-        finish p s ats h i mem out (Outside (Some d)) (core d b r.ended (suc r.executed))
+        finish p s ats h i 0 mem out (Outside (Some d)) (core d b r.ended (suc r.executed))
         (tso.thread (Outside (Some d)) b r.ended (suc r.executed)) t o y
         (z ∙ ap (λ (n : ℕ). world mem out (put i (core d b r.ended n) s.threads)) count_more) q refl step refl room
 
@@ -178,47 +179,48 @@ module _ (p : Linked) (obj : HasObject p.image) (s : World) (ats : ℕ → Point
         [ inl e ↦ let z = e.1 in absurd (omega arith) | inr e ↦ ap (λ (b : Bool). if b then Some l else None) e.0 ]
 
     goes_by : (a : Ask) → ask_of m c None ≡ a → event_at m c ≡ event_by m c a → Takes (moment p s i) r a t o →
-        Result p s ats h i t o
+        Result p s ats h i 0 t o
     goes_by ask.Plain q ev x = onward s.memory s.output (stepped m c 0) r.buffer None (room_after m c 0 (h.rooms i))
-        x.0 x.1 (tso.plain (Some c) (Some (stepped m c 0)) here ev, live)
+        x.0 x.1 (tso.plain (Some c) (Some (stepped m c 0)) here ev, live, refl)
     goes_by (ask.Load k) q ev x =
         let v : ℕ = view r.buffer s.memory k in
         onward s.memory s.output (stepped m c v) r.buffer None (room_after m c v (h.rooms i)) x.1 x.2 (
           tso.load (Some c) k (λ v. after_load m c v (ask_of m c (Some v))) (Some (stepped m c v)) here ev
               (ap (after_load m c v) x.0),
           live,
+          refl,
         )
     goes_by (ask.Store k v) q ev x = onward s.memory s.output (stepped m c 0) (r.buffer ++ store k v ∷ []) None
         (room_after m c 0 (h.rooms i)) x.0
-        (x.1 ∙ unlisted_store (Unlock k (values (view r.buffer s.memory) (under p.cells 0 k))))
-        (tso.put_off (Some c) k v (Some (stepped m c 0)) here ev, live)
+        (x.1 ∙ unlisted_store (Unlock k (values (view r.buffer s.memory) (under p.edge.cells 0 k))))
+        (tso.put_off (Some c) k v (Some (stepped m c 0)) here ev, live, refl)
     goes_by (ask.LockedDec k) q ev x = onward (put k (one_less (s.memory k)) s.memory) s.output
         (stepped m c (s.memory k)) r.buffer None (room_after m c (s.memory k) (h.rooms i)) x.1
-        (x.2 ∙ unlisted_dec (one_less (s.memory k)) (Lock k (values s.memory (under p.cells 0 k))))
-        (tso.decrement (Some c) k (λ v. Some (stepped m c v)) here ev x.0, live)
+        (x.2 ∙ unlisted_dec (one_less (s.memory k)) (Lock k (values s.memory (under p.edge.cells 0 k))))
+        (tso.decrement (Some c) k (λ v. Some (stepped m c v)) here ev x.0, live, refl)
     goes_by (ask.Out v) q ev x = onward s.memory ((i, v) ∷ s.output) (stepped m c 0) r.buffer (Some (Out v))
-        (room_after m c 0 (h.rooms i)) x.0 x.1 (tso.prints (Some c) v (Some (stepped m c 0)) here ev, live)
+        (room_after m c 0 (h.rooms i)) x.0 x.1 (tso.prints (Some c) v (Some (stepped m c 0)) here ev, live, refl)
     goes_by ask.Finish q ev x =
         let d = stepped m c 0 in
-        finish p s ats h i s.memory s.output (Outside None) (core d r.buffer IsDone (suc r.executed))
+        finish p s ats h i 0 s.memory s.output (Outside None) (core d r.buffer IsDone (suc r.executed))
         (tso.thread (Outside None) r.buffer IsDone (suc r.executed)) t o (Some Done)
         (x.0 ∙ ap (λ (n : ℕ). world s.memory s.output (put i (core d r.buffer IsDone n) s.threads)) count_more) x.1 refl
-        (tso.done (Some c) None here ev, live) refl (room_after m c 0 (h.rooms i))
+        (tso.done (Some c) None here ev, live, refl) refl (room_after m c 0 (h.rooms i))
     goes_by ask.Stack q ev x = absurd x
     goes_by (ask.Bad why) q ev x = absurd x
 
-    wrong_now : event_at m c ≡ Wrong → Result p s ats h i t o
+    wrong_now : event_at m c ≡ Wrong → Result p s ats h i 0 t o
     wrong_now ev = inr (record { at = Some c; outside = here; wrong = ev })
 
     -- into the lock object
     enters : (to l : ℕ) → to < 8 → IsCall to l → t ≡ world s.memory s.output (put i (goes r (stepped m c 0)) s.threads)
         → o ≡ None
-        → Taken p s ats h i (tso.state_with s.memory s.output
+        → Taken p s ats h i 0 (tso.state_with s.memory s.output
         (put i (tso.thread (Inside to ((setup p).flags (Some c)) l (behind c)) r.buffer r.ended (suc r.executed))
-        (λ j. lifted (ats j) (s.threads j)))) None → Result p s ats h i t o
+        (λ j. lifted (ats j) (s.threads j)))) None → Result p s ats h i 0 t o
     enters to l low k z q step =
         let flags = (setup p).flags (Some c) in
-        finish p s ats h i s.memory s.output (Inside to flags l (behind c))
+        finish p s ats h i 0 s.memory s.output (Inside to flags l (behind c))
         (core (cpu k.regs c.core.flags to k.stack c.bottom) r.buffer r.ended (suc r.executed))
         (tso.thread (Inside to flags l (behind c)) r.buffer r.ended (suc r.executed)) t o None
         (z ∙ ap (λ (d : State). world s.memory s.output
@@ -236,18 +238,18 @@ module _ (p : Linked) (obj : HasObject p.image) (s : World) (ats : ℕ → Point
         (subst (λ (d : State). HasRoom d) k.is (room_after m c 0 (h.rooms i)))
 
     locks_now : IsCallOf (slice_get m.code c.core.place) 0 → (a : Ask) → ask_of m c None ≡ a →
-        event_at m c ≡ locks_by m c a → Takes (moment p s i) r a t o → Result p s ats h i t o
+        event_at m c ≡ locks_by m c a → Takes (moment p s i) r a t o → Result p s ats h i 0 t o
     locks_now code ask.Plain q ev x = by (spot_of m c (address c.core.regs at_eax)) refl ev
       where
         into : (l : ℕ) → spot_of m c (address c.core.regs at_eax) ≡ Shared l → (b : Bool) →
             slice_index_or m.constant l false ≡ b → event_at m c ≡ if_changing b (CallLock l (behind c)) →
-            Result p s ats h i t o
+            Result p s ats h i 0 t o
         into l e true g ev = wrong_now ev
         into l e false g ev = enters 0 l (omega arith) (calls 0 l code q e g) x.0 x.1
-            (tso.call_lock (Some c) l (behind c) here ev, live)
+            (tso.call_lock (Some c) l (behind c) here ev, live, refl)
 
         by : (w : Spot) → spot_of m c (address c.core.regs at_eax) ≡ w → event_at m c ≡ locks_at m c w →
-            Result p s ats h i t o
+            Result p s ats h i 0 t o
         by (Shared l) e ev = into l e (slice_index_or m.constant l false) refl ev
         by (Own k) e ev = wrong_now ev
         by Nowhere e ev = wrong_now ev
@@ -260,18 +262,18 @@ module _ (p : Linked) (obj : HasObject p.image) (s : World) (ats : ℕ → Point
     locks_now code ask.Finish q ev x = wrong_now ev
 
     unlocks_now : IsCallOf (slice_get m.code c.core.place) 6 → (a : Ask) → ask_of m c None ≡ a →
-        event_at m c ≡ unlocks_by m c a → Takes (moment p s i) r a t o → Result p s ats h i t o
+        event_at m c ≡ unlocks_by m c a → Takes (moment p s i) r a t o → Result p s ats h i 0 t o
     unlocks_now code ask.Plain q ev x = by (spot_of m c (address c.core.regs at_eax)) refl ev
       where
         into : (l : ℕ) → spot_of m c (address c.core.regs at_eax) ≡ Shared l → (b : Bool) →
             slice_index_or m.constant l false ≡ b → event_at m c ≡ if_changing b (CallUnlock l (behind c)) →
-            Result p s ats h i t o
+            Result p s ats h i 0 t o
         into l e true g ev = wrong_now ev
         into l e false g ev = enters 6 l (omega arith) (calls 6 l code q e g) x.0 x.1
-            (tso.call_unlock (Some c) l (behind c) here ev, live)
+            (tso.call_unlock (Some c) l (behind c) here ev, live, refl)
 
         by : (w : Spot) → spot_of m c (address c.core.regs at_eax) ≡ w → event_at m c ≡ unlocks_at m c w →
-            Result p s ats h i t o
+            Result p s ats h i 0 t o
         by (Shared l) e ev = into l e (slice_index_or m.constant l false) refl ev
         by (Own k) e ev = wrong_now ev
         by Nowhere e ev = wrong_now ev
@@ -284,7 +286,7 @@ module _ (p : Linked) (obj : HasObject p.image) (s : World) (ats : ℕ → Point
     unlocks_now code ask.Finish q ev x = wrong_now ev
 
     by_its_callee : (w : Called) → called_of (slice_get m.code c.core.place) ≡ w →
-        Takes (moment p s i) r (ask_of m c None) t o → Result p s ats h i t o
+        Takes (moment p s i) r (ask_of m c None) t o → Result p s ats h i 0 t o
     by_its_callee ToLock e x = locks_now (callee_lock (slice_get m.code c.core.place) e) (ask_of m c None) refl
         (event_is ToLock e) x
     by_its_callee ToUnlock e x = unlocks_now (callee_unlock (slice_get m.code c.core.place) e) (ask_of m c None) refl
@@ -292,7 +294,7 @@ module _ (p : Linked) (obj : HasObject p.image) (s : World) (ats : ℕ → Point
     by_its_callee Other e x = goes_by (ask_of m c None) refl (event_is Other e) x
 
   pub outside : ats i ≡ Outside (Some c) → (t : World) (o : Option RunLabel) →
-      Takes (moment p s i) r (ask_of m c None) t o → Result p s ats h i t o
+      Takes (moment p s i) r (ask_of m c None) t o → Result p s ats h i (in_object c) t o
   outside here t o x = elim (lt_or_not c.core.place 8) [
     | inl q ↦ inr
         (record {
@@ -301,7 +303,8 @@ module _ (p : Linked) (obj : HasObject p.image) (s : World) (ats : ℕ → Point
           wrong = ap
               (λ (b : Bool). if b then Wrong else event_for m c (called_of (slice_get m.code c.core.place))) q.0;
         })
-    | inr q ↦ by_its_callee here q.0 q.1 t o (called_of (slice_get m.code c.core.place)) refl x
+    | inr q ↦ subst (λ (b : Bool). Result p s ats h i (if b then 1 else 0) t o) (sym q.0)
+        (by_its_callee here q.0 q.1 t o (called_of (slice_get m.code c.core.place)) refl x)
   ]
 
   -- the event at this place, by what the processor asks for
@@ -343,13 +346,13 @@ module _ (p : Linked) (obj : HasObject p.image) (s : World) (ats : ℕ → Point
 
   module _ (here : ats i ≡ Outside (Some c)) where
     ends_with : (why : End) → tso.MayEnd (setup p) s.memory (lifted (ats i) r) why →
-        Result p s ats h i (world s.memory s.output (put i (core c r.buffer why r.executed) s.threads)) None
+        Result p s ats h i 0 (world s.memory s.output (put i (core c r.buffer why r.executed) s.threads)) None
     ends_with why e =
-        finish p s ats h i s.memory s.output (Outside (Some c)) (core c r.buffer why r.executed)
+        finish p s ats h i 0 s.memory s.output (Outside (Some c)) (core c r.buffer why r.executed)
         (tso.thread (ats i) r.buffer why r.executed) _ None None refl refl
-        (ap (λ (v : Point Program). tso.thread v r.buffer why r.executed) here) (tso.stops why e, live) refl (h.rooms i)
+        (ap (λ (v : Point Program). tso.thread v r.buffer why r.executed) here) (tso.stops why e, live, refl) refl (h.rooms i)
 
-    ends_wrong : event_at m c ≡ Wrong → (t : World) (o : Option RunLabel) → Result p s ats h i t o
+    ends_wrong : event_at m c ≡ Wrong → (t : World) (o : Option RunLabel) → Result p s ats h i 0 t o
     ends_wrong ev t o = inr (record { at = Some c; outside = here; wrong = ev })
 
     -- an end by an operand that isn't loaded, or by one that is
@@ -357,7 +360,7 @@ module _ (p : Linked) (obj : HasObject p.image) (s : World) (ats : ℕ → Point
         ((a : Ask) → IsSuch a → (a ≡ ask.Plain → ⊥) × (event_by m c a ≡ event) × ((v : ℕ) → after_load m c v a ≡ after))
         → (tso.WouldBe (setup p) s.memory (lifted (ats i) r) event after →
         tso.MayEnd (setup p) s.memory (lifted (ats i) r) why) → WouldAsk m s.memory r IsSuch
-        → Result p s ats h i (world s.memory s.output (put i (core c r.buffer why r.executed) s.threads)) None
+        → Result p s ats h i 0 (world s.memory s.output (put i (core c r.buffer why r.executed) s.threads)) None
     ends_by why IsSuch event after is may (outright a q such) = elim (event_asked a q (is a such).0) [
       | inl ev ↦ ends_wrong ev _ None
       | inr ev ↦ ends_with why (may (tso.outright (Some c) here (ev ∙ (is a such).1)))
@@ -370,7 +373,7 @@ module _ (p : Linked) (obj : HasObject p.image) (s : World) (ats : ℕ → Point
               (ap (after_load m c (view r.buffer s.memory k)) g ∙ (is a such).2 (view r.buffer s.memory k))))
         ]
 
-    stack_is : (a : Ask) → IsStack a → (a ≡ ask.Plain → ⊥) × (event_by m c a ≡ Stuck)
+    stack_is : (a : Ask) → IsStack a → (a ≡ ask.Plain → ⊥) × (event_by m c a ≡ NoRoom)
         × ((v : ℕ) → after_load m c v a ≡ Halts)
     stack_is ask.Stack h = (λ e. absurd (cc e), refl, λ v. refl)
     stack_is ask.Plain h = absurd h
@@ -393,7 +396,7 @@ module _ (p : Linked) (obj : HasObject p.image) (s : World) (ats : ℕ → Point
     bad_is ask.Stack h = absurd h
 
     outs_end : (a : Ask) → ask_of m c None ≡ a → IsOut a →
-        Result p s ats h i (world s.memory s.output (put i (core c r.buffer OutOfOuts r.executed) s.threads)) None
+        Result p s ats h i 0 (world s.memory s.output (put i (core c r.buffer OutOfOuts r.executed) s.threads)) None
     outs_end (ask.Out v) q such = elim (event_asked (ask.Out v) q (λ e. absurd (cc e))) [
       | inl ev ↦ ends_wrong ev _ None
       | inr ev ↦ ends_with OutOfOuts (Some c, v, Some (stepped m c 0), here, ev)
@@ -406,11 +409,11 @@ module _ (p : Linked) (obj : HasObject p.image) (s : World) (ats : ℕ → Point
     outs_end ask.Stack q such = absurd such
     outs_end (ask.Bad why) q such = absurd such
 
-    pub ends : (why : End) → MayEnd p s r why → Result p s ats h i
+    pub ends : (why : End) → MayEnd p s r why → Result p s ats h i 0
         (world s.memory s.output (put i (core c r.buffer why r.executed) s.threads)) None
     ends Running e = absurd e
     ends IsDone e = absurd e
     ends OutOfFuel e = ends_with OutOfFuel tt
-    ends IsFull e = ends_by IsFull IsStack Stuck Halts stack_is (λ z. z) e
+    ends IsFull e = ends_by IsFull IsStack NoRoom Halts stack_is (λ z. z) e
     ends HasFailed e = ends_by HasFailed IsBad Wrong Fails bad_is (λ z. z) e
     ends OutOfOuts e = outs_end e.0 e.1 e.2

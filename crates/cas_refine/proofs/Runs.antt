@@ -1,6 +1,6 @@
 -- Along a run, and the theorem: a run of the x86-TSO machine is one of processors as tables, for which the lock object
 -- is sound.
-use Rattle.std.proofs.Common.{◌≡◌, ℕ, zero, suc, ◌+◌, ◌<◌, ◌≤◌, List, [], ◌∷◌, length, Option, Some, slice_get, sym, refl, ap, ◌∙◌, subst, inl, inr, ◌⊎◌, arith, length-set}
+use Rattle.std.proofs.Common.{◌≡◌, ℕ, zero, suc, ◌+◌, ◌*◌, ◌<◌, ◌≤◌, List, [], ◌∷◌, length, Option, Some, slice_get, sym, refl, ap, ◌∙◌, subst, inl, inr, ◌⊎◌, arith, length-set}
 use Rattle.std.specs.Prelude.{slice_set}
 use Rattle.std.proofs.lemmas.Option.{slice_get_within}
 use Rattle.cas_tso.specs.State.{Setup, State, Thread}
@@ -8,15 +8,19 @@ use Rattle.cas_tso.specs.Step as step
 use Rattle.cas_tso.specs.Step.{Act, Step, Takes, after}
 use Rattle.cas_tso.specs.Run.{Run, at_start, and_step, start_state, first_thread, threads_from}
 use Rattle.cas_atomic.specs.Buffer.{put}
-use Rattle.cas_atomic.specs.Sound.{Unknown}
+use Rattle.cas_atomic.specs.Atomic.{act}
+use Rattle.cas_atomic.specs.Sound.{Unknown, Waits}
+use Rattle.cas_atomic.proofs.Basic.{same_or_not, put_here, put_else}
+use Rattle.cas_runs.specs.Legal.{projection}
 use Rattle.cas_refine.specs.Machine as table
-use Rattle.cas_refine.specs.Machine.{World, Linked}
+use Rattle.cas_refine.specs.Machine.{World, Linked, setup}
 use Rattle.cas_refine.specs.Sound as sound
 use Rattle.cas_refine.specs.Sound.{IsBadNow}
-use Rattle.cas_refine.specs.Listing.{IsLinked, HasRoom, linked, tables, outside_after, outside_of, label_of, labels_of, IsBadBefore, IsSoundLock}
+use Rattle.cas_runs.specs.Edge.{Edge}
+use Rattle.cas_refine.specs.Listing.{IsLinked, HasRoom, linked, tables, outside_after, outside_of, inside_at, inside_of, label_of, labels_of, IsBadBefore, IsSoundLock}
 use Rattle.cas_refine.proofs.Landing.{bottom_stays}
 use Rattle.cas_refine.proofs.Opening.{opens_alike, stacks_fit, stack_high}
-use Rattle.cas_refine.proofs.Tables.{acts}
+use Rattle.cas_refine.proofs.Tables.{Does, acts}
 use Rattle.cas_refine.proofs.Whole.{sound_on}
 
 -- an entry of a list with one set is the new one or an old one
@@ -28,9 +32,9 @@ set_entry (x ∷ xs) zero (suc j) y z e = inr e
 set_entry (x ∷ xs) (suc i) zero y z e = inr e
 set_entry (x ∷ xs) (suc i) (suc j) y z e = set_entry xs i j y z e
 
-module _ (p : Setup) where
+module _ (edge : Edge) (p : Setup) where
   abbrev P : Linked
-  P = linked p
+  P = linked edge p
 
   -- there is a thread for each entry, and each stack is above the shared words
   record IsPlaced (s : State) : Type 0 where
@@ -87,50 +91,77 @@ module _ (p : Setup) where
 
   -- the run as tables, and what a Bad step in it means
   record IsTabled {steps : List (ℕ × Act)} {s : State} (r : Run p steps s) : Type 0 where
-    run : table.Run P (tables p s (outside_of r)) (labels_of r)
-    earlier : (u : Unknown) → sound.IsBadEarlier u run → IsBadBefore u r
+    run : table.Run P (tables p s (outside_of r)) (labels_of edge r)
+    inside : (j : ℕ) → table.inside_of run j ≡ inside_of r j
+    earlier : (u : Unknown) → sound.IsBadEarlier u run → IsBadBefore edge u r
 
   Opened : World → Type 0
-  Opened v = (run : table.Run P v []) × ((u : Unknown) → sound.IsBadEarlier u run → IsBadNow P u v [])
+  Opened v = (run : table.Run P v [])
+      × ((u : Unknown) → sound.IsBadEarlier u run → IsBadNow P u v [])
+      × ((j : ℕ) → table.inside_of run j ≡ 0)
 
-  module _ (l : IsLinked p.image) (room : HasRoom p) where
+  module _ (l : IsLinked p.image edge) (room : HasRoom p) where
     opened : Opened (tables p (start_state p) (λ j. 0))
     unfolding Opened
-    opened = subst (λ (v : World). Opened v) (opens_alike p l) (table.opens, λ u b. b)
+    opened = subst (λ (v : World). Opened v) (opens_alike edge p l) (table.opens, λ u b. b, λ j. refl)
 
     step_tabled : (s : State) (n : ℕ → ℕ) (i : ℕ) (a : Act) (t : State) → IsPlaced s → Step p s i a t →
-        table.Step P (tables p s n) i (tables p t (put i (outside_after (slice_get s.threads i) a (n i)) n))
-        (label_of p s (slice_get s.threads i) a)
+        Does edge p (tables p s n) i (inside_at (slice_get s.threads i) a)
+        (tables p t (put i (outside_after (slice_get s.threads i) a (n i)) n))
+        (label_of edge p s (slice_get s.threads i) a)
     step_tabled s n i a t h x =
         let c = x.0 in
         let d = x.1 in
-        subst (λ (z : State). table.Step P (tables p s n) i
+        subst (λ (z : State). Does edge p (tables p s n) i (inside_at (slice_get s.threads i) a)
         (tables p z (put i (outside_after (slice_get s.threads i) a (n i)) n))
-        (label_of p s (slice_get s.threads i) a))
+        (label_of edge p s (slice_get s.threads i) a))
         (sym x.5)
-        (subst (λ (o : Option Thread). table.Step P (tables p s n) i
-        (tables p (after i a d s) (put i (outside_after o a (n i)) n)) (label_of p s o a)) (sym x.2)
-        (acts p s n i c x.2 room.words (h.high i c x.2) a d x.3 x.4))
+        (subst (λ (o : Option Thread). Does edge p (tables p s n) i (inside_at o a)
+        (tables p (after i a d s) (put i (outside_after o a (n i)) n)) (label_of edge p s o a)) (sym x.2)
+        (acts edge p s n i c x.2 room.words (h.high i c x.2) a d x.3 x.4))
 
     tabled : {steps : List (ℕ × Act)} {s : State} (r : Run p steps s) → IsTabled r
     unfolding Opened
-    tabled at_start = record { run = opened.0; earlier = λ u b. opened.1 u b }
+    tabled at_start = record { run = opened.0; inside = λ j. opened.2 j; earlier = λ u b. opened.1 u b }
     tabled (and_step {s = s} r i a t x) =
         let k = tabled r in
         let h = placed r in
         let count = h.count in
         let within = slice_get_within s.threads i x.0 x.2 in
         let below : i < length p.image.entries = omega arith in
+        let does = step_tabled s (outside_of r) i a t h x in
+        let more = inside_at (slice_get s.threads i) a in
         record {
           run = table.and_then i
               (tables p t (put i (outside_after (slice_get s.threads i) a (outside_of r i)) (outside_of r)))
-              (label_of p s (slice_get s.threads i) a) k.run below (step_tabled s (outside_of r) i a t h x);
+              (label_of edge p s (slice_get s.threads i) a) k.run below does.0;
+          inside = λ j. elim (same_or_not j i) [
+            | inl q ↦
+                put_here i (table.inside_of k.run i + table.one_inside does.0) (table.inside_of k.run) j q
+                ∙ (let a = k.inside i in let b = does.1 in omega arith)
+                ∙ sym (put_here i (inside_of r i + more) (inside_of r) j q)
+            | inr d ↦
+                put_else i (table.inside_of k.run i + table.one_inside does.0) (table.inside_of k.run) j d
+                ∙ k.inside j ∙ sym (put_else i (inside_of r i + more) (inside_of r) j d)
+          ];
           earlier = λ u b. elim b [ inl e ↦ inl (k.earlier u e) | inr e ↦ inr e ];
         }
 
 pub lock_is_sound : (p : Setup) → IsSoundLock p
-lock_is_sound p l room steps s r =
-    let k = tabled p l room r in
-    let both = sound_on (linked p) l.object (stacks_fit p room) l.guards room.threads (tables p s (outside_of r))
-    (labels_of r) k.run in
-    (both.0, elim both.1 [ inl e ↦ inl e | inr b ↦ inr (k.earlier both.0 b) ])
+lock_is_sound p edge l room steps s r =
+    let k = tabled edge p l room r in
+    let both = sound_on (linked edge p) l.object (stacks_fit edge p room) l.guards room.threads
+    (tables p s (outside_of r))
+    (labels_of edge r) k.run in
+    let u = both.0 in (
+      u,
+      elim both.1 [
+        | inl e ↦ inl (record {
+          labels = e.labels;
+          alone = λ one.
+              subst (λ (m : ℕ). Waits (act (setup (linked edge p)) (u 0) (e.labels.explains.follows 0).to.at)
+              ⊎ (m ≤ 3 * (length (projection 0 (labels_of edge r)) + 1))) (k.inside 0) (e.alone one);
+        })
+        | inr b ↦ inr (k.earlier u b)
+      ],
+    )

@@ -18,14 +18,14 @@ use Rattle.cas_tso.specs.declared.pending.Pending.{Pending}
 use Rattle.cas_tso.proofs.Asking.{asks_follow}
 use Rattle.cas_atomic.specs.Buffer as buffer
 use Rattle.cas_atomic.specs.Buffer.{Store, store, view, seen, or_else, put}
-use Rattle.cas_atomic.specs.Label.{RunLabel, Done, Out, Lock}
+use Rattle.cas_runs.specs.Label.{RunLabel, Done, Out, Lock}
 use Rattle.cas_atomic.specs.Buffered as buffered
-use Rattle.cas_atomic.specs.Buffered.{listed}
 use Rattle.cas_atomic.specs.Leftover.{one_less}
 use Rattle.cas_atomic.proofs.Basic.{same_or_not, put_here, put_else}
 use Rattle.cas_refine.specs.Machine as table
-use Rattle.cas_refine.specs.Machine.{Core, core, World, world, Linked, moment, counted, goes, lock_listed, unlock_listed, outright, by_load}
-use Rattle.cas_refine.specs.Listing.{IsLinked, HasRoom, linked, word_of, store_of, end_of, core_of, core_in, tables, outside_after, outside_of, done_by, label_of, labels_of, IsBadBefore, IsSoundLock}
+use Rattle.cas_refine.specs.Machine.{in_object, Core, core, World, world, Linked, moment, counted, goes, lock_listed, unlock_listed, outright, by_load}
+use Rattle.cas_runs.specs.Edge.{Edge}
+use Rattle.cas_refine.specs.Listing.{IsLinked, HasRoom, linked, word_of, store_of, end_of, core_of, core_in, tables, outside_after, outside_of, inside_at, done_by, label_of, labels_of, IsBadBefore, IsSoundLock}
 use Rattle.cas_refine.proofs.Returning.{load_no_finish}
 
 -- Lists as tables.
@@ -68,9 +68,9 @@ fuel_runs : (b : Bool) → end_of (if b then Some end.Fuel else None) ≡ buffer
 fuel_runs true = refl
 fuel_runs false = refl
 
-module _ (p : Setup) where
+module _ (edge : Edge) (p : Setup) where
   abbrev P : Linked
-  P = linked p
+  P = linked edge p
 
   -- One thread changes.
 
@@ -87,6 +87,10 @@ module _ (p : Setup) where
         ∙ ap (λ (v : ℕ). core_in p j v (slice_get ts j)) (put_else i k n j a)
         ∙ sym (put_else i (core_of d k) (λ l. core_in p l (n l) (slice_get ts l)) j a)
   ]
+
+  -- a step of processors, with so many instructions of the lock object
+  abbrev pub Does : World → (thread inside : ℕ) → World → Option RunLabel → Type 0
+  Does w i m t o = (step : table.Step P w i t o) × (table.one_inside step ≡ m)
 
   module _ (s : State) (n : ℕ → ℕ) (i : ℕ) (c : Thread) (there : slice_get s.threads i ≡ Some c) where
     abbrev S : World
@@ -109,13 +113,21 @@ module _ (p : Setup) where
         (λ x. world (hm x) (ho x) (λ j. thread_set s.threads n i d k less j x))
         ∙ ap (λ (z : Core). world m o (put i z S.threads)) he
 
+    -- after an instruction
     abbrev Goal : (t : State) → (k : ℕ) → Option RunLabel → Type 0
-    Goal t k o = table.Step P S i (tables p t (put i k n)) o
+    Goal t k o = Does S i (in_object c.cpu) (tables p t (put i k n)) o
+
+    -- after a drain, or the end of the thread
+    abbrev Rests : State → Type 0
+    Rests t = Does S i 0 (tables p t (put i (n i) n)) None
 
     takes : (t : World) (o : Option RunLabel) → end_of c.ended ≡ buffered.Running →
-        table.Takes (moment P S i) r (ask_of p.image c.cpu None) t o → table.Step P S i t o
-    takes t o live x = table.takes t o (ap (λ (z : Core). z.ended) here ∙ live)
-        (subst (λ (z : Core). table.Takes (moment P S i) z (ask_of p.image z.cpu None) t o) (sym here) x)
+        table.Takes (moment P S i) r (ask_of p.image c.cpu None) t o → Does S i (in_object c.cpu) t o
+    takes t o live x = (
+      table.takes t o (ap (λ (z : Core). z.ended) here ∙ live)
+          (subst (λ (z : Core). table.Takes (moment P S i) z (ask_of p.image z.cpu None) t o) (sym here) x),
+      ap (λ (z : Core). in_object z.cpu) here,
+    )
 
     runs : IsRunning c → end_of c.ended ≡ buffered.Running
     runs live = ap end_of live
@@ -181,7 +193,8 @@ module _ (p : Setup) where
         takes _ None (runs live)
         (subst (λ (q : Ask). table.Takes (moment P S i) r q (tables p (after i a d s) (put i k n)) None) (sym e) (
           ap (λ (w : ℕ). ask_of p.image c.cpu (Some w)) found ∙ g,
-          lands a d k (word_of s.memory) (reverse s.output) (stays_at (stepped p.image c.cpu v) c.buffer) (ap word_of hm)
+          lands a d k (word_of s.memory) (reverse s.output) (stays_at (stepped p.image c.cpu v) c.buffer)
+              (ap word_of hm)
               (ap reverse ho)
               (ap (λ (z : Cpu). core z (map store_of d.buffer) (end_of d.ended) k)
               (hc ∙ ap (stepped p.image c.cpu) (sym found))
@@ -215,16 +228,17 @@ module _ (p : Setup) where
 
     store_step : IsRunning c → (at value : ℕ) → asks p c None ≡ ask.Store at value →
         Goal (after i (step.stored at value) (after_store p c at value) s) k
-        (label_of p s (Some c) (step.stored at value))
+        (label_of edge p s (Some c) (step.stored at value))
     store_step live at value e =
         let d = after_store p c at value in
         let x : Pending = record { at = at; value = value; entered = c.counts.executed + 1 } in
         takes _ _ (runs live)
         (subst (λ (q : Ask). table.Takes (moment P S i) r q
-        (tables p (after i (step.stored at value) d s) (put i k n)) (label_of p s (Some c) (step.stored at value)))
+        (tables p (after i (step.stored at value) d s) (put i k n)) (label_of edge p s (Some c) (step.stored at value)))
         (sym e) (
           lands (step.stored at value) d k (word_of s.memory) (reverse s.output)
-              (core (stepped p.image c.cpu 0) (map store_of c.buffer ++ store at value ∷ []) (end_of c.ended) k) refl refl
+              (core (stepped p.image c.cpu 0) (map store_of c.buffer ++ store at value ∷ []) (end_of c.ended) k)
+              refl refl
               (ap (λ (z : List Store). core (stepped p.image c.cpu 0) z (end_of d.ended) k)
               (map-append store_of c.buffer (x ∷ []))
               ∙ ap (λ (z : buffered.End). core (stepped p.image c.cpu 0) (map store_of c.buffer ++ store at value ∷ [])
@@ -237,11 +251,11 @@ module _ (p : Setup) where
     decrement_step : IsRunning c → (at word : ℕ) → asks p c None ≡ ask.LockedDec at → c.buffer ≡ [] →
         slice_get s.memory at ≡ Some word →
         Goal (after i (step.decremented at word) (after_decrement p c word) s) k
-        (label_of p s (Some c) (step.decremented at word))
+        (label_of edge p s (Some c) (step.decremented at word))
     decrement_step live at word e empty found =
         let d = after_decrement p c word in
         let w : word_of s.memory at ≡ word = get_or_from_slice_get s.memory at word 0 found in
-        let label = label_of p s (Some c) (step.decremented at word) in
+        let label = label_of edge p s (Some c) (step.decremented at word) in
         takes _ _ (runs live)
         (subst (λ (q : Ask). table.Takes (moment P S i) r q
         (tables p (after i (step.decremented at word) d s) (put i k n)) label) (sym e) (
@@ -252,11 +266,12 @@ module _ (p : Setup) where
               (memory_set s.memory at (one_less word) (slice_get_within s.memory at word found)
               ∙ ap (λ (v : ℕ). put at (one_less v) (word_of s.memory)) (sym w)) refl
               (ap (λ (v : ℕ). core (stepped p.image c.cpu v) (map store_of c.buffer) (end_of d.ended) k) (sym w)
-              ∙ ap (λ (z : buffered.End). core (stepped p.image c.cpu (word_of s.memory at)) (map store_of c.buffer) z k)
+              ∙ ap (λ (z : buffered.End). core (stepped p.image c.cpu (word_of s.memory at)) (map store_of c.buffer)
+              z k)
               (ap (λ (q : Ask). end_of (end_after p.options q (c.counts.executed + 1))) e
               ∙ unfinished live (ask.LockedDec at) (c.counts.executed + 1) (λ q. absurd (cc q)))),
           ap (λ (v : ℕ). lock_listed c.cpu.core.place (one_less v)
-              (Lock at (Rattle.cas_refine.specs.Listing.memory_under p s at))) (sym w),
+              (Lock at (Rattle.cas_refine.specs.Listing.memory_under edge s at))) (sym w),
         ))
 
     out_step : IsRunning c → (ticket word : ℕ) → asks p c None ≡ ask.Out word →
@@ -277,25 +292,27 @@ module _ (p : Setup) where
 
     drain_step : (at value entered : ℕ) (rest : List Pending) →
         c.buffer ≡ record { at = at; value = value; entered = entered } ∷ rest → at < length s.memory →
-        Goal (after i (step.drained at value) (after_drain c rest) s) (n i) None
+        Rests (after i (step.drained at value) (after_drain c rest) s)
     drain_step at value entered rest e within =
-        subst (λ (z : World). table.Step P S i z None)
+        subst (λ (z : World). Does S i 0 z None)
         (sym (lands (step.drained at value) (after_drain c rest) (n i) (put at value (word_of s.memory))
         (reverse s.output)
         (core (S.threads i).cpu (map store_of rest) (S.threads i).ended (S.threads i).executed)
         (memory_set s.memory at value within) refl
         (ap (λ (z : Core). core z.cpu (map store_of rest) z.ended z.executed) (sym here))))
-        (table.drains at value (map store_of rest) (ap (λ (z : Core). z.buffer) here ∙ ap (map store_of) e))
+        (table.drains at value (map store_of rest) (ap (λ (z : Core). z.buffer) here ∙ ap (map store_of) e), refl)
 
     stop_step : IsRunning c → (read : Read) (e : End) → table.MayEnd P S r (end_of (Some e)) →
-        Goal (after i (step.stopped read e) (after_stop c e) s) (n i) None
+        Rests (after i (step.stopped read e) (after_stop c e) s)
     stop_step live read e may =
-        subst (λ (z : World). table.Step P S i z None)
+        subst (λ (z : World). Does S i 0 z None)
         (sym (lands (step.stopped read e) (after_stop c e) (n i) (word_of s.memory) (reverse s.output)
         (core (S.threads i).cpu (S.threads i).buffer (end_of (Some e)) (S.threads i).executed) refl refl
-        (ap (λ (z : Core). core z.cpu z.buffer (end_of (Some e)) z.executed) (sym here))))
-        (table.stops (end_of (Some e)) (ap (λ (z : Core). z.ended) here ∙ runs live)
-        (subst (λ (z : Core). table.MayEnd P S z (end_of (Some e))) (sym here) may))
+        (ap (λ (z : Core). core z.cpu z.buffer (end_of (Some e)) z.executed) (sym here)))) (
+          table.stops (end_of (Some e)) (ap (λ (z : Core). z.ended) here ∙ runs live)
+              (subst (λ (z : Core). table.MayEnd P S z (end_of (Some e))) (sym here) may),
+          refl,
+        )
 
     -- an end at an instruction that loads nothing
     may_end : (e : End) (a : Ask) → asks p c None ≡ a → stop_of p.options c a ≡ Some e →
@@ -347,7 +364,8 @@ module _ (p : Setup) where
       loads_plainly at word e x = is_plain (asks p c (Some word)) x (load_no_finish p.image c.cpu few high at word e)
 
       pub acts : (a : Act) (d : Thread) → Takes p c a d → Agrees a s.memory s.output →
-          Goal (after i a d s) (outside_after (Some c) a (n i)) (label_of p s (Some c) a)
+          Does S i (inside_at (Some c) a) (tables p (after i a d s) (put i (outside_after (Some c) a (n i)) n))
+          (label_of edge p s (Some c) a)
       acts step.plain d x y = subst (λ (z : Thread). Goal (after i step.plain z s) k (done_by (asks p c None)))
           (sym x.2)
           (plain_step x.0 (asks p c None) refl x.1)
@@ -361,26 +379,26 @@ module _ (p : Setup) where
           (loaded_view at word x.2 y) refl refl refl refl refl)
       acts (step.stored at value) d x y =
           subst (λ (z : Thread). Goal (after i (step.stored at value) z s) k
-          (label_of p s (Some c) (step.stored at value))) (sym x.3)
+          (label_of edge p s (Some c) (step.stored at value))) (sym x.3)
           (store_step x.0 at value x.1)
-      acts (step.drained at value) d x y = subst (λ (z : Thread). Goal (after i (step.drained at value) z s) (n i) None)
+      acts (step.drained at value) d x y = subst (λ (z : Thread). Rests (after i (step.drained at value) z s))
           (sym x.3)
           (drain_step at value x.0 x.1 x.2 y)
       acts (step.decremented at word) d x y =
           subst (λ (z : Thread). Goal (after i (step.decremented at word) z s) k
-          (label_of p s (Some c) (step.decremented at word))) (sym x.3)
+          (label_of edge p s (Some c) (step.decremented at word))) (sym x.3)
           (decrement_step x.0 at word x.1 x.2 y)
       acts (step.printed ticket word) d x y =
           subst (λ (z : Thread). Goal (after i (step.printed ticket word) z s) k (Some (Out word))) (sym x.3)
           (out_step x.0 ticket word x.1)
       acts (step.stopped step.unread e) d x y =
-          subst (λ (z : Thread). Goal (after i (step.stopped step.unread e) z s) (n i) None) (sym x.2)
+          subst (λ (z : Thread). Rests (after i (step.stopped step.unread e) z s)) (sym x.2)
           (stop_step x.0 step.unread e (may_end e (asks p c None) refl x.1))
       acts (step.stopped (step.from_buffer at word) e) d x y =
-          subst (λ (z : Thread). Goal (after i (step.stopped (step.from_buffer at word) e) z s) (n i) None) (sym x.2)
+          subst (λ (z : Thread). Rests (after i (step.stopped (step.from_buffer at word) e) z s)) (sym x.2)
           (stop_step x.0 (step.from_buffer at word) e (may_end_by e at word x.1.0 (forwarded_view at word x.1.1)
           (asks p c (Some word)) refl (settles at word x.1.0) x.1.2))
       acts (step.stopped (step.from_memory at word) e) d x y =
-          subst (λ (z : Thread). Goal (after i (step.stopped (step.from_memory at word) e) z s) (n i) None) (sym x.2)
+          subst (λ (z : Thread). Rests (after i (step.stopped (step.from_memory at word) e) z s)) (sym x.2)
           (stop_step x.0 (step.from_memory at word) e (may_end_by e at word x.1.0 (loaded_view at word x.1.1 y)
           (asks p c (Some word)) refl (settles at word x.1.0) x.1.2))

@@ -15,7 +15,7 @@ use Rattle.cas_asm.specs.Links.{in_image}
 use Rattle.cas_asm.specs.Effect.{callee_place}
 use Rattle.cas_asm.specs.Ask.{ask_of, stepped, spot_of}
 use Rattle.cas_atomic.specs.Leftover.{Leftover}
-use Rattle.cas_atomic.specs.Atomic.{Event, Plain, Load, Store, Decrement, CallLock, CallUnlock, Prints, Ends, Stuck, Wrong, After, Goes, Fails, Halts}
+use Rattle.cas_atomic.specs.Program.{Event, Plain, Load, Store, Decrement, CallLock, CallUnlock, Prints, Ends, Over, NoRoom, Wrong, After, Goes, Fails, Halts}
 use Rattle.cas_refine.specs.Object.{at_eax}
 
 -- what a call of the lock object leaves unknown
@@ -71,7 +71,7 @@ event_by m c (ask.Store k v) = Store k v (Some (stepped m c 0))
 event_by m c (ask.LockedDec k) = Decrement k (λ v. Some (stepped m c v))
 event_by m c (ask.Out v) = Prints v (Some (stepped m c 0))
 event_by m c ask.Finish = Ends None
-event_by m c ask.Stack = Stuck
+event_by m c ask.Stack = NoRoom
 event_by m c (ask.Bad why) = Wrong
 
 abbrev pub if_changing : Bool → Event Program → Event Program
@@ -90,12 +90,12 @@ unlocks_at m c Nowhere = Wrong
 
 abbrev pub locks_by : Image → State → Ask → Event Program
 locks_by m c ask.Plain = locks_at m c (spot_of m c (address c.core.regs at_eax))
-locks_by m c ask.Stack = Stuck
+locks_by m c ask.Stack = NoRoom
 locks_by m c _ = Wrong
 
 abbrev pub unlocks_by : Image → State → Ask → Event Program
 unlocks_by m c ask.Plain = unlocks_at m c (spot_of m c (address c.core.regs at_eax))
-unlocks_by m c ask.Stack = Stuck
+unlocks_by m c ask.Stack = NoRoom
 unlocks_by m c _ = Wrong
 
 abbrev pub event_for : Image → State → Called → Event Program
@@ -110,4 +110,4 @@ event_at m c = if nat_lt c.core.place 8 then Wrong else event_for m c (called_of
 -- a program that is over has no step
 abbrev pub event_of : Image → Program → Event Program
 event_of m (Some c) = event_at m c
-event_of m None = Stuck
+event_of m None = Over

@@ -1,7 +1,6 @@
 -- The labels that are listed along a run of the x86-TSO machine, how many instructions each thread executed outside the
--- lock
--- object, and the run's state as threads beside the lock object have it.
-use Rattle.std.specs.Prelude.{◌≡◌, ℕ, ◌+◌, ◌<◌, ◌≤◌, Bool, true, false, nat_eq, nat_lt, List, [], ◌∷◌, length, reverse, map, Option, Some, None, slice_get, slice_index_or, ◌⊎◌, if◌then◌else◌}
+-- lock object, and the run's state as threads beside the lock object have it.
+use Rattle.std.specs.Prelude.{⊤, ◌≡◌, ℕ, ◌+◌, ◌*◌, ◌<◌, ◌≤◌, Bool, true, false, nat_eq, nat_lt, List, [], ◌∷◌, length, reverse, map, Option, Some, None, slice_get, slice_index_or, ◌⊎◌, if◌then◌else◌}
 use Rattle.std.specs.List.{list_any}
 use Rattle.std.proofs.Math.ListN.{get_or}
 use Rattle.cas_base.specs.Word.{word_sub}
@@ -18,37 +17,41 @@ use Rattle.cas_tso.specs.declared.end.End.{End}
 use Rattle.cas_tso.specs.declared.end.End.TheVariants as end
 use Rattle.cas_tso.specs.declared.pending.Pending.{Pending}
 use Rattle.cas_atomic.specs.Buffer.{Store, store, view, put}
-use Rattle.cas_atomic.specs.Label.{Cell, LockWord, SharedWord, TableWord, AreGuards, under, values, RunLabel, Lock, Unlock, Out, Done, ThreadLabel}
+use Rattle.cas_atomic.specs.Cells.{AreGuards, under, values}
+use Rattle.cas_atomic.specs.Labels.{listed}
+use Rattle.cas_atomic.specs.Atomic.{act}
+use Rattle.cas_atomic.specs.Sound.{Unknown, Waits}
+use Rattle.cas_runs.specs.Edge.{Edge, Cell, LockWord, SharedWord, TableWord}
+use Rattle.cas_runs.specs.Label.{RunLabel, Lock, Unlock, Out, Done}
+use Rattle.cas_runs.specs.Legal.{ThreadLabel, projection}
 use Rattle.cas_atomic.specs.Buffered as buffered
-use Rattle.cas_atomic.specs.Buffered.{listed}
-use Rattle.cas_atomic.specs.Sound.{Unknown}
 use Rattle.cas_refine.specs.Object.{HasObject}
-use Rattle.cas_refine.specs.Machine.{Core, core, World, world, Linked, counted, lock_listed, unlock_listed}
+use Rattle.cas_refine.specs.Machine.{Core, core, World, world, Linked, setup, counted, in_object, lock_listed, unlock_listed}
 use Rattle.cas_refine.specs.Sound.{AreExplained, IsBadNow}
 
 -- Images.
 
--- what a word of an image is
-abbrev pub cell_of : Image → (place word : ℕ) → Cell
-cell_of m k w =
-    if slice_index_or m.constant k false then TableWord w
-    else (if list_any (nat_eq k) m.locks then LockWord else SharedWord (slice_index_or m.guards k None) w)
+-- the image's word at this place, of this value, is such a cell
+abbrev pub IsCell : Image → (place word : ℕ) → Cell → Type 0
+IsCell m k w (TableWord value) = (slice_index_or m.constant k false ≡ true) × (value ≡ w)
+IsCell m k w LockWord =
+    (slice_index_or m.constant k false ≡ false) × (list_any (nat_eq k) m.locks ≡ true) × (w ≡ 1)
+IsCell m k w (SharedWord kind guard initial) =
+    (slice_index_or m.constant k false ≡ false) × (list_any (nat_eq k) m.locks ≡ false)
+    × (guard ≡ slice_index_or m.guards k None) × (initial ≡ w)
 
-abbrev pub cells_from : Image → (place : ℕ) → List ℕ → List Cell
-cells_from m k [] = []
-cells_from m k (w ∷ ws) = cell_of m k w ∷ cells_from m (k + 1) ws
+-- the words from this place on are these cells
+abbrev pub AreCells : Image → (place : ℕ) → List ℕ → List Cell → Type 0
+AreCells m k [] [] = ⊤
+AreCells m k (w ∷ ws) (c ∷ cs) = IsCell m k w c × AreCells m (k + 1) ws cs
+AreCells m k _ _ = ⊥
 
--- the words of an image, as cells
-abbrev pub cells_of : Image → List Cell
-cells_of m = cells_from m 0 m.words
-
--- the image is linked with the accepted body of the lock object: it stands first, each lock's word is 1 at first, and
--- each
--- guard is a lock
-pub record IsLinked (m : Image) : Type 0 where
+-- the image is linked with the accepted body of the lock object, which stands first; its words are the edge's; a lock's
+-- word is 1 at first, and each guard is a lock
+pub record IsLinked (m : Image) (edge : Edge) : Type 0 where
   pub object : HasObject m
-  pub locks : (k w : ℕ) → slice_get (cells_of m) k ≡ Some LockWord → slice_get m.words k ≡ Some w → w ≡ 1
-  pub guards : AreGuards (cells_of m)
+  pub words : AreCells m 0 m.words edge.cells
+  pub guards : AreGuards edge.cells
 
 -- the words are below the stacks, and the stacks end within words
 pub record HasRoom (p : Setup) : Type 0 where
@@ -60,9 +63,8 @@ pub record HasRoom (p : Setup) : Type 0 where
 abbrev pub first_cpu : Setup → (thread : ℕ) → Cpu
 first_cpu p i = start_of p.image (if nat_lt i (length p.image.entries) then i else 0) p.options.stack
 
-abbrev pub linked : Setup → Linked
-linked p =
-    record { image = p.image; cells = cells_of p.image; threads = length p.image.entries; first = first_cpu p }
+abbrev pub linked : Edge → Setup → Linked
+linked edge p = record { image = p.image; edge = edge; threads = length p.image.entries; first = first_cpu p }
 
 -- States.
 
@@ -111,27 +113,34 @@ done_by ask.Finish = Some Done
 done_by _ = None
 
 -- what a thread sees of the words under a lock, and what memory has of them
-abbrev pub seen_under : Setup → State → Thread → (lock : ℕ) → List ℕ
-seen_under p s c k = values (view (map store_of c.buffer) (word_of s.memory)) (under (cells_of p.image) 0 k)
+abbrev pub seen_under : Edge → State → Thread → (lock : ℕ) → List ℕ
+seen_under edge s c k = values (view (map store_of c.buffer) (word_of s.memory)) (under edge.cells 0 k)
 
-abbrev pub memory_under : Setup → State → (lock : ℕ) → List ℕ
-memory_under p s k = values (word_of s.memory) (under (cells_of p.image) 0 k)
+abbrev pub memory_under : Edge → State → (lock : ℕ) → List ℕ
+memory_under edge s k = values (word_of s.memory) (under edge.cells 0 k)
 
 -- what is listed as a thread acts: Lock at the locked decrement of place 0 that gives 0, Unlock as the store of place 6
 -- enters the buffer, Out at each output, Done at the outermost return
-abbrev pub label_of : Setup → State → Option Thread → Act → Option RunLabel
-label_of p s None a = None
-label_of p s (Some c) step.plain = done_by (asks p c None)
-label_of p s (Some c) (step.stored at value) = unlock_listed c.cpu.core.place (Unlock at (seen_under p s c at))
-label_of p s (Some c) (step.decremented at word) =
-    lock_listed c.cpu.core.place (word_sub word 1) (Lock at (memory_under p s at))
-label_of p s (Some c) (step.printed ticket word) = Some (Out word)
-label_of p s (Some c) _ = None
+abbrev pub label_of : Edge → Setup → State → Option Thread → Act → Option RunLabel
+label_of edge p s None a = None
+label_of edge p s (Some c) step.plain = done_by (asks p c None)
+label_of edge p s (Some c) (step.stored at value) =
+    unlock_listed c.cpu.core.place (Unlock at (seen_under edge s c at))
+label_of edge p s (Some c) (step.decremented at word) =
+    lock_listed c.cpu.core.place (word_sub word 1) (Lock at (memory_under edge s at))
+label_of edge p s (Some c) (step.printed ticket word) = Some (Out word)
+label_of edge p s (Some c) _ = None
+
+-- 1 for an instruction of the lock object
+abbrev pub inside_at : Option Thread → Act → ℕ
+inside_at None a = 0
+inside_at (Some c) a = if is_instruction a then in_object c.cpu else 0
 
 -- the labels of a run, the newest first
-abbrev pub labels_of : {p : Setup} {steps : List (ℕ × Act)} {s : State} → Run p steps s → List ThreadLabel
-labels_of at_start = []
-labels_of {p = p} (and_step {s = s} r i a t step) = listed i (label_of p s (slice_get s.threads i) a) (labels_of r)
+abbrev pub labels_of : {p : Setup} {steps : List (ℕ × Act)} {s : State} → Edge → Run p steps s → List ThreadLabel
+labels_of edge at_start = []
+labels_of {p = p} edge (and_step {s = s} r i a t step) =
+    listed i (label_of edge p s (slice_get s.threads i) a) (labels_of edge r)
 
 -- how many instructions each thread executed outside the lock object
 abbrev pub outside_of : {p : Setup} {steps : List (ℕ × Act)} {s : State} → Run p steps s → ℕ → ℕ
@@ -139,18 +148,33 @@ outside_of at_start = λ j. 0
 outside_of (and_step {s = s} r i a t step) =
     put i (outside_after (slice_get s.threads i) a (outside_of r i)) (outside_of r)
 
+-- and how many of the lock object
+abbrev pub inside_of : {p : Setup} {steps : List (ℕ × Act)} {s : State} → Run p steps s → ℕ → ℕ
+inside_of at_start = λ j. 0
+inside_of (and_step {s = s} r i a t step) =
+    put i (inside_of r i + inside_at (slice_get s.threads i) a) (inside_of r)
+
 -- Soundness.
 
 -- a first part of the run leads to a state where a thread's next step over atomic locks is Bad
-abbrev pub IsBadBefore : {p : Setup} {steps : List (ℕ × Act)} {s : State} → Unknown → Run p steps s → Type 0
-IsBadBefore {p = p} {s = s} u at_start = IsBadNow (linked p) u (tables p s (λ j. 0)) []
-IsBadBefore {p = p} {s = t} u (and_step r i a _ step) =
-    IsBadBefore u r
-    ⊎ IsBadNow (linked p) u (tables p t (outside_of (and_step r i a t step))) (labels_of (and_step r i a t step))
+abbrev pub IsBadBefore : {p : Setup} {steps : List (ℕ × Act)} {s : State} → Edge → Unknown → Run p steps s → Type 0
+IsBadBefore {p = p} {s = s} edge u at_start = IsBadNow (linked edge p) u (tables p s (λ j. 0)) []
+IsBadBefore {p = p} {s = t} edge u (and_step r i a _ step) =
+    IsBadBefore edge u r
+    ⊎ IsBadNow (linked edge p) u (tables p t (outside_of (and_step r i a t step)))
+    (labels_of edge (and_step r i a t step))
 
--- for some values of what the lock object leaves unknown, the labels explain the state of a run, or a first part of it
--- leads to
--- a state where a thread's next step over atomic locks is Bad
+-- the labels explain the state of a run; and one thread alone waits for a lock that it holds, or has executed at most
+-- three instructions of the lock object for each of its labels and for the next
+pub record IsExplained (edge : Edge) (u : Unknown) {p : Setup} {steps : List (ℕ × Act)} {s : State}
+    (r : Run p steps s) : Type 0 where
+  pub labels : AreExplained (linked edge p) u (tables p s (outside_of r)) (labels_of edge r)
+  pub alone : length p.image.entries ≡ 1 → Waits (act (setup (linked edge p)) (u 0) (labels.explains.follows 0).to.at)
+      ⊎ (inside_of r 0 ≤ 3 * (length (projection 0 (labels_of edge r)) + 1))
+
+-- for some values of what the lock object leaves unknown, the labels explain a run, or a first part of it leads to a
+-- state where a thread's next step over atomic locks is Bad
 abbrev pub IsSoundLock : Setup → Type 0
-IsSoundLock p = IsLinked p.image → HasRoom p → (steps : List (ℕ × Act)) (s : State) (r : Run p steps s) →
-    (u : Unknown) × (AreExplained (linked p) u (tables p s (outside_of r)) (labels_of r) ⊎ IsBadBefore u r)
+IsSoundLock p = (edge : Edge) → IsLinked p.image edge → HasRoom p →
+    (steps : List (ℕ × Act)) (s : State) (r : Run p steps s) →
+    (u : Unknown) × (IsExplained edge u r ⊎ IsBadBefore edge u r)

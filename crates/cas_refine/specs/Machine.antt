@@ -8,9 +8,14 @@ use Rattle.cas_asm.specs.Ask.{ask_of, stepped}
 use Rattle.cas_atomic.specs.Buffer.{Store, store, view, put}
 use Rattle.cas_atomic.specs.Leftover.{Leftover, one_less}
 use Rattle.cas_asm.specs.Flags.{cleared}
-use Rattle.cas_atomic.specs.Label.{Cell, first_words, under, values, RunLabel, Lock, Unlock, Out, Done, ThreadLabel}
-use Rattle.cas_atomic.specs.Atomic.{Setup}
-use Rattle.cas_atomic.specs.Buffered.{End, Running, IsDone, OutOfFuel, IsFull, HasFailed, OutOfOuts, listed, if_zero}
+use Rattle.cas_atomic.specs.Buffered.{End, Running, IsDone, OutOfFuel, IsFull, HasFailed, OutOfOuts, if_zero}
+use Rattle.cas_atomic.specs.Cells.{first_words, under, values}
+use Rattle.cas_atomic.specs.Labels.{listed}
+use Rattle.cas_atomic.specs.Object.{accepted}
+use Rattle.cas_atomic.specs.Program.{Setup}
+use Rattle.cas_runs.specs.Edge.{Edge}
+use Rattle.cas_runs.specs.Label.{RunLabel, Lock, Unlock, Out, Done}
+use Rattle.cas_runs.specs.Legal.{ThreadLabel}
 use Rattle.cas_refine.specs.Cpu.{Program, unfixed, event_of}
 
 pub record Core : Type 0 where
@@ -33,7 +38,7 @@ world m o ts = record { memory = m; output = o; threads = ts }
 -- an image that is linked with its words, and where each thread begins
 pub record Linked : Type 0 where
   pub image : Image
-  pub cells : List Cell
+  pub edge : Edge
   pub threads : ℕ
   pub first : ℕ → State
 
@@ -44,16 +49,16 @@ entry_flags m (Some c) = let d = stepped m c 0 in unfixed d.core.flags d.stack
 abbrev pub setup : Linked → Setup Program
 setup p =
     record {
-      cells = p.cells;
+      edge = p.edge;
       threads = p.threads;
       first = λ i. Some (p.first i);
       flags = entry_flags p.image;
-      next =
-          event_of p.image;
+      next = event_of p.image;
+      object = accepted;
     }
 
 abbrev pub opening : Linked → World
-opening p = world (first_words p.cells) [] (λ i. core (p.first i) [] Running 0)
+opening p = world (first_words p.edge.cells) [] (λ i. core (p.first i) [] Running 0)
 
 -- instructions of the lock object aren't counted
 abbrev pub counted : State → ℕ → ℕ
@@ -88,7 +93,7 @@ executed w c v = stepped w.linked.image c.cpu v
 
 -- the words under a lock, where words are these
 abbrev pub guarded : Moment → (lock : ℕ) → (ℕ → ℕ) → List ℕ
-guarded w k words = values words (under w.linked.cells 0 k)
+guarded w k words = values words (under w.linked.edge.cells 0 k)
 
 -- what the thread does where its next instruction asks for this, and what is listed
 abbrev pub Takes : Moment → Core → Ask → World → Option RunLabel → Type 0
@@ -156,6 +161,19 @@ pub data Run (p : Linked) : World → List ThreadLabel → Type 0 where
   opens : Run p (opening p) []
   and_then : {s : World} {ls : List ThreadLabel} (i : ℕ) (t : World) (o : Option RunLabel) → Run p s ls →
       i < p.threads → Step p s i t o → Run p t (listed i o ls)
+
+-- 1 for an instruction of the lock object
+abbrev pub in_object : State → ℕ
+in_object c = if nat_lt c.core.place 8 then 1 else 0
+
+abbrev pub one_inside : {p : Linked} {s : World} {i : ℕ} {t : World} {o : Option RunLabel} → Step p s i t o → ℕ
+one_inside {s = s} {i = i} (takes t o live x) = in_object (s.threads i).cpu
+one_inside _ = 0
+
+-- how many instructions of the lock object each thread has executed
+abbrev pub inside_of : {p : Linked} {s : World} {ls : List ThreadLabel} → Run p s ls → ℕ → ℕ
+inside_of opens = λ j. 0
+inside_of (and_then i t o r below step) = put i (inside_of r i + one_inside step) (inside_of r)
 
 -- where the threads begin: outside the lock object, with a stack that ends within words
 pub record Begins (p : Linked) : Type 0 where

@@ -1,8 +1,8 @@
 //! From the x86-TSO machine to threads over atomic locks: the lock object is sound.
 //!
-//! An image begins with the eight instructions of the lock object. Each run of the machine on it has labels: Lock at the
-//! locked decrement that gives 0, Unlock as the store of 1 enters its buffer, Out and Done. The labels are legal, and
-//! each thread over atomic locks, whose calls of the lock object are one step each, has the thread's labels and is
+//! An image begins with the eight instructions of the lock object. Each run of the machine on it has labels: Lock at
+//! the locked decrement that gives 0, Unlock as the store of 1 enters its buffer, Out and Done. The labels are legal,
+//! and each thread over atomic locks, whose calls of the lock object are one step each, has the thread's labels and is
 //! where the machine's thread is; or a first part of the run leads to a state where such a thread's next step is Bad.
 #![tactic(auto)]
 
