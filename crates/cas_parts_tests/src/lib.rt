@@ -1,5 +1,5 @@
-//! Tests of parts of the compiler below the top call. They stand in a library of their own, so that no part is proved once more
-//! for them.
+//! Tests of parts of the compiler below the top call. They stand in a library of their own, so that no part is proved
+//! once more for them.
 #![tactic(auto)]
 
 #[cfg(test)]

@@ -1,4 +1,5 @@
-//! Rows of texts, each with the number of its items or its first fault. (`printing_tests` has what statements are read as.)
+//! Rows of texts, each with the number of its items or its first fault. (`printing_tests` has what statements are read
+//! as.)
 
 use cas_base::Place;
 use cas_read::{ReadFault, read_module};

@@ -47,7 +47,8 @@ at_most n m h = grind (arith, nat_tests)
 abbrev AreNames : List (List ℕ) → Type 0
 AreNames threads = (list_all is_name threads ≡ true) × (length threads ≤ 64)
 
-threads_named : (o : Option (List ℕ)) (threads : List (List ℕ)) → option_and_then threads_of o ≡ Some threads → AreNames threads
+threads_named : (o : Option (List ℕ)) (threads : List (List ℕ)) → option_and_then threads_of o ≡ Some threads →
+    AreNames threads
 threads_named None threads h = absurd (cc h)
 threads_named (Some text) threads h =
     let few = nat_le (length (listed text)) 64 in
@@ -66,8 +67,10 @@ turns_said : (names threads : List (List ℕ)) (o : Option Turns) → length nam
 turns_said names threads None few named = tt
 turns_said names threads (Some turns) few named = record { named = named.0; few_threads = named.1; few_names = few }
 
-threads_said : (names : List (List ℕ)) (turns : List (List ℕ) → Option Turns) (o : Option (List (List ℕ))) → length names ≤ 64 → ((threads : List (List ℕ)) → o ≡ Some threads → AreNames threads) →
-    Said (option_and_then (λ threads. option_map (λ t. world (record { names = names; threads = threads; turns = t })) (turns threads)) o)
+threads_said : (names : List (List ℕ)) (turns : List (List ℕ) → Option Turns) (o : Option (List (List ℕ))) →
+    length names ≤ 64 → ((threads : List (List ℕ)) → o ≡ Some threads → AreNames threads) →
+    Said (option_and_then (λ threads. option_map (λ t. world (record { names = names; threads = threads; turns = t }))
+    (turns threads)) o)
 threads_said names turns None few named = tt
 threads_said names turns (Some threads) few named = turns_said names threads (turns threads) few (named threads refl)
 
@@ -76,8 +79,10 @@ world_said parts =
     let named = are_text_names parts.names in
     let options = are_options world_options parts.options in
     where_so (named && options) (world_from parts) (λ is.
-    threads_said parts.names (λ threads. turns_of (length threads) (value_of (codes "--schedule") parts.options) (value_of (codes "--rounds") parts.options))
-    (option_and_then threads_of (value_of (codes "--threads") parts.options)) (text_names_few parts.names (both_left named options is))
+    threads_said parts.names (λ threads. turns_of (length threads) (value_of (codes "--schedule") parts.options)
+    (value_of (codes "--rounds") parts.options))
+    (option_and_then threads_of (value_of (codes "--threads") parts.options))
+    (text_names_few parts.names (both_left named options is))
     (threads_named (value_of (codes "--threads") parts.options)))
 
 check_said : (parts : Parts) → Said (check_of parts)
@@ -96,15 +101,19 @@ words_said : (words : List (List ℕ)) → Said (command_of words)
 words_said [] = tt
 words_said (command ∷ words) =
     either (bytes_eq command (codes "run")) (run_of words) _ (run_said words)
-    (either (bytes_eq command (codes "check")) (option_and_then check_of (parts_of None words)) _ (then_said check_of (parts_of None words) check_said)
-    (either (bytes_eq command (codes "world")) (option_and_then world_of (parts_of None words)) None (then_said world_of (parts_of None words) world_said) tt))
+    (either (bytes_eq command (codes "check")) (option_and_then check_of (parts_of None words)) _
+    (then_said check_of (parts_of None words) check_said)
+    (either (bytes_eq command (codes "world")) (option_and_then world_of (parts_of None words)) None
+    (then_said world_of (parts_of None words) world_said) tt))
 
 -- the command that words give is given
-pub given_said : (o : Option ACommand) (words : List (List ℕ)) → option_map command_view o ≡ command_of words → IfSome o (λ c. IsGiven (command_view c))
+pub given_said : (o : Option ACommand) (words : List (List ℕ)) → option_map command_view o ≡ command_of words →
+    IfSome o (λ c. IsGiven (command_view c))
 given_said None words h = tt
 given_said (Some c) words h = subst Said (sym h) (words_said words)
 
-pub given_ok : {E : Type 0} (r : Result (Option ACommand) E) (words : List (List ℕ)) → IfOk r (λ o. option_map command_view o ≡ command_of words) →
+pub given_ok : {E : Type 0} (r : Result (Option ACommand) E) (words : List (List ℕ)) →
+    IfOk r (λ o. option_map command_view o ≡ command_of words) →
     IfOk r (λ o. IfSome o (λ c. IsGiven (command_view c)))
 given_ok (Ok o) words h = given_said o words h
 given_ok (Err e) words h = tt

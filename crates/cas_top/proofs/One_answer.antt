@@ -47,7 +47,8 @@ one_body (one_more (print p a) no_more) code other (sum, is_code, whole) (others
 one_body _ code other h k = absurd h
 
 -- a module has one code
-one_code : (items : List ItemTree) (code other : List Instr) → IsItemsCode items code → IsItemsCode items other → code ≡ other
+one_code : (items : List ItemTree) (code other : List Instr) → IsItemsCode items code → IsItemsCode items other →
+    code ≡ other
 one_code (define f ∷ []) code other h k = one_body f.body code other h k
 one_code _ code other h k = absurd h
 
@@ -61,20 +62,24 @@ one_report code x y (s, left, d, ends, is) (t, right, e, over, are) =
     let end : d ≡ e = same_end d e (sym ends ∙ ap (λ (u : State). u.end) same ∙ over) in
     is ∙ ap (λ (u : State). report_of u d) same ∙ ap (report_of t) end ∙ sym are
 
-one_run : (text thread : List ℕ) (xs ys : List (List ℕ)) → PrintsLines text thread xs → PrintsLines text thread ys → xs ≡ ys
+one_run : (text thread : List ℕ) (xs ys : List (List ℕ)) → PrintsLines text thread xs → PrintsLines text thread ys →
+    xs ≡ ys
 one_run text thread xs ys (m, form, report, finished, whole) (n, formed, other, over, all) =
     let same : m ≡ n = one_checked text m n form.is_module formed.is_module in
     let P : TypedModuleTree → Type 0 = λ r. IsItemsCode r.module_tree.items finished.code in
-    let code : finished.code ≡ over.code = one_code n.module_tree.items finished.code over.code (subst P same finished.generated) over.generated in
+    let code : finished.code ≡ over.code = one_code n.module_tree.items finished.code over.code
+    (subst P same finished.generated) over.generated in
     let Q : List Instr → Type 0 = λ c. RunsTo c report in
     whole ∙ ap report_lines (one_report over.code report other (subst Q code finished.machine) over.machine) ∙ sym all
 
 one_world : (w : World) (texts xs ys : List (List ℕ)) → PrintsWorld w texts xs → PrintsWorld w texts ys → xs ≡ ys
 one_world w texts xs ys p q =
-    p.whole ∙ ap (λ ms. world_lines w.names ms (turned (env_of ms) w.turns (program_world ms w.threads))) (one_modules texts p.modules q.modules p.read q.read) ∙ sym q.whole
+    p.whole ∙ ap (λ ms. world_lines w.names ms (turned (env_of ms) w.turns (program_world ms w.threads)))
+    (one_modules texts p.modules q.modules p.read q.read) ∙ sym q.whole
 
 -- on the same texts a command prints the same lines, with one status
-one_printing : (c : Command) (texts : List (List ℕ)) (s t : ℕ) (xs ys : List (List ℕ)) → Plans c texts (prints s xs) → Plans c texts (prints t ys) → (s ≡ t) × (xs ≡ ys)
+one_printing : (c : Command) (texts : List (List ℕ)) (s t : ℕ) (xs ys : List (List ℕ)) → Plans c texts (prints s xs) →
+    Plans c texts (prints t ys) → (s ≡ t) × (xs ≡ ys)
 one_printing (run r) [] s t xs ys h k = absurd h
 one_printing (run r) (a ∷ []) s t xs ys h k = absurd h
 one_printing (run r) (a ∷ b ∷ []) s t xs ys h k = (h.0 ∙ sym k.0, one_run a r.thread xs ys h.1 k.1)
@@ -91,14 +96,16 @@ one_refused : (name text line other : List ℕ) → RefusesText name text line �
 one_refused name text line other (misread c p h) (misread d q k) =
     let same = one_read_fault text c d p q h k in λ i. fault_line name (same.0 i) (same.1 i)
 one_refused name text line other (misread c p h) (untyped m f read k) = absurd (no_module_and_fault text m c p read h)
-one_refused name text line other (misread c p h) (unowned m r f read typed k) = absurd (no_module_and_fault text m c p read h)
+one_refused name text line other (misread c p h) (unowned m r f read typed k) =
+    absurd (no_module_and_fault text m c p read h)
 one_refused name text line other (untyped m f read h) (misread d q k) = absurd (no_module_and_fault text m d q read k)
 one_refused name text line other (untyped m f read h) (untyped n g reads k) =
     let P : ModuleTree → Type 0 = λ x. HasTypeFault x f in
     ap (type_fault_line name) (one_first_fault n f g (subst P (one_module text m n read reads) h) k)
 one_refused name text line other (untyped m f read h) (unowned n r g reads typed k) =
     absurd (typed_and_faulty n m r f (one_module text n m reads read) typed h)
-one_refused name text line other (unowned m r f read typed h) (misread d q k) = absurd (no_module_and_fault text m d q read k)
+one_refused name text line other (unowned m r f read typed h) (misread d q k) =
+    absurd (no_module_and_fault text m d q read k)
 one_refused name text line other (unowned m r f read typed h) (untyped n g reads k) =
     absurd (typed_and_faulty m n r g (one_module text m n read reads) typed k)
 one_refused name text line other (unowned m r f read typed h) (unowned n s g reads types k) =
@@ -107,11 +114,14 @@ one_refused name text line other (unowned m r f read typed h) (unowned n s g rea
 
 one_refused_run : (r : Run) (text line other : List ℕ) → RefusesRun r text line → RefusesRun r text other → line ≡ other
 one_refused_run r text line other (faulty a h) (faulty b k) = one_refused r.source text a b h k
-one_refused_run r text line other (faulty a h) (formless m checked none) = absurd (checked_and_refused r.source text a (m, checked) h)
-one_refused_run r text line other (formless m checked none) (faulty b k) = absurd (checked_and_refused r.source text b (m, checked) k)
+one_refused_run r text line other (faulty a h) (formless m checked none) =
+    absurd (checked_and_refused r.source text a (m, checked) h)
+one_refused_run r text line other (formless m checked none) (faulty b k) =
+    absurd (checked_and_refused r.source text b (m, checked) k)
 one_refused_run r text line other (formless m checked none) (formless n is others) = refl
 
-one_first : (names texts : List (List ℕ)) (line other : List ℕ) → RefusesFirst names texts line → RefusesFirst names texts other → line ≡ other
+one_first : (names texts : List (List ℕ)) (line other : List ℕ) → RefusesFirst names texts line →
+    RefusesFirst names texts other → line ≡ other
 one_first [] texts line other h k = absurd h
 one_first (n ∷ ns) [] line other h k = absurd h
 one_first (n ∷ ns) (t ∷ ts) line other (inl h) (inl k) = one_refused n t line other h k
@@ -125,36 +135,44 @@ same_link f g h = cc
 same_line : (line other : List ℕ) → Some line ≡ Some other → line ≡ other
 same_line line other h = cc
 
-one_unlinked : (w : World) (texts : List (List ℕ)) (line other : List ℕ) → RefusesProgram w texts line → RefusesProgram w texts other → line ≡ other
+one_unlinked : (w : World) (texts : List (List ℕ)) (line other : List ℕ) → RefusesProgram w texts line →
+    RefusesProgram w texts other → line ≡ other
 one_unlinked w texts line other h k =
     let same = one_modules texts h.modules k.modules h.read k.read in
-    let fault = same_link h.fault k.fault (sym h.refused ∙ ap (λ ms. first_refusal (units_of ms) w.threads) same ∙ k.refused) in
+    let fault = same_link h.fault k.fault (sym h.refused ∙ ap (λ ms. first_refusal (units_of ms) w.threads) same
+    ∙ k.refused) in
     same_line line other (sym h.told ∙ ap link_fault_line fault ∙ k.told)
 
 -- on the same texts a command is refused with one line and status
-one_refusal : (c : Command) (texts : List (List ℕ)) (s t : ℕ) (line other : List ℕ) → Plans c texts (refuses s line) → Plans c texts (refuses t other) → (s ≡ t) × (line ≡ other)
+one_refusal : (c : Command) (texts : List (List ℕ)) (s t : ℕ) (line other : List ℕ) → Plans c texts (refuses s line) →
+    Plans c texts (refuses t other) → (s ≡ t) × (line ≡ other)
 one_refusal (run r) [] s t line other h k = absurd h
 one_refusal (run r) (a ∷ []) s t line other h k = absurd h
 one_refusal (run r) (a ∷ b ∷ []) s t line other h k = (h.0 ∙ sym k.0, one_refused_run r a line other h.1 k.1)
 one_refusal (run r) (a ∷ b ∷ d ∷ rest) s t line other h k = absurd h
 one_refusal (check names) texts s t line other h k = (h.0 ∙ sym k.0, one_first names texts line other h.1 k.1)
 one_refusal (world w) texts s t line other (inl h) (inl k) = (h.0 ∙ sym k.0, one_first w.names texts line other h.1 k.1)
-one_refusal (world w) texts s t line other (inl h) (inr k) = absurd (checked_and_first w.names texts line (modules_checked texts k.1.modules k.1.read) h.1)
-one_refusal (world w) texts s t line other (inr h) (inl k) = absurd (checked_and_first w.names texts other (modules_checked texts h.1.modules h.1.read) k.1)
+one_refusal (world w) texts s t line other (inl h) (inr k) =
+    absurd (checked_and_first w.names texts line (modules_checked texts k.1.modules k.1.read) h.1)
+one_refusal (world w) texts s t line other (inr h) (inl k) =
+    absurd (checked_and_first w.names texts other (modules_checked texts h.1.modules h.1.read) k.1)
 one_refusal (world w) texts s t line other (inr h) (inr k) = (h.0 ∙ sym k.0, one_unlinked w texts line other h.1 k.1)
 
 pub causes_exclude : CausesExclude
 causes_exclude held c = record {
   refused = λ s t text line p r.
       let P : List (List ℕ) → Type 0 = λ ts. Plans c ts (refuses t line) in
-      one_plan c p.texts p.lines s t line p.plan (subst P (one_list held (wanted_texts c) r.texts p.texts r.read p.read) r.plan);
+      one_plan c p.texts p.lines s t line p.plan (subst P (one_list held (wanted_texts c) r.texts p.texts r.read p.read)
+      r.plan);
   printed_once = λ s t text other p r.
       let P : List (List ℕ) → Type 0 = λ ts. Plans c ts (prints t r.lines) in
-      let same = one_printing c p.texts s t p.lines r.lines p.plan (subst P (one_list held (wanted_texts c) r.texts p.texts r.read p.read) r.plan) in
+      let same = one_printing c p.texts s t p.lines r.lines p.plan
+      (subst P (one_list held (wanted_texts c) r.texts p.texts r.read p.read) r.plan) in
       (same.0, p.whole ∙ ap concat same.1 ∙ sym r.whole);
   refused_once = λ s t line other p r.
       let P : List (List ℕ) → Type 0 = λ ts. Plans c ts (refuses t other) in
-      one_refusal c p.texts s t line other p.plan (subst P (one_list held (wanted_texts c) r.texts p.texts r.read p.read) r.plan);
+      one_refusal c p.texts s t line other p.plan
+      (subst P (one_list held (wanted_texts c) r.texts p.texts r.read p.read) r.plan);
   printed_long = λ s text name p l. read_and_long held (wanted_texts c) p.texts name p.read l;
   refused_long = λ s line name r l. read_and_long held (wanted_texts c) r.texts name r.read l;
   long_once = λ name other l k. one_long held (wanted_texts c) name other l k;

@@ -23,7 +23,8 @@ use Rattle.cas_top.specs.declared.refusal.Refusal.TheVariants as refusal
 use Rattle.cas_top.specs.declared.source.Source.{Source}
 
 -- the item at which a loop is, and those after it
-pub drop-item : {X : Type 0} (xs : List X) (i : ℕ) (x : X) → i < length xs → x ≡ get_or xs i x → drop i xs ≡ x ∷ drop (i + 1) xs
+pub drop-item : {X : Type 0} (xs : List X) (i : ℕ) (x : X) → i < length xs → x ≡ get_or xs i x →
+    drop i xs ≡ x ∷ drop (i + 1) xs
 drop-item xs i x below is = drop_more xs i x below ∙ ap (λ y. y ∷ drop (i + 1) xs) (sym is)
 
 -- the name at which a loop is, and those after it
@@ -33,10 +34,12 @@ texts_item names i d below = ap texts (drop_more names i d below)
 
 -- a text that is read as a checked module
 pub checked_text : (name text : List ℕ) (checked : Checked) → IsCheckedAs name text (Ok checked) → IsCheckedText text
-checked_text name text checked (m, t, read, stands, typed, good) = (t, record { read_module = m; read = read; typed = typed; checked = good })
+checked_text name text checked (m, t, read, stands, typed, good) =
+    (t, record { read_module = m; read = read; typed = typed; checked = good })
 
 -- why a text isn't of a checked module
-pub refused_source : (name text : List ℕ) (why : Refusal) → IsCheckedAs name text (Err why) → IsCheckedSource name text (Err why)
+pub refused_source : (name text : List ℕ) (why : Refusal) → IsCheckedAs name text (Err why) →
+    IsCheckedSource name text (Err why)
 refused_source name text (refusal.Faulty n f) h = h
 refused_source name text refusal.Memory h = tt
 refused_source name text refusal.Usage h = absurd h
@@ -46,7 +49,8 @@ refused_source name text (refusal.TooLong n) h = absurd h
 refused_source name text refusal.Unwritten h = absurd h
 
 -- .. nor does its run print
-pub refused_run : (r : Run) (text : List ℕ) (why : Refusal) → IsCheckedAs r.source text (Err why) → IsShown r text (Err why)
+pub refused_run : (r : Run) (text : List ℕ) (why : Refusal) → IsCheckedAs r.source text (Err why) →
+    IsShown r text (Err why)
 refused_run r text (refusal.Faulty n f) h = faulty (module_line n.now f) h
 refused_run r text refusal.Memory h = tt
 refused_run r text refusal.Usage h = absurd h
@@ -56,23 +60,32 @@ refused_run r text (refusal.TooLong n) h = absurd h
 refused_run r text refusal.Unwritten h = absurd h
 
 -- the lines of a checked module's run, where there are some
-pub shown_run : (r : Run) (name text : List ℕ) (checked : Checked) (typed : Typed) (lines : Vec (List ℕ) Global) → IsCheckedAs name text (Ok checked) → typed ≡ checked.typed →
+pub shown_run : (r : Run) (name text : List ℕ) (checked : Checked) (typed : Typed) (lines : Vec (List ℕ) Global) →
+    IsCheckedAs name text (Ok checked) → typed ≡ checked.typed →
     ((t : TypedModuleTree) → IsTypedAs typed t → IsChecked t → IsRun t r.thread lines.items) → IsShown r text (Ok lines)
 shown_run r name text checked typed lines (m, t, read, stands, good, is_checked) same run =
     let P : Typed → Type 0 = λ x. IsTypedAs x t in
-    let (form, report, finished, printed) = run t (subst P (sym same) stands) is_checked in
-    (t, record { is_module = record { read_module = m; read = read; typed = good; checked = is_checked }; form = form }, report, finished, printed)
+    let (form, report, finished, printed) = run t (subst P (sym same) stands) is_checked in (
+      t,
+      record { is_module = record { read_module = m; read = read; typed = good; checked = is_checked }; form = form },
+      report,
+      finished,
+      printed,
+    )
 
 -- .. and where there are none, since it isn't of the first form
-pub formless_run : (r : Run) (name text : List ℕ) (checked : Checked) (typed : Typed) → IsCheckedAs name text (Ok checked) → typed ≡ checked.typed →
+pub formless_run : (r : Run) (name text : List ℕ) (checked : Checked) (typed : Typed) →
+    IsCheckedAs name text (Ok checked) → typed ≡ checked.typed →
     is_first_form r.thread (module_tree typed.filled) ≡ false → RefusesRun r text (form_line r.source)
 formless_run r name text checked typed (m, t, read, stands, good, is_checked) same none =
     let P : ModuleTree → Type 0 = λ x. is_first_form r.thread x ≡ false in
-    let filled : module_tree typed.filled ≡ t.module_tree = ap (λ (x : Typed). module_tree x.filled) same ∙ sym stands.module_tree in
+    let filled : module_tree typed.filled ≡ t.module_tree = ap (λ (x : Typed). module_tree x.filled) same
+    ∙ sym stands.module_tree in
     formless t (record { read_module = m; read = read; typed = good; checked = is_checked }) (subst P filled none)
 
 -- why some of the texts aren't of checked modules
-pub refused_lines : (names texts : List (List ℕ)) (why : Refusal) → AreAllChecked names texts (Err why) → AreOkLines names texts (Err why)
+pub refused_lines : (names texts : List (List ℕ)) (why : Refusal) → AreAllChecked names texts (Err why) →
+    AreOkLines names texts (Err why)
 refused_lines names texts (refusal.Faulty n f) h = h
 refused_lines names texts refusal.Memory h = tt
 refused_lines names texts refusal.Usage h = absurd h
@@ -84,13 +97,15 @@ refused_lines names texts refusal.Unwritten h = absurd h
 -- checking the texts that are left ends as checking all
 pub record ChecksOn (whole left : List Source) : Type 0 where
   pub all : AreChecked (texts_of left) → AreChecked (texts_of whole)
-  pub first : (line : List ℕ) → RefusesFirst (names_of left) (texts_of left) line → RefusesFirst (names_of whole) (texts_of whole) line
+  pub first : (line : List ℕ) → RefusesFirst (names_of left) (texts_of left) line →
+      RefusesFirst (names_of whole) (texts_of whole) line
 
 pub checks_start : (whole : List Source) → ChecksOn whole whole
 checks_start whole = record { all = λ h. h; first = λ line h. h }
 
 -- the first of the texts that are left is of a checked module
-pub checks_next : (whole left after : List Source) (source : Source) → ChecksOn whole left → left ≡ source ∷ after → IsCheckedText source.text.items →
+pub checks_next : (whole left after : List Source) (source : Source) → ChecksOn whole left → left ≡ source ∷ after →
+    IsCheckedText source.text.items →
     ChecksOn whole after
 checks_next whole left after source h cons checked =
     let P : List Source → Type 0 = λ ss. ChecksOn whole ss in
@@ -98,8 +113,10 @@ checks_next whole left after source h cons checked =
     record { all = λ k. on.all (checked, k); first = λ line k. on.first line (inr (checked, k)) }
 
 -- the first of them is refused
-pub checks_refused : (whole left after : List Source) (source : Source) (why : Refusal) → ChecksOn whole left → left ≡ source ∷ after →
-    IsCheckedSource source.name.now source.text.items (Err why) → AreAllChecked (names_of whole) (texts_of whole) (Err why)
+pub checks_refused : (whole left after : List Source) (source : Source) (why : Refusal) → ChecksOn whole left →
+    left ≡ source ∷ after →
+    IsCheckedSource source.name.now source.text.items (Err why) →
+    AreAllChecked (names_of whole) (texts_of whole) (Err why)
 checks_refused whole left after source (refusal.Faulty n f) h cons refused =
     let P : List Source → Type 0 = λ ss. ChecksOn whole ss in
     (subst P cons h).first _ (inl refused)
@@ -113,9 +130,12 @@ checks_refused whole left after source refusal.Unwritten h cons refused = absurd
 -- reading the texts of the names that are left, after these sources, ends as reading all
 pub record ReadsOn (told : Told) (names : List (List ℕ)) (sources : List Source) (left : List (List ℕ)) : Type 0 where
   pub named : names_of sources ++ left ≡ names
-  pub read : (texts : List (List ℕ)) → AreRead told (map source_text left) texts → AreRead told (map source_text names) (texts_of sources ++ texts)
-  pub unread : (name : List ℕ) → IsFirstUnread told (map source_text left) name → IsFirstUnread told (map source_text names) name
-  pub long : (name : List ℕ) → IsFirstLong told (map source_text left) name → IsFirstLong told (map source_text names) name
+  pub read : (texts : List (List ℕ)) → AreRead told (map source_text left) texts →
+      AreRead told (map source_text names) (texts_of sources ++ texts)
+  pub unread : (name : List ℕ) → IsFirstUnread told (map source_text left) name →
+      IsFirstUnread told (map source_text names) name
+  pub long : (name : List ℕ) → IsFirstLong told (map source_text left) name →
+      IsFirstLong told (map source_text names) name
 
 pub reads_start : (told : Told) (names : List (List ℕ)) → ReadsOn told names [] names
 reads_start told names = record { named = refl; read = λ texts h. h; unread = λ name h. h; long = λ name h. h }
@@ -132,8 +152,10 @@ texts_behind [] source left = refl
 texts_behind (s ∷ ss) source left = ap (λ ts. s.text.items ∷ ts) (texts_behind ss source left)
 
 -- the text of the first name was read
-reads_one : (told : Told) (names : List (List ℕ)) (sources : List Source) (name : List ℕ) (left : List (List ℕ)) (source : Source) →
-    ReadsOn told names sources (name ∷ left) → source.name.now ≡ name → IsRead told (source_text name) source.text.items →
+reads_one : (told : Told) (names : List (List ℕ)) (sources : List Source) (name : List ℕ) (left : List (List ℕ))
+    (source : Source) →
+    ReadsOn told names sources (name ∷ left) → source.name.now ≡ name →
+    IsRead told (source_text name) source.text.items →
     ReadsOn told names (sources ++ source ∷ []) left
 reads_one told names sources name left source on named read = record {
   named = names_behind sources source left ∙ ap (λ n. names_of sources ++ n ∷ left) named ∙ on.named;
@@ -145,8 +167,10 @@ reads_one told names sources name left source on named read = record {
 }
 
 -- .. by a shelf that tells the same all along
-pub reads_next : (told told' : Told) (names : List (List ℕ)) (sources : List Source) (left after : List (List ℕ)) (name : List ℕ) (source : Source) (failed failed' : List (List ℕ)) →
-    ReadsOn told names sources left → left ≡ name ∷ after → told' ≡ told → IsSource told' name failed failed' (Ok source) →
+pub reads_next : (told told' : Told) (names : List (List ℕ)) (sources : List Source) (left after : List (List ℕ))
+    (name : List ℕ) (source : Source) (failed failed' : List (List ℕ)) →
+    ReadsOn told names sources left → left ≡ name ∷ after → told' ≡ told →
+    IsSource told' name failed failed' (Ok source) →
     ReadsOn told names (sources ++ source ∷ []) after
 reads_next told told' names sources left after name source failed failed' on cons same h =
     let P : List (List ℕ) → Type 0 = λ l. ReadsOn told names sources l in
@@ -154,8 +178,10 @@ reads_next told told' names sources left after name source failed failed' on con
     reads_one told names sources name after source (subst P cons on) h.0 (subst Q same h.1)
 
 -- the text of the first name wasn't read
-unread_one : (told : Told) (names : List (List ℕ)) (sources : List Source) (name : List ℕ) (left : List (List ℕ)) (before after : List (List ℕ)) (why : Refusal) →
-    ReadsOn told names sources (name ∷ left) → IsSource told name before after (Err why) → AreSources told names before after (Err why)
+unread_one : (told : Told) (names : List (List ℕ)) (sources : List Source) (name : List ℕ) (left : List (List ℕ))
+    (before after : List (List ℕ)) (why : Refusal) →
+    ReadsOn told names sources (name ∷ left) → IsSource told name before after (Err why) →
+    AreSources told names before after (Err why)
 unread_one told names sources name left before after (refusal.Unread n) on h =
     (on.unread n.now (inl h.0), h.1 ∙ ap (λ x. before ++ x ∷ []) (sym h.0))
 unread_one told names sources name left before after (refusal.TooLong n) on h = (on.long n.now (inl (h.0, h.1)), h.2)
@@ -165,8 +191,10 @@ unread_one told names sources name left before after (refusal.Unlinked line) on 
 unread_one told names sources name left before after (refusal.Faulty n f) on h = absurd h
 unread_one told names sources name left before after refusal.Unwritten on h = absurd h
 
-pub reads_cut : (told told' : Told) (names : List (List ℕ)) (sources : List Source) (left rest : List (List ℕ)) (name : List ℕ) (start before after : List (List ℕ)) (why : Refusal) →
-    ReadsOn told names sources left → left ≡ name ∷ rest → told' ≡ told → before ≡ start → IsSource told' name before after (Err why) →
+pub reads_cut : (told told' : Told) (names : List (List ℕ)) (sources : List Source) (left rest : List (List ℕ))
+    (name : List ℕ) (start before after : List (List ℕ)) (why : Refusal) →
+    ReadsOn told names sources left → left ≡ name ∷ rest → told' ≡ told → before ≡ start →
+    IsSource told' name before after (Err why) →
     AreSources told names start after (Err why)
 reads_cut told told' names sources left rest name start before after why on cons same kept h =
     let P : List (List ℕ) → Type 0 = λ l. ReadsOn told names sources l in

@@ -38,7 +38,8 @@ entry_is_function (form.Shared ty guard) h = absurd (cc h)
 entry_is_function (form.Table ty) h = absurd (cc h)
 entry_is_function (form.Function ret params holds) h = refl
 
-within_limits : (name : List ℕ) (a : Form) (defined : Bool) → is_entry a ≡ true → limits_fault (record { name = name; form = a; defined = defined } ∷ []) ≡ None
+within_limits : (name : List ℕ) (a : Form) (defined : Bool) → is_entry a ≡ true →
+    limits_fault (record { name = name; form = a; defined = defined } ∷ []) ≡ None
 within_limits name form.Lock defined h = absurd (cc h)
 within_limits name (form.Shared ty guard) defined h = absurd (cc h)
 within_limits name (form.Table ty) defined h = absurd (cc h)
@@ -62,27 +63,32 @@ module _ (name : List ℕ) (d : Decl) (is : IsEntry name d) where
   refers_to_none = ap (λ b. if not b then d ∷ [] else []) is.defined
 
   one_of_functions : functions_of (d ∷ []) ≡ d ∷ []
-  one_of_functions = ap (λ ds. filter (λ x. is_function x.form) ds) defines_one ∙ ap (λ b. if b then d ∷ [] else []) (entry_is_function d.form is.enters)
+  one_of_functions = ap (λ ds. filter (λ x. is_function x.form) ds) defines_one
+      ∙ ap (λ b. if b then d ∷ [] else []) (entry_is_function d.form is.enters)
 
   is_there : definition_of (d ∷ []) name ≡ Some d
   is_there = ap (λ b. if b then Some d else None) is.named
 
   may_enter : entries_fault (d ∷ []) (name ∷ []) ≡ None
-  may_enter = ap (λ o. option_or (entry_fault name o) None) is_there ∙ ap (λ b. option_or (if b then None else Some (Entry name d)) None) is.enters
+  may_enter = ap (λ o. option_or (entry_fault name o) None) is_there
+      ∙ ap (λ b. option_or (if b then None else Some (Entry name d)) None) is.enters
 
   no_refusal : first_refusal ((d ∷ []) ∷ []) (name ∷ []) ≡ None
   no_refusal =
-      (λ i. option_or (twice_fault (defines_one i)) (option_or (references_fault (defines_one i) (refers_to_none i)) (option_or (entries_fault (defines_one i) (name ∷ [])) (limits_fault (defines_one i)))))
+      (λ i. option_or (twice_fault (defines_one i)) (option_or (references_fault (defines_one i) (refers_to_none i))
+      (option_or (entries_fault (defines_one i) (name ∷ [])) (limits_fault (defines_one i)))))
       ∙ (λ i. option_or (may_enter i) (limits_fault (d ∷ [])))
       ∙ within_limits d.name d.form d.defined is.enters
 
   stands_first : place_of ((d ∷ []) ∷ []) name ≡ Some (0, 0)
   stands_first =
-      ap (λ ds. in_first (position (is_named name) ds)) one_of_functions ∙ ap in_first (position_from-zero (is_named name) (d ∷ []))
+      ap (λ ds. in_first (position (is_named name) ds)) one_of_functions
+      ∙ ap in_first (position_from-zero (is_named name) (d ∷ []))
       ∙ ap (λ b. in_first (if b then Some 0 else None)) is.named
 
 -- the function is what a thread of this name may enter
-entry_of : (name : List ℕ) (f : FunTree) → is_entry_named name f ≡ true → ItemsAreFormed (define f ∷ []) → IsEntry name f.decl
+entry_of : (name : List ℕ) (f : FunTree) → is_entry_named name f ≡ true → ItemsAreFormed (define f ∷ []) →
+    IsEntry name f.decl
 entry_of name f named formed = record {
   defined = formed.0.1;
   enters = left_part (is_entry f.decl.form) (bytes_eq f.decl.name name) named;
@@ -91,7 +97,8 @@ entry_of name f named formed = record {
 }
 
 -- a module whose one item is a function that a thread of this name may enter
-module _ (name : List ℕ) (r : TypedModuleTree) (f : FunTree) (items : r.module_tree.items ≡ define f ∷ []) (is : is_entry_named name f ≡ true) (formed : IsFormed r.module_tree) where
+module _ (name : List ℕ) (r : TypedModuleTree) (f : FunTree) (items : r.module_tree.items ≡ define f ∷ [])
+    (is : is_entry_named name f ≡ true) (formed : IsFormed r.module_tree) where
   is_entry_here : IsEntry name f.decl
   is_entry_here = entry_of name f is (subst ItemsAreFormed items formed)
 
@@ -99,7 +106,8 @@ module _ (name : List ℕ) (r : TypedModuleTree) (f : FunTree) (items : r.module
   one_unit = ap (λ xs. map decl_of xs ∷ []) items
 
   pub settles : IsSettled (units_of (r ∷ [])) (name ∷ [])
-  settles = settled-none (units_of (r ∷ [])) (name ∷ []) (ap (λ units. first_refusal units (name ∷ [])) one_unit ∙ no_refusal name f.decl is_entry_here)
+  settles = settled-none (units_of (r ∷ [])) (name ∷ [])
+      (ap (λ units. first_refusal units (name ∷ [])) one_unit ∙ no_refusal name f.decl is_entry_here)
 
   -- with its name it is a program
   pub one_program : IsTyped r.module_tree r → IsProgram (r ∷ []) (name ∷ [])
@@ -111,7 +119,8 @@ module _ (name : List ℕ) (r : TypedModuleTree) (f : FunTree) (items : r.module
 
   one_entry : entries_of (r ∷ []) (name ∷ []) ≡ entry ∷ []
   one_entry =
-      ap (λ o. cons_option (option_map (λ (p : ℕ × ℕ). record { unit = p.0; place = p.1 }) o) []) (ap (λ units. place_of units name) one_unit ∙ stands_first name f.decl is_entry_here)
+      ap (λ o. cons_option (option_map (λ (p : ℕ × ℕ). record { unit = p.0; place = p.1 }) o) [])
+      (ap (λ units. place_of units name) one_unit ∙ stands_first name f.decl is_entry_here)
 
   no_words : initial_words (r ∷ []) ≡ []
   no_words = ap (λ xs. flat_map (λ (ys : List ItemTree). flat_map item_words ys) (xs ∷ [])) items
@@ -121,6 +130,8 @@ module _ (name : List ℕ) (r : TypedModuleTree) (f : FunTree) (items : r.module
   one_world = λ i. first_world (env_of (r ∷ [])) (one_entry i) (no_words i)
 
   -- which is the resolved one
-  pub one_body : (it : TypedFunTree) → r.functions ≡ it ∷ [] → it.item ≡ 0 → ((env_of (r ∷ [])).function entry).body ≡ it.body
+  pub one_body : (it : TypedFunTree) → r.functions ≡ it ∷ [] → it.item ≡ 0 →
+      ((env_of (r ∷ [])).function entry).body ≡ it.body
   one_body it functions number =
-      (λ i. (function_of (items i) (slice_get (functions i) 0)).body) ∙ ap (λ n. (function_with it (body_item (slice_get (define f ∷ []) n))).body) number
+      (λ i. (function_of (items i) (slice_get (functions i) 0)).body)
+      ∙ ap (λ n. (function_with it (body_item (slice_get (define f ∷ []) n))).body) number

@@ -41,7 +41,8 @@ use Rattle.cas_top.proofs.Sum_typing.{typed_body, body_resolved, one_function}
 -- the machine
 
 -- the second element behind a list
-slice_get-append_second : {A : Type 0} (xs : List A) (x y : A) (ys : List A) → slice_get (xs ++ x ∷ y ∷ ys) (length xs + 1) ≡ Some y
+slice_get-append_second : {A : Type 0} (xs : List A) (x y : A) (ys : List A) →
+    slice_get (xs ++ x ∷ y ∷ ys) (length xs + 1) ≡ Some y
 slice_get-append_second [] x y ys = refl
 slice_get-append_second (z ∷ xs) x y ys =
     let next : length (z ∷ xs) + 1 ≡ suc (length xs + 1) = omega arith in
@@ -60,10 +61,13 @@ ends_behind : (sum : List Instr) (n : ℕ) → Runs (body_of sum) (behind sum n)
 ends_behind sum n =
     let code : List Instr = body_of sum in
     let put_out : State = record { thread = 0; place = length sum + 1; eax = n; end = None; out = (0, n) ∷ [] } in
-    let at_out : executed (slice_get code (length sum)) (behind sum n) ≡ put_out = rw (slice_get-append_seam sum OutEax (Ret ∷ [])) refl in
-    let at_return : executed (slice_get code (length sum + 1)) put_out ≡ finished sum n = rw (slice_get-append_second sum OutEax Ret []) refl in
+    let at_out : executed (slice_get code (length sum)) (behind sum n) ≡ put_out =
+    rw (slice_get-append_seam sum OutEax (Ret ∷ [])) refl in
+    let at_return : executed (slice_get code (length sum + 1)) put_out ≡ finished sum n =
+    rw (slice_get-append_second sum OutEax Ret []) refl in
     let P : State → Type 0 = λ s. Runs code s (finished sum n) in
-    steps (behind sum n) _ refl (subst P (sym at_out) (steps put_out _ refl (subst P (sym at_return) (stays (finished sum n)))))
+    steps (behind sum n) _ refl
+    (subst P (sym at_out) (steps put_out _ refl (subst P (sym at_return) (stays (finished sum n)))))
 
 -- the program
 
@@ -83,7 +87,8 @@ call_with cont = record { serial = 0; function = entry; target = None; cont = co
 -- a thread in it with these locals, and a world of this thread alone
 module _ (locals : List (List (Value Object))) where
   abbrev thread_at : List ContItem → Config
-  thread_at cont = record { activations = call_with cont ∷ []; memory = record { serial = 0; locals = locals } ∷ []; fresh = 1 }
+  thread_at cont =
+      record { activations = call_with cont ∷ []; memory = record { serial = 0; locals = locals } ∷ []; fresh = 1 }
 
   abbrev here_at : List ContItem → StepContext
   here_at cont = record { config = thread_at cont; newest = call_with cont; older = []; words = [] }
@@ -93,36 +98,46 @@ module _ (locals : List (List (Value Object))) where
 
 -- what a world comes to where one thread prints this word and ends
 abbrev Prints : Env → World → ℕ → Type 0
-Prints e first n = (threads : List ℕ) × (world : World) × Interleaves e first threads world × OneHasEnded world × (world.out ≡ (0, n) ∷ [])
+Prints e first n = (threads : List ℕ) × (world : World) × Interleaves e first threads world × OneHasEnded world
+    × (world.out ≡ (0, n) ∷ [])
 
 -- the step that prints what was asked
 abbrev print_step : Env → StepContext → Asks Object (Value Object) → Option Step
 print_step e h x =
     step_with_effect e h (answered (entity_in e h) (slice_get h.words) (cells_at h.config.memory)
-    (and_then (and_then x (λ u. and_then (word_in u) (λ m. gives (word (narrowed m I32))))) (λ v. and_then (word_in v) (λ m. gives (prints m [])))))
+    (and_then (and_then x (λ u. and_then (word_in u) (λ m. gives (word (narrowed m I32)))))
+    (λ v. and_then (word_in v) (λ m. gives (prints m [])))))
 
 -- the thread prints the value of the expression, and ends
 print_and_end : (e : Env) (locals : List (List (Value Object))) (p : Place) (x : TypedExprTree) (n : ℕ) →
-    ((s : EvalContext Object) → value_of s x ≡ gives (word n)) → Prints e (world_at locals (begin (t.print p (t.narrow I32 x)) ∷ [])) n
+    ((s : EvalContext Object) → value_of s x ≡ gives (word n)) →
+    Prints e (world_at locals (begin (t.print p (t.narrow I32 x)) ∷ [])) n
 print_and_end e locals p x n value =
     let cont : List ContItem = begin (t.print p (t.narrow I32 x)) ∷ [] in
     let first : World = world_at locals cont in
     let here : StepContext = here_at locals cont in
     let printing : Step = goes_step e here [] (act.Out n) [] in
     let may_print : MayStep e first 0 printing = record {
-      next = record { config = thread_at locals cont; stands = refl; steps = ap (print_step e here) (value (eval_context_of e here)) };
+      next = record {
+        config = thread_at locals cont;
+        stands = refl;
+        steps = ap (print_step e here)
+            (value (eval_context_of e here));
+      };
       enabled = tt;
     } in
     let second : World = world_after first 0 printing in
     let left : StepContext = here_at locals [] in
     let over : Config = thread_with left [] (memory_without left.config.memory 0) in
     let returning : Step = step_to e left [] act.Done over in
-    let may_return : MayStep e second 0 returning = record { next = record { config = thread_at locals []; stands = refl; steps = refl }; enabled = tt } in
+    let may_return : MayStep e second 0 returning = record
+    { next = record { config = thread_at locals []; stands = refl; steps = refl }; enabled = tt } in
     let last : World = world_after second 0 returning in
     (_, last, and_step (and_step at_first 0 _ may_print) 0 _ may_return, one_has_ended over last refl refl, refl)
 
 -- .. from the first world, where this is the body of the entry
-from_first : (e : Env) (p : Place) (a : ExprTree) (n : ℕ) → (e.function entry).body ≡ typed_body p a → ((s : EvalContext Object) → value_of s (typed_sum a) ≡ gives (word n)) →
+from_first : (e : Env) (p : Place) (a : ExprTree) (n : ℕ) → (e.function entry).body ≡ typed_body p a →
+    ((s : EvalContext Object) → value_of s (typed_sum a) ≡ gives (word n)) →
     Prints e (first_world e (entry ∷ []) []) n
 from_first e p a n body value =
     let locals : List (List (Value Object)) = locals_of (e.function entry).locals (word 0 ∷ []) in
@@ -140,8 +155,10 @@ pub record IsOne (name : List ℕ) (r : TypedModuleTree) (f : FunTree) (p : Plac
   pub typed : IsTyped r.module_tree r
 
 -- its program prints the value of the sum
-program_prints : (name : List ℕ) (r : TypedModuleTree) (f : FunTree) (p : Place) (a : ExprTree) (code : List Instr) (n : ℕ) → IsOne name r f p a → IsExprCode a code →
-    ((s : EvalContext Object) → value_of s (typed_sum a) ≡ gives (word n)) → Prints (env_of (r ∷ [])) (program_world (r ∷ []) (name ∷ [])) n
+program_prints : (name : List ℕ) (r : TypedModuleTree) (f : FunTree) (p : Place) (a : ExprTree) (code : List Instr)
+    (n : ℕ) → IsOne name r f p a → IsExprCode a code →
+    ((s : EvalContext Object) → value_of s (typed_sum a) ≡ gives (word n)) →
+    Prints (env_of (r ∷ [])) (program_world (r ∷ []) (name ∷ [])) n
 program_prints name r f p a code n one is_code value =
     let P : List ItemTree → Type 0 = λ items. AreItems [] items r.functions in
     let (it, good, functions) = one_function (subst P one.items one.typed.functions) in
@@ -155,11 +172,13 @@ program_prints name r f p a code n one is_code value =
 abbrev HasReport : TypedModuleTree → (name : List ℕ) → List Instr → Type 0
 HasReport r name code = (s : State) × Runs code (start 0) s × (s.end ≡ Some Done) × IsFinished r name (report_of s Done)
 
-one_has_report : (name : List ℕ) (r : TypedModuleTree) (f : FunTree) (p : Place) (a : ExprTree) (code sum : List Instr) → RacesAbsent → IsChecked r → IsOne name r f p a →
+one_has_report : (name : List ℕ) (r : TypedModuleTree) (f : FunTree) (p : Place) (a : ExprTree) (code sum : List Instr)
+    → RacesAbsent → IsChecked r → IsOne name r f p a →
     IsItemsCode r.module_tree.items code → IsExprCode a sum → code ≡ body_of sum → HasReport r name code
 one_has_report name r f p a code sum absent checked one generated is_code whole =
     let (n, value, leaves) = evaluated is_code in
-    let run : Runs (body_of sum) (start 0) (finished sum n) = leaves (OutEax ∷ Ret ∷ []) (finished sum n) (ends_behind sum n) in
+    let run : Runs (body_of sum) (start 0) (finished sum n) =
+    leaves (OutEax ∷ Ret ∷ []) (finished sum n) (ends_behind sum n) in
     let P : List Instr → Type 0 = λ c. Runs c (start 0) (finished sum n) in
     let ran : P code = subst P (sym whole) run in
     let program = one_program name r f one.items one.named one.formed one.typed in
@@ -194,7 +213,8 @@ record Parts (name : List ℕ) (items : List ItemTree) (code : List Instr) : Typ
   is_code : IsExprCode a sum
   whole : code ≡ body_of sum
 
-parts_of_body : (name : List ℕ) (f : FunTree) (body : StmtList) (code : List Instr) → is_entry_named name f ≡ true → f.body ≡ body → IsBodyCode body code → Parts name (define f ∷ []) code
+parts_of_body : (name : List ℕ) (f : FunTree) (body : StmtList) (code : List Instr) → is_entry_named name f ≡ true →
+    f.body ≡ body → IsBodyCode body code → Parts name (define f ∷ []) code
 parts_of_body name f (one_more (print at e) no_more) code named same (sum, is_code, whole) = record {
   f = f;
   p = at;
@@ -208,17 +228,23 @@ parts_of_body name f (one_more (print at e) no_more) code named same (sum, is_co
 }
 parts_of_body name f _ code named same is_code = absurd is_code
 
-parts_of : (name : List ℕ) (items : List ItemTree) (code : List Instr) → is_first_form_of name items ≡ true → IsItemsCode items code → Parts name items code
-parts_of name (define f ∷ []) code form is_code = parts_of_body name f f.body code (left_part (is_entry_named name f) (prints_sum f.body) form) refl is_code
+parts_of : (name : List ℕ) (items : List ItemTree) (code : List Instr) → is_first_form_of name items ≡ true →
+    IsItemsCode items code → Parts name items code
+parts_of name (define f ∷ []) code form is_code = parts_of_body name f f.body code
+    (left_part (is_entry_named name f) (prints_sum f.body) form) refl is_code
 parts_of name _ code form is_code = absurd is_code
 
 -- a run of a module's code to an end leaves the report of a finished run of the module
-pub runs_to_finished : (name : List ℕ) (r : TypedModuleTree) {code ran : List Instr} {report : Report} → RacesAbsent → IsFormed r.module_tree → IsTyped r.module_tree r → IsChecked r →
-    is_first_form name r.module_tree ≡ true → IsItemsCode r.module_tree.items code → ran ≡ code → RunsTo ran report → IsFinished r name report
+pub runs_to_finished : (name : List ℕ) (r : TypedModuleTree) {code ran : List Instr} {report : Report} → RacesAbsent →
+    IsFormed r.module_tree → IsTyped r.module_tree r → IsChecked r →
+    is_first_form name r.module_tree ≡ true → IsItemsCode r.module_tree.items code → ran ≡ code → RunsTo ran report →
+    IsFinished r name report
 runs_to_finished name r {code} absent formed typed checked form generated same_code (s, run, e, ends, is) =
     let parts = parts_of name r.module_tree.items code form generated in
-    let one : IsOne name r parts.f parts.p parts.a = record { items = parts.one; named = parts.named; body = parts.body; formed = formed; typed = typed } in
-    let (t, t_run, done, finished) = one_has_report name r parts.f parts.p parts.a code parts.sum absent checked one generated parts.is_code parts.whole in
+    let one : IsOne name r parts.f parts.p parts.a = record
+    { items = parts.one; named = parts.named; body = parts.body; formed = formed; typed = typed } in
+    let (t, t_run, done, finished) = one_has_report name r parts.f parts.p parts.a code parts.sum absent checked one
+    generated parts.is_code parts.whole in
     let P : List Instr → Type 0 = λ c. Runs c (start 0) s in
     let same : t ≡ s = one_end t_run (subst P same_code run) done ends in
     let is_done : Done ≡ e = cc (ap (λ (u : State). u.end) same) in
@@ -226,12 +252,19 @@ runs_to_finished name r {code} absent formed typed checked form generated same_c
     subst Q (ap (λ (u : State). report_of u Done) same ∙ ap (report_of s) is_done ∙ sym is) finished
 
 -- .. and its lines are those of a run of the module
-pub run_of : (name : List ℕ) (typed : Typed) (m : Module) (r : TypedModuleTree) (code ran : List Instr) (report : Report) (lines : List (List ℕ)) → RacesAbsent → m ≡ typed.filled → IsTypedAs typed r →
-    IsChecked r → is_first_form name (module_tree m) ≡ true → IsItemsCode (module_tree m).items code → ran ≡ code → RunsTo ran report → lines ≡ report_lines report → IsRun r name lines
+pub run_of : (name : List ℕ) (typed : Typed) (m : Module) (r : TypedModuleTree) (code ran : List Instr)
+    (report : Report) (lines : List (List ℕ)) → RacesAbsent → m ≡ typed.filled → IsTypedAs typed r →
+    IsChecked r → is_first_form name (module_tree m) ≡ true → IsItemsCode (module_tree m).items code → ran ≡ code →
+    RunsTo ran report → lines ≡ report_lines report → IsRun r name lines
 run_of name typed m r code ran report lines absent filled stands checked form generated same_code run printed =
     let same : module_tree m ≡ r.module_tree = ap module_tree filled ∙ sym stands.module_tree in
     let P : ModuleTree → Type 0 = λ x. is_first_form name x ≡ true in
     let Q : ModuleTree → Type 0 = λ x. IsItemsCode x.items code in
     let formed = subst IsFormed (sym stands.module_tree) stands.formed in
-    let here = subst P same form in
-    (here, report, runs_to_finished name r absent formed stands.typed checked here (subst Q same generated) same_code run, printed)
+    let here = subst P same form in (
+      here,
+      report,
+      runs_to_finished name r absent formed stands.typed checked here (subst Q same generated)
+          same_code run,
+      printed,
+    )

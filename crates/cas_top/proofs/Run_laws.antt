@@ -11,20 +11,25 @@ pub stays_at : (code : List Instr) (s t : State) → t ≡ s → Runs code s t
 stays_at code s t same = let P : State → Type 0 = λ u. Runs code s u in subst P (sym same) (stays s)
 
 -- a report of one thread, from its output and its end
-pub report_of_one : (out : List (ℕ × ℕ)) (ends : List End) (put_out : List (ℕ × ℕ)) (e : End) → out ≡ put_out → ends ≡ e ∷ [] →
-    let report : List (ℕ × ℕ) → List End → Report = λ o es. record { out = o; ends = es } in report out ends ≡ report put_out (e ∷ [])
+pub report_of_one : (out : List (ℕ × ℕ)) (ends : List End) (put_out : List (ℕ × ℕ)) (e : End) → out ≡ put_out →
+    ends ≡ e ∷ [] →
+    let report : List (ℕ × ℕ) → List End → Report = λ o es. record { out = o; ends = es } in
+    report out ends ≡ report put_out (e ∷ [])
 report_of_one out ends put_out e h k =
     let report : List (ℕ × ℕ) → List End → Report = λ o es. record { out = o; ends = es } in
     ap (λ o. report o ends) h ∙ ap (report put_out) k
 
 -- a run continues by a step
-run_and_step : {code : List Instr} {s t : State} → Runs code s t → t.end ≡ None → Runs code s (executed (slice_get code t.place) t)
+run_and_step : {code : List Instr} {s t : State} → Runs code s t → t.end ≡ None →
+    Runs code s (executed (slice_get code t.place) t)
 run_and_step (stays s) none = steps s _ none (stays _)
 run_and_step (steps s t going rest) none = steps s _ going (run_and_step rest none)
 
 -- a run continues to the state after a step
-pub run_on : {code : List Instr} {s t u : State} → Runs code s t → t.end ≡ None → u ≡ executed (slice_get code t.place) t → Runs code s u
-run_on {code} {s} run going executes = let P : State → Type 0 = λ v. Runs code s v in subst P (sym executes) (run_and_step run going)
+pub run_on : {code : List Instr} {s t u : State} → Runs code s t → t.end ≡ None →
+    u ≡ executed (slice_get code t.place) t → Runs code s u
+run_on {code} {s} run going executes = let P : State → Type 0 =
+    λ v. Runs code s v in subst P (sym executes) (run_and_step run going)
 
 -- a run is none, or a step and the rest
 step_or_none : {code : List Instr} {s t : State} → Runs code s t →
@@ -37,13 +42,15 @@ abbrev pub report_of : State → End → Report
 report_of s e = record { out = s.out; ends = e ∷ [] }
 
 -- runs from one state to an end are the same
-pub one_end : {code : List Instr} {s t u : State} {d e : End} → Runs code s t → Runs code s u → t.end ≡ Some d → u.end ≡ Some e → t ≡ u
+pub one_end : {code : List Instr} {s t u : State} {d e : End} → Runs code s t → Runs code s u → t.end ≡ Some d →
+    u.end ≡ Some e → t ≡ u
 one_end (stays s) other left right = elim (step_or_none other) [ inl same ↦ same | inr more ↦ absurd (cc more.0) ]
 one_end (steps s t going rest) other left right =
     elim (step_or_none other) [ inl same ↦ absurd (cc) | inr more ↦ one_end rest more.1 left right ]
 
 -- an instruction that doesn't end the thread goes one place on
-continues : (o : Option Instr) (s : State) → (executed o s).end ≡ None → (i : Instr) × (o ≡ Some i) × ((executed o s).place ≡ s.place + 1)
+continues : (o : Option Instr) (s : State) → (executed o s).end ≡ None → (i : Instr) × (o ≡ Some i)
+    × ((executed o s).place ≡ s.place + 1)
 continues (Some (MovEax n)) s going = (MovEax n, refl, refl)
 continues (Some (AddEax n)) s going = (AddEax n, refl, refl)
 continues (Some OutEax) s going = (OutEax, refl, refl)

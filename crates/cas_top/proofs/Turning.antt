@@ -32,7 +32,8 @@ use Rattle.cas_world.proofs.Turns.{turns_interleave, rounds_interleave}
 
 -- the modules of texts one by one
 
-typed_behind : (checked : List Checked) (ms : List TypedModuleTree) (c : Checked) (m : TypedModuleTree) → AreTyped (typed_of checked) ms → AreTyped (typed_of (c ∷ [])) (m ∷ []) →
+typed_behind : (checked : List Checked) (ms : List TypedModuleTree) (c : Checked) (m : TypedModuleTree) →
+    AreTyped (typed_of checked) ms → AreTyped (typed_of (c ∷ [])) (m ∷ []) →
     AreTyped (typed_of (checked ++ c ∷ [])) (ms ++ m ∷ [])
 typed_behind [] [] c m h one = one
 typed_behind [] (n ∷ ns) c m h one = absurd h
@@ -43,14 +44,17 @@ typed_behind (d ∷ ds) (n ∷ ns) c m h one = (h.0, typed_behind ds ns c m h.1 
 pub record ModulesOn (whole left : List Source) (checked : List Checked) : Type 0 where
   pub modules : List TypedModuleTree
   pub typed : AreTyped (typed_of checked) modules
-  pub all : (rest : List TypedModuleTree) → AreCheckedModules (texts_of left) rest → AreCheckedModules (texts_of whole) (modules ++ rest)
-  pub first : (line : List ℕ) → RefusesFirst (names_of left) (texts_of left) line → RefusesFirst (names_of whole) (texts_of whole) line
+  pub all : (rest : List TypedModuleTree) → AreCheckedModules (texts_of left) rest →
+      AreCheckedModules (texts_of whole) (modules ++ rest)
+  pub first : (line : List ℕ) → RefusesFirst (names_of left) (texts_of left) line →
+      RefusesFirst (names_of whole) (texts_of whole) line
 
 pub modules_start : (whole : List Source) → ModulesOn whole whole []
 modules_start whole = record { modules = []; typed = tt; all = λ rest h. h; first = λ line h. h }
 
 -- the first of the texts that are left is of a checked module
-pub modules_next : (whole left after : List Source) (source : Source) (checked : List Checked) (c : Checked) (slice : List ℕ) → ModulesOn whole left checked → left ≡ source ∷ after →
+pub modules_next : (whole left after : List Source) (source : Source) (checked : List Checked) (c : Checked)
+    (slice : List ℕ) → ModulesOn whole left checked → left ≡ source ∷ after →
     slice ≡ source.text.items → IsCheckedAs source.name.now slice (Ok c) → ModulesOn whole after (checked ++ c ∷ [])
 modules_next whole left after source checked c slice h cons same here =
     let P : List Source → Type 0 = λ ss. ModulesOn whole ss checked in
@@ -64,12 +68,14 @@ modules_next whole left after source checked c slice h cons same here =
       typed = typed_behind checked on.modules c t on.typed (stands, tt);
       all = λ rest k.
           let Q : List TypedModuleTree → Type 0 = λ ms. AreCheckedModules (texts_of whole) ms in
-          subst Q (sym (append_assoc on.modules (t ∷ []) rest)) (on.all (t ∷ rest) (record { read_module = m; read = read; typed = typed; checked = good }, k));
+          subst Q (sym (append_assoc on.modules (t ∷ []) rest))
+          (on.all (t ∷ rest) (record { read_module = m; read = read; typed = typed; checked = good }, k));
       first = λ line k. on.first line (inr (text, k));
     }
 
 -- the first of them is refused
-pub modules_refused : (whole left after : List Source) (source : Source) (checked : List Checked) (why : Refusal) → ModulesOn whole left checked → left ≡ source ∷ after →
+pub modules_refused : (whole left after : List Source) (source : Source) (checked : List Checked) (why : Refusal) →
+    ModulesOn whole left checked → left ≡ source ∷ after →
     IsCheckedAs source.name.now source.text.items (Err why) → AreModules (names_of whole) (texts_of whole) (Err why)
 modules_refused whole left after source checked (refusal.Faulty n f) h cons refused =
     let P : List Source → Type 0 = λ ss. ModulesOn whole ss checked in
@@ -91,25 +97,31 @@ modules_end whole checked on =
 -- names of threads' functions
 
 -- the name at which a loop is
-pub name_at : (names : List (Bor (List ℕ))) (i : ℕ) (d : Bor (List ℕ)) → i < length names → list_all is_name (texts names) ≡ true → is_name (get_or names i d).now ≡ true
+pub name_at : (names : List (Bor (List ℕ))) (i : ℕ) (d : Bor (List ℕ)) → i < length names →
+    list_all is_name (texts names) ≡ true → is_name (get_or names i d).now ≡ true
 name_at [] i d within all = absurd (omega (arith, within))
 name_at (n ∷ ns) zero d within all = left_part (is_name n.now) (list_all is_name (texts ns)) all
-name_at (n ∷ ns) (suc i) d within all = name_at ns i d (omega (arith, within)) (right_part (is_name n.now) (list_all is_name (texts ns)) all)
+name_at (n ∷ ns) (suc i) d within all = name_at ns i d (omega (arith, within))
+    (right_part (is_name n.now) (list_all is_name (texts ns)) all)
 
 -- the lines of one more thread
 map_behind : {X : Type 0} (f : ℕ → X) (xs : List ℕ) (x : ℕ) → map f (xs ++ x ∷ []) ≡ map f xs ++ f x ∷ []
 map_behind f [] x = refl
 map_behind f (y ∷ ys) x = ap (λ zs. f y ∷ zs) (map_behind f ys x)
 
-pub line_more : {X : Type 0} (f : ℕ → X) (old : List X) (n : ℕ) → (old ++ map f (threads_from 0 n)) ++ f n ∷ [] ≡ old ++ map f (threads_from 0 (n + 1))
+pub line_more : {X : Type 0} (f : ℕ → X) (old : List X) (n : ℕ) →
+    (old ++ map f (threads_from 0 n)) ++ f n ∷ [] ≡ old ++ map f (threads_from 0 (n + 1))
 line_more f old n =
     let number : n + 1 ≡ suc n = omega (arith) in
     let from : 0 + n ≡ n = omega (arith) in
     append_assoc old (map f (threads_from 0 n)) (f n ∷ [])
-    ∙ ap (λ xs. old ++ xs) (sym (map_behind f (threads_from 0 n) n) ∙ ap (λ k. map f (threads_from 0 n ++ k ∷ [])) (sym from) ∙ ap (map f) (sym (threads_more 0 n)) ∙ ap (λ k. map f (threads_from 0 k)) (sym number))
+    ∙ ap (λ xs. old ++ xs) (sym (map_behind f (threads_from 0 n) n)
+    ∙ ap (λ k. map f (threads_from 0 n ++ k ∷ [])) (sym from) ∙ ap (map f) (sym (threads_more 0 n))
+    ∙ ap (λ k. map f (threads_from 0 k)) (sym number))
 
 -- why modules have no lines
-pub shown_unread : (w : World) (names texts : List (List ℕ)) (why : Refusal) → AreModules names texts (Err why) → IsWorldShown w names texts (Err why)
+pub shown_unread : (w : World) (names texts : List (List ℕ)) (why : Refusal) → AreModules names texts (Err why) →
+    IsWorldShown w names texts (Err why)
 shown_unread w names texts (refusal.Faulty n f) h = h
 shown_unread w names texts refusal.Memory h = tt
 shown_unread w names texts refusal.Usage h = absurd h
@@ -131,7 +143,8 @@ line_not_memory f line h same =
     absurd (cc no)
 
 -- why modules are no program
-pub joined_refused : (ms : List TypedModuleTree) (names : List (List ℕ)) (f : LinkFault) (why : Refusal) → (f ≢ link.Memory → first_refusal (units_of ms) names ≡ Some f) → IsUnlinked f why →
+pub joined_refused : (ms : List TypedModuleTree) (names : List (List ℕ)) (f : LinkFault) (why : Refusal) →
+    (f ≢ link.Memory → first_refusal (units_of ms) names ≡ Some f) → IsUnlinked f why →
     IsJoined ms names (Err why)
 joined_refused ms names f (refusal.Unlinked line) known h = (f, known (line_not_memory f line h), h)
 joined_refused ms names f refusal.Memory known h = tt
@@ -147,8 +160,10 @@ turned_reaches e first (schedule items) = (_, turns_interleave e first first [] 
 turned_reaches e first (rounds count) = (_, rounds_interleave e first first [] count at_first)
 
 -- the lines of a program's world are what `world` prints
-pub prints : (w : World) (names threads texts lines : List (List ℕ)) (ms : List TypedModuleTree) → names ≡ w.names → threads ≡ w.threads → AreCheckedModules texts ms →
-    IsProgram ms threads → IsRaceFree (env_of ms) (program_world ms threads) → lines ≡ world_lines names ms (turned (env_of ms) w.turns (program_world ms threads)) →
+pub prints : (w : World) (names threads texts lines : List (List ℕ)) (ms : List TypedModuleTree) → names ≡ w.names →
+    threads ≡ w.threads → AreCheckedModules texts ms →
+    IsProgram ms threads → IsRaceFree (env_of ms) (program_world ms threads) →
+    lines ≡ world_lines names ms (turned (env_of ms) w.turns (program_world ms threads)) →
     PrintsWorld w texts lines
 prints w names threads texts lines ms same_names same_threads read program free whole =
     let P : List (List ℕ) → Type 0 = λ ts. IsProgram ms ts in

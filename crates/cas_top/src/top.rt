@@ -24,13 +24,16 @@ use std::thread::Threads;
 /// | Status | Where |
 /// |---|---|
 /// | 0 | the command's text was put whole |
-/// | 1 | the first module text that isn't checked has a fault, R1 to R8, or its module one of typing, T1 to T8, or of ownership, O1 to O8, told with its place; or `run`'s module is checked but isn't of the first form, or its function isn't the thread's (`R0`) |
+/// | 1 | a module isn't checked; or `run`'s is, but isn't of the first form or hasn't the thread's function (`R0`) |
 /// | 2 | the words give no command |
 /// | 3 | a name's text couldn't be read |
 /// | 4 | a put failed |
 /// | 5 | the modules of `world` are checked, but with its threads they are no program, L1 to L5 |
 /// | 9 | running out of memory |
 /// | 12 | a text is longer than its limit |
+///
+/// A module isn't checked if its text has a fault, R1 to R8, or the module one of typing, T1 to T8, or of ownership,
+/// O1 to O8. The line names the fault of the first such module, and its place.
 ///
 /// The causes of 0, 1, 2, 5 and 12 exclude each other if the shelf reports its texts (`laws::causes_exclude`), and
 /// no other status comes but 3, 4 and 9: so each of these five comes exactly if its cause holds, but for a read or
@@ -57,7 +60,8 @@ pub fn cascc<R: Threads + Sync, S: Shelf, O: Sink, E: Sink, G: Gate>(
     ensures misused { result ≡ usage_status →
         IsMisused (command_of words.now) (E.taken err.old) (E.taken err.new) }
     ensures unread { result ≡ unread_status →
-        IsUnread (S.texts shelf.old) (command_of words.now) (S.failed shelf.old) (S.failed shelf.new) (E.taken err.old) (E.taken err.new) }
+        IsUnread (S.texts shelf.old) (command_of words.now) (S.failed shelf.old) (S.failed shelf.new)
+        (E.taken err.old) (E.taken err.new) }
     ensures too_long { result ≡ too_long_status →
         IsTooLong (S.texts shelf.old) (command_of words.now) (E.taken err.old) (E.taken err.new) }
 
@@ -75,7 +79,8 @@ pub fn cascc<R: Threads + Sync, S: Shelf, O: Sink, E: Sink, G: Gate>(
 
     // Out of memory.
     ensures out_of_memory { result ≡ memory_status →
-        IsTried (line_of (codes "cascc: memory")) (E.faults err.old) (E.faults err.new) (E.taken err.old) (E.taken err.new) }
+        IsTried (line_of (codes "cascc: memory")) (E.faults err.old) (E.faults err.new) (E.taken err.old)
+        (E.taken err.new) }
 
     // What `out` has after a put that failed or after running out of memory, and what stays as it was.
     ensures cut { (result ≡ unwritten_status) ⊎ (result ≡ memory_status) →

@@ -6,4 +6,7 @@ pub returns : goal.returns
 returns c =
     let run = run_view c.args.given in
     let others = rw c.in-None.is at c.in_ok-lines.ensures.others in
-    record { shown = formless_run run run.source c.args.text.now c.in_ok-checked.checked c.typed.result.now c.in_ok-checked.ensures.checked c.typed.ensures others }
+    record {
+      shown = formless_run run run.source c.args.text.now c.in_ok-checked.checked c.typed.result.now
+          c.in_ok-checked.ensures.checked c.typed.ensures others;
+    }

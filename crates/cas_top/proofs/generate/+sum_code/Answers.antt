@@ -16,8 +16,11 @@ pub returns-in_ok-sum_code-in-Lit-default-I32-deref : goal.returns-in_ok-sum_cod
 returns-in_ok-sum_code-in-Lit-default-I32-deref t c =
     let left = expr_tree c.in-Binary-Add-default-default.left.value in
     let value = c.in-Lit-default-I32-deref.value in
-    let sum : expr_tree c.args.expr.now ≡ binary Add left (expr_tree c.in-Binary-Add-default-default.right.value) = grind (arith) in
+    let sum : expr_tree c.args.expr.now ≡ binary Add left (expr_tree c.in-Binary-Add-default-default.right.value) =
+    grind (arith) in
     let right : expr_tree c.deref.result.now ≡ literal value I32 = grind (arith) in
     let P : ExprTree → Type 0 = λ a. IfOk c.with_literal.result (λ o. IsSumCode a o) in
-    let is = sum ∙ ap (binary Add left) (ap expr_tree (sym c.deref.ensures) ∙ right) ∙ ap (λ a. binary Add a (literal value I32)) (ap expr_tree (sym c.deref-in-Lit-default-I32-deref.ensures)) in
-    subst P (sym is) (c.with_literal.ensures (expr_tree c.deref-in-Lit-default-I32-deref.result.now) c.in_ok-sum_code-in-Lit-default-I32-deref.ensures)
+    let is = sum ∙ ap (binary Add left) (ap expr_tree (sym c.deref.ensures) ∙ right)
+    ∙ ap (λ a. binary Add a (literal value I32)) (ap expr_tree (sym c.deref-in-Lit-default-I32-deref.ensures)) in
+    subst P (sym is) (c.with_literal.ensures (expr_tree c.deref-in-Lit-default-I32-deref.result.now)
+    c.in_ok-sum_code-in-Lit-default-I32-deref.ensures)

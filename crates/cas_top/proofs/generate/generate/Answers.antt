@@ -8,8 +8,10 @@ returns c =
     let name = c.args.name.now in
     let items = map item_tree c.args.tree.now.items in
     let (p, prints) = c.in-Some-only_printed.ensures.found in
-    let made = all_generated name items (fun_tree c.in-Some.fun.now) (expr_tree c.in-Some-only_printed.printed.now) p c.print_code.result
-    (ap (map item_tree) (sym c.as_slice.ensures) ∙ c.in-Some.ensures.found) (sym c.is_entry_named.ensures ∙ c.if-not-is_entry_named.false)
+    let made = all_generated name items (fun_tree c.in-Some.fun.now) (expr_tree c.in-Some-only_printed.printed.now)
+    p c.print_code.result
+    (ap (map item_tree) (sym c.as_slice.ensures) ∙ c.in-Some.ensures.found)
+    (sym c.is_entry_named.ensures ∙ c.if-not-is_entry_named.false)
     (ap stmt_trees (sym c.as_slice-2.ensures) ∙ prints) c.print_code.ensures in
     record {
       form = form_generated name items c.print_code.result made;

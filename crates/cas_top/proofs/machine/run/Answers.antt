@@ -20,7 +20,8 @@ returns-in-Some c = (
 
 pub loop-machine-smaller : goal.loop-machine-smaller
 loop-machine-smaller c =
-    fewer_left _ c.loop-machine.machine c.step.new.self c.in_ok-step.ensures (ap (λ (s : State). s.end) (sym c.machine.view_is) ∙ c.in_default.is)
+    fewer_left _ c.loop-machine.machine c.step.new.self c.in_ok-step.ensures
+    (ap (λ (s : State). s.end) (sym c.machine.view_is) ∙ c.in_default.is)
 
 pub loop-machine-preserved : goal.loop-machine-preserved
 loop-machine-preserved c = record {

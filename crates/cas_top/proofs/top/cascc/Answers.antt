@@ -6,7 +6,8 @@ pub returns-in-Err-perform-clause-unwritten : goal.returns-in-Err-perform-clause
 returns-in-Err-perform-clause-unwritten g c = λ four.
     let given = rw c.in-Ok-Some.field-0-is at c.in-Ok-Some.ensures.given in
     rw (sym given)
-    (unwritten_command _ _ _ _ _ _ _ _ c.in-Err-perform.refusal _ _ _ _ _ c.in-Err-perform.ensures.end c.in-Err-perform.ensures.counted c.refuse.ensures four)
+    (unwritten_command _ _ _ _ _ _ _ _ c.in-Err-perform.refusal _ _ _ _ _ c.in-Err-perform.ensures.end
+    c.in-Err-perform.ensures.counted c.refuse.ensures four)
 
 pub returns-in-Ok-None-clause-unwritten : goal.returns-in-Ok-None-clause-unwritten
 returns-in-Ok-None-clause-unwritten g c = λ four.

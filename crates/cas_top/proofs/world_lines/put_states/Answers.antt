@@ -18,7 +18,8 @@ loop-thread-preserved c = λ ms entries w is.
     let line = c.in_ok-state_line.ensures
     ∙ ap (λ s. state_line names c.cells-cells.result.now n s) (c.state-state.ensures ms entries w is)
     ∙ ap (λ k. state_line names k n (state_shown (state_of (env_of ms) w n))) cells in
-    c.in_ok-push.ensures.items ∙ ap (λ l. l ++ c.in_ok-state_line.field-0 ∷ []) (c.loop-thread.invariant ms entries w is)
+    c.in_ok-push.ensures.items ∙ ap (λ l. l ++ c.in_ok-state_line.field-0 ∷ [])
+    (c.loop-thread.invariant ms entries w is)
     ∙ ap (λ x. (old ++ map f (threads_from 0 n)) ++ x ∷ []) line ∙ line_more f old n
 
 pub returns : goal.returns
@@ -26,5 +27,13 @@ returns c = λ ms entries w is.
     let world = c.args.world.now in
     let f = thread_line (texts c.args.names.now) ms w in
     let end : c.loop-thread.thread ≡ length w.threads =
-    omega (arith, c.loop-thread-test.false, c.loop-thread.auto.thread-end, c.threads-thread-end.ensures, world.threads.ok.0, threads_length world.program world.threads.items w.threads is.threads_are) in
-    subst (λ n. c.loop-thread.lines.items ≡ c.args.lines.now.items ++ map f (threads_from 0 n)) end (c.loop-thread.invariant ms entries w is)
+    omega (
+      arith,
+      c.loop-thread-test.false,
+      c.loop-thread.auto.thread-end,
+      c.threads-thread-end.ensures,
+      world.threads.ok.0,
+      threads_length world.program world.threads.items w.threads is.threads_are,
+    ) in
+    subst (λ n. c.loop-thread.lines.items ≡ c.args.lines.now.items ++ map f (threads_from 0 n)) end
+    (c.loop-thread.invariant ms entries w is)

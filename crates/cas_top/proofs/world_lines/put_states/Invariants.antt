@@ -9,5 +9,6 @@ use Rattle.cas_top.proofs.world_lines.put_states.Given as goal
 
 -- the lines of the threads before this one
 abbrev pub invariant-loop-thread : goal.invariant-loop-thread
-invariant-loop-thread l = (ms : List TypedModuleTree) (entries : List (List ℕ)) (w : World) → IsWorldOf l.world ms entries w →
+invariant-loop-thread l = (ms : List TypedModuleTree) (entries : List (List ℕ)) (w : World) →
+    IsWorldOf l.world ms entries w →
     l.lines.items ≡ l.fn.lines.items ++ map (thread_line (texts l.names) ms w) (threads_from 0 l.thread)

@@ -9,7 +9,8 @@ use Rattle.cas_top.proofs.worlds.joined.Goals as goal
 pub returns-in-Ok : goal.returns-in-Ok
 returns-in-Ok c = λ ms typed.
     let made = c.in-Ok.ensures.made ms typed in
-    subst (λ ns. IsProgramOf c.in-Ok.program ms ns × IsRaceFree (env_of ms) (program_world ms ns)) (c.as_slice.ensures.value ∙ c.in_ok-entries.ensures)
+    subst (λ ns. IsProgramOf c.in-Ok.program ms ns × IsRaceFree (env_of ms) (program_world ms ns))
+    (c.as_slice.ensures.value ∙ c.in_ok-entries.ensures)
     (made, c.in-Ok.ensures.race_free ms _ made)
 
 pub returns : goal.returns

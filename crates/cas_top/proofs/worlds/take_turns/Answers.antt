@@ -14,14 +14,17 @@ use Rattle.cas_top.proofs.worlds.take_turns.Goals as goal
 
 pub returns-in-Schedule : goal.returns-in-Schedule
 returns-in-Schedule c =
-    let P : List Item → Type 0 = λ is. OnOk c.schedule.result ((ms : List TypedModuleTree) (names : List (List ℕ)) (w : World) → IsWorldOf c.args.world.now ms names w →
+    let P : List Item → Type 0 = λ is. OnOk c.schedule.result
+    ((ms : List TypedModuleTree) (names : List (List ℕ)) (w : World) → IsWorldOf c.args.world.now ms names w →
     IsWorldOf c.schedule.new.world ms names (turns (env_of ms) w (turns_of (map item_view is)))) in
-    let Q : Turns → Type 0 = λ t. OnOk c.schedule.result ((ms : List TypedModuleTree) (names : List (List ℕ)) (w : World) → IsWorldOf c.args.world.now ms names w →
+    let Q : Turns → Type 0 = λ t. OnOk c.schedule.result
+    ((ms : List TypedModuleTree) (names : List (List ℕ)) (w : World) → IsWorldOf c.args.world.now ms names w →
     IsWorldOf c.schedule.new.world ms names (turned (env_of ms) (turns_view t) w)) in
     subst Q (sym c.in-Schedule.is) (subst P c.as_slice.ensures.value c.schedule.ensures)
 
 pub returns-in-Rounds : goal.returns-in-Rounds
 returns-in-Rounds c =
-    let Q : Turns → Type 0 = λ t. OnOk c.rounds.result ((ms : List TypedModuleTree) (names : List (List ℕ)) (w : World) → IsWorldOf c.args.world.now ms names w →
+    let Q : Turns → Type 0 = λ t. OnOk c.rounds.result
+    ((ms : List TypedModuleTree) (names : List (List ℕ)) (w : World) → IsWorldOf c.args.world.now ms names w →
     IsWorldOf c.rounds.new.self ms names (turned (env_of ms) (turns_view t) w)) in
     subst Q (sym c.in-Rounds.is) c.rounds.ensures.rounds
