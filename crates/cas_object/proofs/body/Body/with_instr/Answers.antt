@@ -13,7 +13,7 @@ invariant_of-result c =
     let i = c.args.instr in
     let put : c.push.new.self.items ≡ old ++ Run i ∷ [] = search rules in
     let small : instructions old < 4194304 = ltb-true _ _
-        (ap (λ (b : Body). nat_lt (instructions b.lines) 4194304) c.self.view_is ∙ c.requires) in
+    (ap (λ (b : Body). nat_lt (instructions b.lines) 4194304) c.self.view_is ∙ c.requires) in
     let count : c.self.inside.instructions ≡ instructions old = kept.1 in
     let counted : c.self.inside.instructions + 1 ≡ instructions c.push.new.self.items =
     ap (λ n. n + 1) count ∙ (sym (instructions_more old i) ∙ ap instructions (sym put)) in (
