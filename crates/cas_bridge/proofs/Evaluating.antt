@@ -458,7 +458,8 @@ module _ (S C : Type 0) (Objects : S → C → Type 0) (Points : S → C → ℕ
         (λ a b e. subst (λ x. EffectQueries (asks.gives (items.continues (ev.either some others a)))
         (asks.gives (items.continues (ev.either some others x)))) e (gives (continues (ev.either some others a))))
 
-    returned_same : (a : Option TypedExprTree) → IsAddressableOption tys a → EffectQueries (returned s a) (returned s' a)
+    returned_same : (a : Option TypedExprTree) → IsAddressableOption tys a →
+        EffectQueries (returned s a) (returned s' a)
     returned_same None h = gives (returns tt)
     returned_same (Some a) h = alike_then (value_same a h) (λ v v' i. gives (returns i))
 
@@ -496,7 +497,8 @@ module _ (S C : Type 0) (Objects : S → C → Type 0) (Points : S → C → ℕ
         EffectQueries (effect_of s ret cont) (effect_of s' ret cont)
     effect_same ret [] h = fallen_same ret
     effect_same ret (items.begin a ∷ cont) h = statement_same a h cont
-    effect_same ret (items.begun p c a ∷ cont) h = chooses_same (Some c) h (items.begin a ∷ items.begun p c a ∷ cont) cont
+    effect_same ret (items.begun p c a ∷ cont) h = chooses_same (Some c) h (items.begin a ∷ items.begun p c a ∷ cont)
+        cont
     effect_same ret (items.loop p c after a ∷ cont) h = chooses_same c h
         (items.begin a ∷ items.next p after ∷ items.loop p c after a ∷ cont) cont
     effect_same ret (items.next p t.absent ∷ cont) h = gives (continues cont)

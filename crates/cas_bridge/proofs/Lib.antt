@@ -6,6 +6,7 @@ pub mod Leaving
 pub mod Locking
 pub mod Meeting
 pub mod Owners
+pub mod Porting
 pub mod Running
 pub mod Sorted
 pub mod Stepping

@@ -21,7 +21,8 @@ use Rattle.cas_bridge.specs.Steps.{with_passed, HaveRoomFor}
 use Rattle.cas_runs.proofs.Fronting.{so}
 
 -- two objects are the same in both, or in neither
-pub same_alike : (owner : ℕ → ClightFun) (a b : step.Object) (a' b' : clight.Object) → ObjectsMatch owner a a' → ObjectsMatch owner b b' →
+pub same_alike : (owner : ℕ → ClightFun) (a b : step.Object) (a' b' : clight.Object) → ObjectsMatch owner a a' →
+    ObjectsMatch owner b b' →
     clight.same_object a' b' ≡ step.same_object a b
 same_alike owner a b a' b' h k = ap (λ x. same_home x b'.home) h.home ∙ ap (λ x. same_home (home_of owner a) x) k.home
     ∙ by (nat_eq a.serial b.serial) refl

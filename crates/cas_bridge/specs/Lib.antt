@@ -1,4 +1,5 @@
 pub mod Alike
 pub mod Matching
+pub mod Ported
 pub mod Steps
 pub mod Threads

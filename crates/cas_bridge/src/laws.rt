@@ -1,5 +1,6 @@
 //! Laws of the bridge, each the contract of a function without effect.
 
+ghost use Rattle.cas_bridge.specs.Ported.{ClightIsPortable, ClightStepsAreSame};
 ghost use Rattle.cas_bridge.specs.Steps.{StepsAgree};
 ghost use Rattle.cas_bridge.specs.Threads.{ThreadsAgree, ThreadsAreFramed, ThreadsStart};
 
@@ -16,4 +17,12 @@ pub fn threads_agree()
     ensures starts { ThreadsStart }
     ensures steps { ThreadsAgree }
     ensures frame { ThreadsAreFramed }
+{}
+
+/// Clight is portable: an activation does the same wherever its objects are in memory, and whatever its serial number
+/// is, and its pointers go to places of their objects. So a step of a unit's activation is that of the same activation
+/// of the thread of the whole program, over the same share.
+pub fn clight_is_portable()
+    ensures portable { ClightIsPortable }
+    ensures steps { ClightStepsAreSame }
 {}

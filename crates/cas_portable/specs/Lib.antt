@@ -1,0 +1,2 @@
+pub mod Portable
+pub mod Renaming
