@@ -1,3 +1,4 @@
 pub mod Graph
 pub mod Rtl
 pub mod Code
+pub mod Rooms

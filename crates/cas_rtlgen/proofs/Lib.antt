@@ -1,3 +1,5 @@
+pub mod Lists
+pub mod Drafts
 pub mod Usable
 pub mod Queries
 pub mod Values
@@ -7,3 +9,5 @@ pub mod Entry
 pub mod Pass
 pub mod Making
 pub mod Weighing
+pub mod Rooms
+pub mod Units

@@ -7,7 +7,8 @@ use Rattle.cas_sel.specs.Rooms.{own_value, own_values, inner_values, all_inner_v
 use Rattle.cas_rtl.specs.Graph as graph
 use Rattle.cas_rtl.specs.Graph.{Node, Graph}
 use Rattle.cas_rtlgen.specs.Makes.{Body, body_of, Span, IsWithin, IsApart, AreApart, IsThere, AreThere, operates, loads, chooses, Into, moves, computes, FindsOne, in_place, computed, Finds, finds_none, finds_more, Decides, tests, always_left, always_right, tests_if, Does, skips, sets, stores, calls, in_order, branches, loops, blocks, leaves, leaves_none, returns_nothing, returns, locks, unlocks, prints, DoesAll, does_none, does_more, Zeros, no_zeros, one_zero, IsMadeGraph}
-use Rattle.cas_rtlgen.specs.Making.{Piece, comes_into, is_found, register, registers, value, all, decides, exit_to, statement, sequence, zeros, made_body, made_zeros, made_graph}
+use Rattle.cas_rtlgen.specs.declared.draft.Way.TheVariants.{ComesInto, IsFound}
+use Rattle.cas_rtlgen.specs.Making.{Piece, register, registers, value, all, decides, exit_to, statement, sequence, zeros, made_body, made_zeros, made_graph}
 
 pub length_more : {X : Type 0} (xs ys : List X) → length (xs ++ ys) ≡ length xs + length ys
 length_more [] ys = omega arith
@@ -42,6 +43,12 @@ module _ (nodes : List (Node ℕ)) where
         (let same : base + (length xs + i) ≡ base + length xs + i = omega arith in same)
         (p.get (length xs + i) x (get_right xs ys i ∙ e));
   }
+
+  part_after : (base : ℕ) (xs ys zs : List (Node ℕ)) → Part nodes base (xs ++ ys ++ zs) →
+      Part nodes (base + length xs + length ys) zs
+  part_after base xs ys zs p =
+      at_base (base + length (xs ++ ys)) (base + length xs + length ys) zs
+      (let more = length_more xs ys in omega (arith, more)) (part_right base (xs ++ ys) zs p)
 
   part_tail : (base : ℕ) (y : Node ℕ) (ys : List (Node ℕ)) → Part nodes base (y ∷ ys) → Part nodes (base + 1) ys
   part_tail base y ys p = record {
@@ -92,8 +99,8 @@ module _ (b : Body) where
 
   mutual
     into_is : (e : Expr) (base next low r : ℕ) → b.temporaries ≤ low → low + inner_values e ≤ b.registers →
-        P base (value e base next low r comes_into).nodes →
-        Into b (span low (low + inner_values e)) e (value e base next low r comes_into).entry next r
+        P base (value e base next low r ComesInto).nodes →
+        Into b (span low (low + inner_values e)) e (value e base next low r ComesInto).entry next r
     into_is (temporary t) base next low r le few p = moves (part_head N base _ _ p)
     into_is (operation o es) base next low r le few p =
         computes (operates (operands_are es (base + 1) base low le few (part_tail N base _ _ p))
@@ -101,24 +108,24 @@ module _ (b : Body) where
     into_is (load m es) base next low r le few p =
         computes (loads (operands_are es (base + 1) base low le few (part_tail N base _ _ p)) (part_head N base _ _ p))
     into_is (if_ c x y) base next low r le few p =
-        let one = value x base next low r comes_into in
-        let two = value y (base + length one.nodes) next (low + inner_values x) r comes_into in
-        let three = decides c (base + length (one.nodes ++ two.nodes)) one.entry two.entry
-        (low + (inner_values x + inner_values y)) in
+        let one = value x base next low r ComesInto in
+        let two = value y (base + length one.nodes) next (low + inner_values x) r ComesInto in
+        let three = decides c (base + length one.nodes + length two.nodes) one.entry two.entry
+        (low + inner_values x + inner_values y) in
         let front = part_left N base (one.nodes ++ two.nodes) three.nodes p in
         computes (chooses _ _ _ (inside (omega arith) (omega arith)) (inside (omega arith) (omega arith))
         (inside (omega arith) (omega arith))
-        (decides_is c (base + length (one.nodes ++ two.nodes)) one.entry two.entry
-        (low + (inner_values x + inner_values y)) (omega (arith, le)) (omega (arith, few))
-        (part_right N base (one.nodes ++ two.nodes) three.nodes p))
+        (decides_is c (base + length one.nodes + length two.nodes) one.entry two.entry
+        (low + inner_values x + inner_values y) (omega (arith, le)) (omega (arith, few))
+        (part_after N base one.nodes two.nodes three.nodes p))
         (into_is x base next low r le (omega (arith, few)) (part_left N base one.nodes two.nodes front))
         (into_is y (base + length one.nodes) next (low + inner_values x) r (omega (arith, le)) (omega (arith, few))
         (part_right N base one.nodes two.nodes front)))
 
     -- in a pseudo-register that is taken before
     one_is : (e : Expr) (base next low r : ℕ) → b.temporaries ≤ r → r + own_value e ≤ low →
-        low + inner_values e ≤ b.registers → P base (value e base next low r is_found).nodes →
-        FindsOne b (span r (low + inner_values e)) e (value e base next low r is_found).entry next (register e r)
+        low + inner_values e ≤ b.registers → P base (value e base next low r IsFound).nodes →
+        FindsOne b (span r (low + inner_values e)) e (value e base next low r IsFound).entry next (register e r)
     one_is (temporary t) base next low r le ge few p = in_place
     one_is (operation o es) base next low r le ge few p =
         computed (span low (low + inner_values (operation o es)))
@@ -131,17 +138,17 @@ module _ (b : Body) where
         (part_head N base _ _ p)) (inside (omega (arith, ge)) (omega arith)) (omega arith) (omega (arith, ge))
         (omega (arith, ge, few))
     one_is (if_ c x y) base next low r le ge few p =
-        let one = value x base next low r comes_into in
-        let two = value y (base + length one.nodes) next (low + inner_values x) r comes_into in
-        let three = decides c (base + length (one.nodes ++ two.nodes)) one.entry two.entry
-        (low + (inner_values x + inner_values y)) in
+        let one = value x base next low r ComesInto in
+        let two = value y (base + length one.nodes) next (low + inner_values x) r ComesInto in
+        let three = decides c (base + length one.nodes + length two.nodes) one.entry two.entry
+        (low + inner_values x + inner_values y) in
         let front = part_left N base (one.nodes ++ two.nodes) three.nodes p in
         computed (span low (low + inner_values (if_ c x y)))
         (chooses _ _ _ (inside (omega arith) (omega arith)) (inside (omega arith) (omega arith))
         (inside (omega arith) (omega arith))
-        (decides_is c (base + length (one.nodes ++ two.nodes)) one.entry two.entry
-        (low + (inner_values x + inner_values y)) (omega (arith, le, ge)) (omega (arith, few))
-        (part_right N base (one.nodes ++ two.nodes) three.nodes p))
+        (decides_is c (base + length one.nodes + length two.nodes) one.entry two.entry
+        (low + inner_values x + inner_values y) (omega (arith, le, ge)) (omega (arith, few))
+        (part_after N base one.nodes two.nodes three.nodes p))
         (into_is x base next low r (omega (arith, le, ge)) (omega (arith, few))
         (part_left N base one.nodes two.nodes front))
         (into_is y (base + length one.nodes) next (low + inner_values x) r (omega (arith, le, ge)) (omega (arith, few))
@@ -154,7 +161,7 @@ module _ (b : Body) where
     all_are no_more base next first low le ge few p = finds_none
     all_are (one_more e es) base next first low le ge few p =
         let rest = all es base next (first + own_value e) low in
-        let head = value e (base + length rest.nodes) rest.entry (low + all_inner_values es) first is_found in
+        let head = value e (base + length rest.nodes) rest.entry (low + all_inner_values es) first IsFound in
         finds_more _ _
         (one_is e (base + length rest.nodes) rest.entry (low + all_inner_values es) first le (omega (arith, ge))
         (omega (arith, few)) (part_right N base rest.nodes head.nodes p)) (inside (omega arith) (omega arith))
@@ -171,7 +178,7 @@ module _ (b : Body) where
     operands_are (one_more e es) base next low le few p =
         let start = low + own_values (one_more e es) in
         let rest = all es base next (low + own_value e) start in
-        let head = value e (base + length rest.nodes) rest.entry (start + all_inner_values es) low is_found in
+        let head = value e (base + length rest.nodes) rest.entry (start + all_inner_values es) low IsFound in
         finds_more _ _
         (one_is e (base + length rest.nodes) rest.entry (start + all_inner_values es) low le (omega arith)
         (omega (arith, few)) (part_right N base rest.nodes head.nodes p)) (inside (omega arith) (omega arith))
@@ -189,14 +196,14 @@ module _ (b : Body) where
     decides_is (if_test x y z) base left right low le few p =
         let two = decides y base left right low in
         let three = decides z (base + length two.nodes) left right (low + test_values y) in
-        let one = decides x (base + length (two.nodes ++ three.nodes)) two.entry three.entry
-        (low + (test_values y + test_values z)) in
+        let one = decides x (base + length two.nodes + length three.nodes) two.entry three.entry
+        (low + test_values y + test_values z) in
         let front = part_left N base (two.nodes ++ three.nodes) one.nodes p in
         tests_if _ _ _ (inside (omega arith) (omega arith)) (inside (omega arith) (omega arith))
         (inside (omega arith) (omega arith))
-        (decides_is x (base + length (two.nodes ++ three.nodes)) two.entry three.entry
-        (low + (test_values y + test_values z)) (omega (arith, le)) (omega (arith, few))
-        (part_right N base (two.nodes ++ three.nodes) one.nodes p))
+        (decides_is x (base + length two.nodes + length three.nodes) two.entry three.entry
+        (low + test_values y + test_values z) (omega (arith, le)) (omega (arith, few))
+        (part_after N base two.nodes three.nodes one.nodes p))
         (decides_is y base left right low le (omega (arith, few)) (part_left N base two.nodes three.nodes front))
         (decides_is z (base + length two.nodes) left right (low + test_values y) (omega (arith, le))
         (omega (arith, few))
@@ -217,7 +224,7 @@ module _ (b : Body) where
     stmt_is (st.store a e) exits base next low le few p =
         let es = a.operands in
         let r = low + own_values es in
-        let stored = value e (base + 1) base (r + own_value e) r is_found in
+        let stored = value e (base + 1) base (r + own_value e) r IsFound in
         let ops = all es (base + 1 + length stored.nodes) stored.entry low (r + own_value e + inner_values e) in
         let tail = part_tail N base _ _ p in
         let up : b.temporaries ≤ r = omega (arith, le) in
@@ -236,14 +243,14 @@ module _ (b : Body) where
     stmt_is (st.if_else c x y) exits base next low le few p =
         let one = statement x exits base next low in
         let two = statement y exits (base + length one.nodes) next (low + statement_values x) in
-        let three = decides c (base + length (one.nodes ++ two.nodes)) one.entry two.entry
-        (low + (statement_values x + statement_values y)) in
+        let three = decides c (base + length one.nodes + length two.nodes) one.entry two.entry
+        (low + statement_values x + statement_values y) in
         let front = part_left N base (one.nodes ++ two.nodes) three.nodes p in
-        branches (span (low + (statement_values x + statement_values y))
-        (low + (statement_values x + statement_values y) + test_values c)) (omega (arith, le))
-        (decides_is c (base + length (one.nodes ++ two.nodes)) one.entry two.entry
-        (low + (statement_values x + statement_values y)) (omega (arith, le)) (omega (arith, few))
-        (part_right N base (one.nodes ++ two.nodes) three.nodes p))
+        branches (span (low + statement_values x + statement_values y)
+        (low + statement_values x + statement_values y + test_values c)) (omega (arith, le))
+        (decides_is c (base + length one.nodes + length two.nodes) one.entry two.entry
+        (low + statement_values x + statement_values y) (omega (arith, le)) (omega (arith, few))
+        (part_after N base one.nodes two.nodes three.nodes p))
         (stmt_is x exits base next low le (omega (arith, few)) (part_left N base one.nodes two.nodes front))
         (stmt_is y exits (base + length one.nodes) next (low + statement_values x) (omega (arith, le))
         (omega (arith, few)) (part_right N base one.nodes two.nodes front))

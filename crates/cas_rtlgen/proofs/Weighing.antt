@@ -13,7 +13,9 @@ use Rattle.cas_sel.specs.CminorSel.{sel_parts, cminorsel, value_prices, all_pric
 use Rattle.cas_rtl.specs.Graph as graph
 use Rattle.cas_rtl.specs.Graph.{Node, Graph, node_operands, each_argument}
 use Rattle.cas_rtl.specs.Rtl.{rtl_prices, rtl}
-use Rattle.cas_rtlgen.specs.Making.{Way, comes_into, is_found, register, registers, of_temporary, value, all, decides, statement, sequence, zeros, made_body, made_zeros, made_graph}
+use Rattle.cas_rtlgen.specs.declared.draft.Way.{Way}
+use Rattle.cas_rtlgen.specs.declared.draft.Way.TheVariants.{ComesInto, IsFound}
+use Rattle.cas_rtlgen.specs.Making.{register, registers, of_temporary, value, all, decides, statement, sequence, zeros, made_body, made_zeros, made_graph}
 use Rattle.cas_rtlgen.proofs.Values.{operator_pays, reading, node_cost}
 use Rattle.cas_rtlgen.proofs.Statements.{prices_listed}
 use Rattle.cas_rtlgen.proofs.Entry.{registers_length}
@@ -35,16 +37,16 @@ weigh_more (x ∷ xs) ys =
 
 -- a value that is found pays for being read too
 abbrev spare : Way → ℕ
-spare comes_into = 0
-spare is_found = 2
+spare ComesInto = 0
+spare IsFound = 2
 
 spare_most : (way : Way) → spare way ≤ 2
-spare_most comes_into = omega arith
-spare_most is_found = omega arith
+spare_most ComesInto = omega arith
+spare_most IsFound = omega arith
 
 temporary_weight : (t base next r : ℕ) (way : Way) → weigh (of_temporary t base next r way).nodes + spare way ≤ 10
-temporary_weight t base next r comes_into = omega arith
-temporary_weight t base next r is_found = omega arith
+temporary_weight t base next r ComesInto = omega arith
+temporary_weight t base next r IsFound = omega arith
 
 mutual
   value_weight : (e : Expr) (base next low r : ℕ) (way : Way) →
@@ -65,18 +67,18 @@ mutual
       let most = spare_most way in
       omega (arith, le, one, most)
   value_weight (if_ c a b) base next low r way =
-      let one = value a base next low r comes_into in
-      let two = value b (base + length one.nodes) next (low + inner_values a) r comes_into in
-      let three = decides c (base + length (one.nodes ++ two.nodes)) one.entry two.entry
-      (low + (inner_values a + inner_values b)) in
+      let one = value a base next low r ComesInto in
+      let two = value b (base + length one.nodes) next (low + inner_values a) r ComesInto in
+      let three = decides c (base + length one.nodes + length two.nodes) one.entry two.entry
+      (low + inner_values a + inner_values b) in
       let left = weigh_more (one.nodes ++ two.nodes) three.nodes in
       let left_two = weigh_more one.nodes two.nodes in
       let right = total_append (test_prices c ++ value_prices a) (value_prices b) in
       let right_two = total_append (test_prices c) (value_prices a) in
-      let first = value_weight a base next low r comes_into in
-      let second = value_weight b (base + length one.nodes) next (low + inner_values a) r comes_into in
-      let third = test_weight c (base + length (one.nodes ++ two.nodes)) one.entry two.entry
-      (low + (inner_values a + inner_values b)) in
+      let first = value_weight a base next low r ComesInto in
+      let second = value_weight b (base + length one.nodes) next (low + inner_values a) r ComesInto in
+      let third = test_weight c (base + length one.nodes + length two.nodes) one.entry two.entry
+      (low + inner_values a + inner_values b) in
       let most = spare_most way in
       omega (arith, left, left_two, right, right_two, first, second, third, most)
 
@@ -85,11 +87,11 @@ mutual
   all_weight no_more base next first low = omega arith
   all_weight (one_more e es) base next first low =
       let rest = all es base next (first + own_value e) low in
-      let head = value e (base + length rest.nodes) rest.entry (low + all_inner_values es) first is_found in
+      let head = value e (base + length rest.nodes) rest.entry (low + all_inner_values es) first IsFound in
       let left = weigh_more rest.nodes head.nodes in
       let right = total_append (value_prices e) (all_prices es) in
       let one_weight =
-      value_weight e (base + length rest.nodes) rest.entry (low + all_inner_values es) first is_found in
+      value_weight e (base + length rest.nodes) rest.entry (low + all_inner_values es) first IsFound in
       let others = all_weight es base next (first + own_value e) low in
       omega (arith, left, right, one_weight, others)
 
@@ -103,14 +105,14 @@ mutual
   test_weight (if_test a b c) base i j low =
       let two = decides b base i j low in
       let three = decides c (base + length two.nodes) i j (low + test_values b) in
-      let one = decides a (base + length (two.nodes ++ three.nodes)) two.entry three.entry
-      (low + (test_values b + test_values c)) in
+      let one = decides a (base + length two.nodes + length three.nodes) two.entry three.entry
+      (low + test_values b + test_values c) in
       let left = weigh_more (two.nodes ++ three.nodes) one.nodes in
       let left_two = weigh_more two.nodes three.nodes in
       let right = total_append (test_prices a ++ test_prices b) (test_prices c) in
       let right_two = total_append (test_prices a) (test_prices b) in
-      let first = test_weight a (base + length (two.nodes ++ three.nodes)) two.entry three.entry
-      (low + (test_values b + test_values c)) in
+      let first = test_weight a (base + length two.nodes + length three.nodes) two.entry three.entry
+      (low + test_values b + test_values c) in
       let second = test_weight b base i j low in
       let third = test_weight c (base + length two.nodes) i j (low + test_values b) in
       omega (arith, left, left_two, right, right_two, first, second, third)
@@ -128,16 +130,16 @@ mutual
       weigh (statement a exits base next low).nodes ≤ price a
   stmt_weight st.skip exits base next low = omega arith
   stmt_weight (st.set t e) exits base next low =
-      let le = value_weight e base next low t comes_into in omega (arith, le)
+      let le = value_weight e base next low t ComesInto in omega (arith, le)
   stmt_weight (st.store a e) exits base next low =
       let es = a.operands in
       let r = low + own_values es in
-      let stored = value e (base + 1) base (r + own_value e) r is_found in
+      let stored = value e (base + 1) base (r + own_value e) r IsFound in
       let ops = all es (base + 1 + length stored.nodes) stored.entry low (r + own_value e + inner_values e) in
       let node = weigh_one (graph.store a.mode (registers es low) (register e r) next) (stored.nodes ++ ops.nodes) in
       let left = weigh_more stored.nodes ops.nodes in
       let right = total_append (all_prices es) (value_prices e) in
-      let first = value_weight e (base + 1) base (r + own_value e) r is_found in
+      let first = value_weight e (base + 1) base (r + own_value e) r IsFound in
       let second =
       all_weight es (base + 1 + length stored.nodes) stored.entry low (r + own_value e + inner_values e) in
       omega (arith, node, left, right, first, second)
@@ -152,16 +154,16 @@ mutual
   stmt_weight (st.if_else c a b) exits base next low =
       let one = statement a exits base next low in
       let two = statement b exits (base + length one.nodes) next (low + statement_values a) in
-      let three = decides c (base + length (one.nodes ++ two.nodes)) one.entry two.entry
-      (low + (statement_values a + statement_values b)) in
+      let three = decides c (base + length one.nodes + length two.nodes) one.entry two.entry
+      (low + statement_values a + statement_values b) in
       let left = weigh_more (one.nodes ++ two.nodes) three.nodes in
       let left_two = weigh_more one.nodes two.nodes in
       let right = total_append (test_prices c ++ weight_prices sel_parts a) (weight_prices sel_parts b) in
       let right_two = total_append (test_prices c) (weight_prices sel_parts a) in
       let first = stmt_weight a exits base next low in
       let second = stmt_weight b exits (base + length one.nodes) next (low + statement_values a) in
-      let third = test_weight c (base + length (one.nodes ++ two.nodes)) one.entry two.entry
-      (low + (statement_values a + statement_values b)) in
+      let third = test_weight c (base + length one.nodes + length two.nodes) one.entry two.entry
+      (low + statement_values a + statement_values b) in
       omega (arith, left, left_two, right, right_two, first, second, third)
   stmt_weight (st.loop a) exits base next low =
       let le = stmt_weight a exits (base + 1) base low in
@@ -173,16 +175,16 @@ mutual
   stmt_weight (st.exit k) exits base next low = omega arith
   stmt_weight (st.return_ None) exits base next low = omega arith
   stmt_weight (st.return_ (Some e)) exits base next low =
-      let le = value_weight e (base + 1) base (low + own_value e) low is_found in
+      let le = value_weight e (base + 1) base (low + own_value e) low IsFound in
       let one = weigh_one (graph.return_ (Some (register e low)))
-      (value e (base + 1) base (low + own_value e) low is_found).nodes in
+      (value e (base + 1) base (low + own_value e) low IsFound).nodes in
       omega (arith, le, one)
   stmt_weight (st.lock name) exits base next low = omega arith
   stmt_weight (st.unlock name) exits base next low = omega arith
   stmt_weight (st.print e) exits base next low =
-      let le = value_weight e (base + 1) base (low + own_value e) low is_found in
+      let le = value_weight e (base + 1) base (low + own_value e) low IsFound in
       let one = weigh_one (graph.out (register e low) next)
-      (value e (base + 1) base (low + own_value e) low is_found).nodes in
+      (value e (base + 1) base (low + own_value e) low IsFound).nodes in
       omega (arith, le, one)
 
   seq_weight : (bs : Statements) (exits : List ℕ) (base next low : ℕ) →

@@ -1,3 +1,5 @@
 pub mod Makes
 pub mod Match
 pub mod Making
+pub mod Drafts
+pub mod Made

@@ -5,10 +5,12 @@ use Rattle.std.specs.Prelude.{ℕ, zero, suc, ◌+◌, ◌-◌, List, [], ◌∷
 use Rattle.cas_mid.specs.Operators.{either}
 use Rattle.cas_mid.specs.Trees as st
 use Rattle.cas_sel.specs.declared.tree.Op.TheVariants.{Constant, Move}
-use Rattle.cas_sel.specs.Trees.{Expr, temporary, operation, load, if_, Exprs, no_more, one_more, Test, holds, always, if_test, Statement, Statements, Routine, listed}
+use Rattle.cas_sel.specs.Trees.{Expr, temporary, operation, load, if_, Exprs, no_more, one_more, Test, holds, always, if_test, Address, Statement, Statements, Routine, listed}
 use Rattle.cas_sel.specs.Rooms.{own_value, own_values, inner_values, all_inner_values, test_values, statement_values, all_statement_values}
 use Rattle.cas_rtl.specs.Graph as graph
 use Rattle.cas_rtl.specs.Graph.{Node, Graph}
+use Rattle.cas_rtlgen.specs.declared.draft.Way.{Way}
+use Rattle.cas_rtlgen.specs.declared.draft.Way.TheVariants.{ComesInto, IsFound}
 use Rattle.cas_rtlgen.specs.Makes.{first_registers}
 
 -- the nodes from a number on, and the node at which they begin
@@ -43,14 +45,9 @@ then_nodes p nodes = record { nodes = nodes ++ p.nodes; entry = p.entry }
 abbrev pub only : Node ℕ → (base : ℕ) → Piece
 only node base = record { nodes = node ∷ []; entry = base }
 
--- what is done with a value: it comes into a pseudo-register, or it is found there
-pub data Way : Type 0 where
-  comes_into : Way
-  is_found : Way
-
 abbrev pub of_temporary : ℕ → (base next r : ℕ) → Way → Piece
-of_temporary t base next r comes_into = only (graph.op Move (t ∷ []) r next) base
-of_temporary t base next r is_found = nothing next
+of_temporary t base next r ComesInto = only (graph.op Move (t ∷ []) r next) base
+of_temporary t base next r IsFound = nothing next
 
 -- The value comes into r, or to be found there. The nodes have the numbers from `base` on and lead to `next`; values
 -- within have the pseudo-registers from `low` on
@@ -62,17 +59,17 @@ abbrev mutual
   value (load m es) base next low r way =
       then_node (all es (base + 1) base low (low + own_values es)) (graph.load m (registers es low) r next)
   value (if_ c a b) base next low r way =
-      let one = value a base next low r comes_into in
-      let two = value b (base + length one.nodes) next (low + inner_values a) r comes_into in
-      then_nodes (decides c (base + length (one.nodes ++ two.nodes)) one.entry two.entry
-      (low + (inner_values a + inner_values b))) (one.nodes ++ two.nodes)
+      let one = value a base next low r ComesInto in
+      let two = value b (base + length one.nodes) next (low + inner_values a) r ComesInto in
+      then_nodes (decides c (base + length one.nodes + length two.nodes) one.entry two.entry
+      (low + inner_values a + inner_values b)) (one.nodes ++ two.nodes)
 
   -- the values of operands, in the pseudo-registers from `first` on
   pub all : Exprs → (base next first low : ℕ) → Piece
   all no_more base next first low = nothing next
   all (one_more e es) base next first low =
       let rest = all es base next (first + own_value e) low in
-      then_nodes (value e (base + length rest.nodes) rest.entry (low + all_inner_values es) first is_found) rest.nodes
+      then_nodes (value e (base + length rest.nodes) rest.entry (low + all_inner_values es) first IsFound) rest.nodes
 
   -- a condition leads to one node or to the other
   pub decides : Test → (base left right low : ℕ) → Piece
@@ -82,8 +79,8 @@ abbrev mutual
   decides (if_test a b c) base left right low =
       let two = decides b base left right low in
       let three = decides c (base + length two.nodes) left right (low + test_values b) in
-      then_nodes (decides a (base + length (two.nodes ++ three.nodes)) two.entry three.entry
-      (low + (test_values b + test_values c))) (two.nodes ++ three.nodes)
+      then_nodes (decides a (base + length two.nodes + length three.nodes) two.entry three.entry
+      (low + test_values b + test_values c)) (two.nodes ++ three.nodes)
 
 -- the node that leaving so many Blocks leads to
 abbrev pub exit_to : Option ℕ → (next : ℕ) → ℕ
@@ -92,32 +89,39 @@ exit_to (Some n) next = n
 
 -- a node that uses a value
 abbrev pub using : Expr → (base low : ℕ) → Node ℕ → Piece
-using e base low node = then_node (value e (base + 1) base (low + own_value e) low is_found) node
+using e base low node = then_node (value e (base + 1) base (low + own_value e) low IsFound) node
 
 abbrev pub returned : Option Expr → (base low : ℕ) → Piece
 returned None base low = only (graph.return_ None) base
 returned (Some e) base low = using e base low (graph.return_ (Some (register e low)))
 
+-- a node that uses operands
+abbrev pub using_all : Exprs → (base low : ℕ) → Node ℕ → Piece
+using_all es base low node = then_node (all es (base + 1) base low (low + own_values es)) node
+
+-- the stored value is found after the operands
+abbrev pub stored : Address → Expr → (base next low : ℕ) → Piece
+stored a e base next low =
+    let r = low + own_values a.operands in
+    let stored = value e (base + 1) base (r + own_value e) r IsFound in
+    then_node (then_nodes (all a.operands (base + 1 + length stored.nodes) stored.entry low
+    (r + own_value e + inner_values e)) stored.nodes)
+    (graph.store a.mode (registers a.operands low) (register e r) next)
+
 abbrev mutual
   -- a statement, which leads to `next`; leaving k + 1 Blocks leads to the k-th of the exits
   pub statement : Statement → (exits : List ℕ) → (base next low : ℕ) → Piece
   statement st.skip exits base next low = nothing next
-  statement (st.set t e) exits base next low = value e base next low t comes_into
-  statement (st.store a e) exits base next low =
-      let r = low + own_values a.operands in
-      let stored = value e (base + 1) base (r + own_value e) r is_found in
-      then_node (then_nodes (all a.operands (base + 1 + length stored.nodes) stored.entry low
-      (r + own_value e + inner_values e)) stored.nodes)
-      (graph.store a.mode (registers a.operands low) (register e r) next)
+  statement (st.set t e) exits base next low = value e base next low t ComesInto
+  statement (st.store a e) exits base next low = stored a e base next low
   statement (st.call t name es) exits base next low =
-      then_node (all (listed es) (base + 1) base low (low + own_values (listed es)))
-      (graph.call name (registers (listed es) low) t next)
+      using_all (listed es) base low (graph.call name (registers (listed es) low) t next)
   statement (st.seq bs) exits base next low = sequence bs exits base next low
   statement (st.if_else c a b) exits base next low =
       let one = statement a exits base next low in
       let two = statement b exits (base + length one.nodes) next (low + statement_values a) in
-      then_nodes (decides c (base + length (one.nodes ++ two.nodes)) one.entry two.entry
-      (low + (statement_values a + statement_values b))) (one.nodes ++ two.nodes)
+      then_nodes (decides c (base + length one.nodes + length two.nodes) one.entry two.entry
+      (low + statement_values a + statement_values b)) (one.nodes ++ two.nodes)
   -- its Nop stands first and leads to the body, which leads back
   statement (st.loop a) exits base next low =
       let body = statement a exits (base + 1) base low in
