@@ -1,0 +1,3 @@
+pub mod Holder
+pub mod Threads
+pub mod Turns
