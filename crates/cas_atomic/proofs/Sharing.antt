@@ -292,6 +292,6 @@ module _ {X : Type 0} (p : Setup X) where
   ends_alike x z IsDone ls h alike = h
   ends_alike x z OutOfFuel ls h alike = h
   ends_alike x z IsFull ls h alike = (halts_alike x z Full h.0 alike, h.1)
-  ends_alike x z HasFailed ls h alike = bad_alike x z h alike
+  ends_alike x z HasFailed ls h alike = (bad_alike x z h.0 alike, h.1)
   ends_alike x z OutOfOuts ls h alike =
       let c = says_alike x z (run.Prints h.0.0) h.0.1 h.0.2 alike in ((h.0.0, c.0, c.1), h.1)

@@ -38,7 +38,7 @@ EndFits Running ls b = HasEnded ls → ⊥
 EndFits IsDone ls b = HasEnded ls
 EndFits OutOfFuel ls b = HasEnded ls → ⊥
 EndFits IsFull ls b = (b ≡ Stops Full) × (HasEnded ls → ⊥)
-EndFits HasFailed ls b = IsBad b
+EndFits HasFailed ls b = IsBad b × (HasEnded ls → ⊥)
 EndFits {S = S} OutOfOuts ls b = ((v : ℕ) × (x : S) × (b ≡ Emits (run.Prints v) x)) × (HasEnded ls → ⊥)
 
 -- a thread of the machine beside its run over atomic locks
