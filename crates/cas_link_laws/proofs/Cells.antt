@@ -1,10 +1,12 @@
 -- The words of an image are the edge's cells.
-use Rattle.std.proofs.Common.{◌≡◌, ℕ, ◌+◌, ◌<◌, ◌≤◌, Bool, true, false, ◌||◌, cond, List, [], ◌∷◌, ◌++◌, length, map, drop, replicate, Option, None, ap, refl, sym, ◌∙◌, subst, arith}
+use Rattle.std.proofs.Common.{◌≡◌, ℕ, ◌+◌, ◌<◌, ◌≤◌, Bool, true, false, ◌||◌, cond, List, [], ◌∷◌, ◌++◌, length, map, drop, replicate, Option, Some, None, ap, refl, sym, ◌∙◌, subst, arith}
 use Rattle.std.specs.Prelude.{nat_eq, slice_index_or}
 use Rattle.std.specs.List.{cons_option, list_any}
 use Rattle.std.proofs.lemmas.Bool.{eq-eqb, eqb-true}
 use Rattle.std.proofs.lemmas.List.{drop-drop, get_or-drop}
 use Rattle.cas_base.specs.declared.kind.Kind.{Kind}
+use Rattle.cas_base.specs.declared.kind.Ty.{Ty}
+use Rattle.cas_base.specs.declared.kind.Ty.TheVariants.{Int, Ptr, Array, Void}
 use Rattle.cas_base.specs.declared.decl.Form.{Form}
 use Rattle.cas_base.specs.declared.decl.Form.TheVariants.{Lock, Shared, Table, Function}
 use Rattle.cas_base.specs.declared.decl.Decl.{Decl}
@@ -14,10 +16,12 @@ use Rattle.cas_base.specs.Ty.{words_of_ty}
 use Rattle.cas_settle.specs.declared.link.CellRow.{CellRow}
 use Rattle.cas_settle.specs.Settle.{words_of, cell_of, cells_from}
 use Rattle.cas_asm.specs.declared.image.Image.{Image}
-use Rattle.cas_runs.specs.Label.{Each, NameBytes}
+use Rattle.cas_runs.specs.Label.{NameBytes}
+use Rattle.cas_runs.specs.Unit.{kind_of_words}
 use Rattle.cas_runs.specs.Edge.{Cell, SharedWord, TableWord}
-use Rattle.cas_edge.specs.Edges.{of_kind, cells_of, all_cells, HasItsValues}
+use Rattle.cas_edge.specs.Edges.{of_kind, cells_of, all_cells}
 use Rattle.cas_link.specs.Image_of.{words_in, constants_in, guards_in, locks_in}
+use Rattle.cas_object_text.specs.Values.{HaveValues, IsOfWords, IsTyped, AreTyped}
 use Rattle.cas_link_laws.proofs.Standing.{AreData, StandFrom, stand}
 use Rattle.cas_refine.specs.Listing.{AreCells}
 
@@ -64,6 +68,12 @@ none-before first last (c ∷ cs) h x less =
         list_any (nat_eq x) (cond b (c.first ∷ locks_in cs) (locks_in cs)) ≡ false
     by true rest = ap (λ b. b || list_any (nat_eq x) (locks_in cs)) differ ∙ rest
     by false rest = rest
+
+pub kind-of : (ty : Ty) → IsOfWords ty → (kind : Kind) × (kind_of_words ty ≡ Some kind)
+kind-of (Int kind) h = (kind, refl)
+kind-of (Array kind size) h = (kind, refl)
+kind-of (Ptr kind) h = absurd h
+kind-of Void h = absurd h
 
 module _ (m : Image) where
   -- from this word on the image has what these cells say
@@ -130,13 +140,14 @@ module _ (m : Image) where
       )
 
   module _ (word_of num : NameBytes → Option ℕ) (agree : (name : NameBytes) → word_of name ≡ num name) where
-    step : (form : Form) (vs name : List ℕ) → is_function form ≡ false → HasItsValues form vs → (ds : List Decl)
+    step : (form : Form) (vs name : List ℕ) → is_function form ≡ false →
+        (is_lock form ≡ false → length vs ≡ words_of_form form) → IsTyped form → (ds : List Decl)
         (k : ℕ) (ws : List ℕ) (cs : List Cell) →
         From k (cons_option (cell_of word_of k name form) (cells_from word_of (k + words_of_form form) ds)) →
         (From (k + words_of_form form) (cells_from word_of (k + words_of_form form) ds) →
         AreCells m (k + words_of_form form) ws cs) →
         AreCells m k (cond (is_lock form) (1 ∷ []) vs ++ ws) (cells_of num form vs ++ cs)
-    step Lock vs name d has ds k ws cs h go =
+    step Lock vs name d count has ds k ws cs h go =
         let rest = cells_from word_of (k + 1) ds in
         let self : k ≤ k = omega arith in
         let locked : list_any (nat_eq k) m.locks ≡ true =
@@ -151,16 +162,16 @@ module _ (m : Image) where
                 h.locks x low_too ∙ ap (λ b. b || list_any (nat_eq x) (locks_in rest)) (apart x k less);
           }),
         )
-    step (Shared ty lock) vs name d has ds k ws cs h go =
+    step (Shared ty lock) vs name d count has ds k ws cs h go =
         let size = words_of_ty ty in
         let rest = cells_from word_of (k + size) ds in
-        let long : length vs ≡ size = has.count in
+        let long : length vs ≡ size = count refl in
         let last = k + size + words_of ds in
         let stands = stand word_of (k + size) ds in
         let there : k + length vs ≡ k + size = ap (λ n. k + n) long in
         subst (λ o. AreCells m k (vs ++ ws) (of_kind o (λ kind. map (λ v. SharedWord kind (num lock) v) vs) ++ cs))
-        (sym has.kind_is)
-        (shared-run has.kind (num lock) vs k (constants_in rest) (guards_in rest) ws cs
+        (sym (kind-of ty has).1)
+        (shared-run (kind-of ty has).0 (num lock) vs k (constants_in rest) (guards_in rest) ws cs
         (h.constants ∙ ap (λ n. replicate n false ++ constants_in rest) (sym long))
         (h.guards ∙ ap (λ n. replicate n (word_of lock) ++ guards_in rest) (sym long)
         ∙ ap (λ g. replicate (length vs) g ++ guards_in rest) (agree lock))
@@ -172,10 +183,10 @@ module _ (m : Image) where
           guards = ap (λ n. drop n m.guards) (sym there) ∙ q;
           locks = λ x low. let low_too : k ≤ x = omega (arith, low) in h.locks x low_too;
         }))))
-    step (Table ty) vs name d has ds k ws cs h go =
+    step (Table ty) vs name d count has ds k ws cs h go =
         let size = words_of_ty ty in
         let rest = cells_from word_of (k + size) ds in
-        let long : length vs ≡ size = has.count in
+        let long : length vs ≡ size = count refl in
         let there : k + length vs ≡ k + size = ap (λ n. k + n) long in
         table-run vs k (constants_in rest) (guards_in rest) ws cs
         (h.constants ∙ ap (λ n. replicate n true ++ constants_in rest) (sym long))
@@ -185,11 +196,11 @@ module _ (m : Image) where
           guards = ap (λ n. drop n m.guards) (sym there) ∙ q;
           locks = λ x low. let low_too : k ≤ x = omega (arith, low) in h.locks x low_too;
         })))
-    step (Function ret params holds) vs name d has ds k ws cs h go = absurd has
+    step (Function ret params holds) vs name d count has ds k ws cs h go = absurd (cc d)
 
-    pub cells-are : (gs : List Global) → AreData gs → Each (λ g. HasItsValues g.decl.form g.values) gs → (k : ℕ) →
+    pub cells-are : (gs : List Global) → AreData gs → HaveValues gs → AreTyped gs → (k : ℕ) →
         From k (cells_from word_of k (map (λ g. g.decl) gs)) → AreCells m k (words_in gs) (all_cells num gs)
-    cells-are [] d has k h = tt
-    cells-are (g ∷ gs) d has k h =
-        step g.decl.form g.values g.decl.name d.0 has.0 (map (λ g. g.decl) gs) k (words_in gs) (all_cells num gs) h
-        (cells-are gs d.1 has.1 (k + words_of_form g.decl.form))
+    cells-are [] d counts has k h = tt
+    cells-are (g ∷ gs) d counts has k h =
+        step g.decl.form g.values g.decl.name d.0 counts.0 has.0 (map (λ g. g.decl) gs) k (words_in gs) (all_cells num gs) h
+        (cells-are gs d.1 counts.1 has.1 (k + words_of_form g.decl.form))

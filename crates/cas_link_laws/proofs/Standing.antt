@@ -13,7 +13,7 @@ use Rattle.cas_settle.specs.Settle.{words_of, all_decls, cell_of, cells_from, ce
 use Rattle.cas_asm.specs.declared.image.Image.{Image}
 use Rattle.cas_asm.specs.declared.instr.Instr.{Instr}
 use Rattle.cas_object_text.specs.declared.object.Object.{Object}
-use Rattle.cas_object_text.specs.Values.{HaveValues, AreWhole}
+use Rattle.cas_object_text.specs.Values.{HaveValues, AreTyped, AreWhole}
 use Rattle.cas_link.specs.Parts.{decls_in, globals_in, units_of}
 use Rattle.cas_link.specs.Image_of.{first_words, words_in}
 use Rattle.cas_link_laws.specs.Linked.{IsLinkedOf, AreApart, HasWords}
@@ -156,6 +156,14 @@ globals-have_values [] h = tt
 globals-have_values (o ∷ os) h = both o.unit.globals (globals_in os) h.0.values (globals-have_values os h.1)
   where
     both : (gs hs : List Global) → HaveValues gs → HaveValues hs → HaveValues (gs ++ hs)
+    both [] hs p q = q
+    both (g ∷ gs) hs p q = (p.0, both gs hs p.1 q)
+
+pub globals-typed : (os : List Object) → AreWhole (units_of os) → AreTyped (globals_in os)
+globals-typed [] h = tt
+globals-typed (o ∷ os) h = both o.unit.globals (globals_in os) h.0.types (globals-typed os h.1)
+  where
+    both : (gs hs : List Global) → AreTyped gs → AreTyped hs → AreTyped (gs ++ hs)
     both [] hs p q = q
     both (g ∷ gs) hs p q = (p.0, both gs hs p.1 q)
 

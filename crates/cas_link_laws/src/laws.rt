@@ -7,13 +7,13 @@ ghost use Rattle.cas_asm.specs.declared.image.Image.{Image};
 ghost use Rattle.cas_asm.specs.declared.instr.Instr.{Instr};
 ghost use Rattle.cas_asm.specs.declared.line.AsmFun.{AsmFun};
 ghost use Rattle.cas_object_text.specs.declared.object.Object.{Object};
-ghost use Rattle.cas_edge.specs.Edges.{HasItsValues, edge_of};
+ghost use Rattle.cas_edge.specs.Edges.{edge_of};
 ghost use Rattle.cas_link.specs.Parts.{decls_in, functions_in, globals_in, units_of};
 ghost use Rattle.cas_link.specs.Refusal.{link_refusal};
 ghost use Rattle.cas_link_laws.specs.Linked.{FitTogether, IsLinkedOf, AreApart, HasWords, StandsAt, BeginsAt, place_of};
 ghost use Rattle.cas_lock.specs.Accepted.{accepted_code};
 ghost use Rattle.cas_refine.specs.Listing.{IsLinked};
-ghost use Rattle.cas_runs.specs.Label.{Each, NameBytes};
+ghost use Rattle.cas_runs.specs.Label.{NameBytes};
 
 /// Objects that aren't refused fit together.
 #[tactic(auto, using(crate::proofs::Fitting::fit))]
@@ -67,6 +67,5 @@ pub fn threads_begin_at_entries()
 pub fn linked_images_have_the_lock()
     ensures { (objects : List Object) (entries : List (List ℕ)) (image : Image) (inside : NameBytes → Bool)
         → IsLinkedOf objects accepted_code entries image
-        → Each (λ g. HasItsValues g.decl.form g.values) (globals_in objects)
         → IsLinked image (edge_of inside (units_of objects)) }
 {}

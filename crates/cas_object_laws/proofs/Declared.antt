@@ -11,7 +11,7 @@ use Rattle.cas_base.specs.declared.kind.Ty.TheVariants as ty
 use Rattle.cas_pieces.specs.Numbers.{number}
 use Rattle.cas_object_line.specs.declared.fault.LineFault.{LineFault}
 use Rattle.cas_object_line.specs.declared.fault.LineFault.TheVariants.{Form, Range}
-use Rattle.cas_object_text.specs.Values.{HasValues}
+use Rattle.cas_object_text.specs.Values.{HasValues, IsOfWords, IsTyped}
 use Rattle.cas_object_decl.specs.Chain.{all_of}
 use Rattle.cas_object_decl.specs.Data.{is_number, word_at, values, typed_values}
 use Rattle.cas_object_decl.specs.Fields.{spells}
@@ -28,7 +28,8 @@ use Rattle.cas_object_laws.proofs.Giving.{Gives, gives-if, gives-then, gives-mad
 
 abbrev pub IsRight : DeclLine → Type 0
 IsRight (Extern decl) = decl.defined ≡ false
-IsRight (Data global) = (global.decl.defined ≡ true) × (is_function global.decl.form ≡ false) × HasValues global
+IsRight (Data global) =
+    (global.decl.defined ≡ true) × (is_function global.decl.form ≡ false) × IsTyped global.decl.form × HasValues global
 IsRight (Function decl) = (decl.defined ≡ true) × (is_function decl.form ≡ true)
 IsRight End = Unit {0}
 
@@ -36,15 +37,19 @@ and-second : (a b : Bool) → (a && b) ≡ true → b ≡ true
 and-second true b e = e
 and-second false b e = absurd cc
 
-array-words : (kind : Kind) (n : Option ℕ) → Gives (λ ty. words_of_ty ty ≡ or_zero n) (array_by kind n)
+-- a type of words, of so many
+abbrev HasElements : ℕ → Ty → Type 0
+HasElements n type = (words_of_ty type ≡ n) × IsOfWords type
+
+array-words : (kind : Kind) (n : Option ℕ) → Gives (HasElements (or_zero n)) (array_by kind n)
 array-words kind None = tt
 array-words kind (Some n) =
     let small = nat_lt 0 n && nat_le n 65536 in
     let found : Result Ty LineFault = Ok (ty.Array kind n) in
-    gives-if (λ x. words_of_ty x ≡ n) small found (Err Range) (λ e. refl) tt
+    gives-if (HasElements n) small found (Err Range) (λ e. (refl, tt)) tt
 
-ty-words : (kind : Kind) (len : Option (List ℕ)) → Gives (λ ty. words_of_ty ty ≡ elements_by len) (ty_by kind len)
-ty-words kind None = refl
+ty-words : (kind : Kind) (len : Option (List ℕ)) → Gives (HasElements (elements_by len)) (ty_by kind len)
+ty-words kind None = (refl, tt)
 ty-words kind (Some len) = array-words kind (number len)
 
 values-count : (type : GlobalType) (fields : List Field) →
@@ -58,12 +63,15 @@ values-count type fields =
     (λ found same. same ∙ eqb-true (length fields) (elements type) (and-second numbers counted e)))
     tt
 
-typed-count : (type : GlobalType) (fields : List Field) →
-    Gives (λ typed. length typed.1 ≡ words_of_ty typed.0) (typed_values type fields)
+-- a type of words, and as many values
+abbrev IsFilled : Ty × List ℕ → Type 0
+IsFilled typed = IsOfWords typed.0 × (length typed.1 ≡ words_of_ty typed.0)
+
+typed-count : (type : GlobalType) (fields : List Field) → Gives IsFilled (typed_values type fields)
 typed-count type fields =
     gives-then _ (λ found. length found ≡ elements type) _ (values type fields) (values-count type fields)
-    (λ found h. gives-made _ (λ ty. words_of_ty ty ≡ elements type) _ (ty_of type) (ty-words type.kind type.len)
-    (λ ty k. h ∙ sym k))
+    (λ found h. gives-made _ (HasElements (elements type)) _ (ty_of type) (ty-words type.kind type.len)
+    (λ ty k. (k.1, h ∙ sym k.0)))
 
 params-function : (ret : Ty) (cut : Option (List Field × List Field)) →
     Gives (λ form. is_function form ≡ true) (with_params ret cut)
@@ -91,7 +99,7 @@ extern-right (word ∷ fields) =
     (decl-extern (sort_of word) fields) (λ decl h. h)
 
 lock-right : (name : List ℕ) (fields : List Field) → Gives IsRight (lock_line name fields)
-lock-right name [] = (refl, refl, λ e. absurd cc)
+lock-right name [] = (refl, refl, tt, λ e. absurd cc)
 lock-right name (field ∷ fields) = tt
 
 shared-right : (name : List ℕ) (type : Option GlobalType) (lock : Field) (found : List Field) →
@@ -99,8 +107,8 @@ shared-right : (name : List ℕ) (type : Option GlobalType) (lock : Field) (foun
 shared-right name None lock found = tt
 shared-right name (Some type) lock found =
     gives-then IsRight (λ x. Unit {0}) _ (name_at lock) (gives-any _)
-    (λ x any. gives-made IsRight (λ typed. length typed.1 ≡ words_of_ty typed.0) _ (typed_values type found)
-    (typed-count type found) (λ typed h. (refl, refl, λ e. h)))
+    (λ x any. gives-made IsRight IsFilled _ (typed_values type found)
+    (typed-count type found) (λ typed h. (refl, refl, h.0, λ e. h.1)))
 
 shared-line-right : (name : List ℕ) (fields : List Field) → Gives IsRight (shared_line name fields)
 shared-line-right name [] = tt
@@ -111,8 +119,8 @@ table-right : (name : List ℕ) (type : Option GlobalType) (found : List Field) 
     Gives IsRight (table_data name type found)
 table-right name None found = tt
 table-right name (Some type) found =
-    gives-made IsRight (λ typed. length typed.1 ≡ words_of_ty typed.0) _ (typed_values type found)
-    (typed-count type found) (λ typed h. (refl, refl, λ e. h))
+    gives-made IsRight IsFilled _ (typed_values type found)
+    (typed-count type found) (λ typed h. (refl, refl, h.0, λ e. h.1))
 
 table-line-right : (name : List ℕ) (fields : List Field) → Gives IsRight (table_line name fields)
 table-line-right name [] = tt

@@ -12,7 +12,7 @@ use Rattle.cas_pieces.specs.Lines.{lines}
 use Rattle.cas_pieces.specs.Pieces.{pieces}
 use Rattle.cas_pieces.specs.declared.piece.Piece.{Piece}
 use Rattle.cas_object_text.specs.Labels.{is_set, uses_set}
-use Rattle.cas_object_text.specs.Values.{HasValues, HaveValues, IsWhole, AreWhole}
+use Rattle.cas_object_text.specs.Values.{HasValues, HaveValues, IsTyped, AreTyped, IsWhole, AreWhole}
 use Rattle.cas_object_line.specs.Codes.{code_line}
 use Rattle.cas_object_line.specs.declared.code.CodeLine.{CodeLine}
 use Rattle.cas_object_line.specs.declared.code.CodeLine.TheVariants as c
@@ -77,6 +77,10 @@ values-put : (gs : List Global) (g : Global) → HaveValues gs → HasValues g �
 values-put [] g have has = (has, tt)
 values-put (x ∷ gs) g have has = (have.0, values-put gs g have.1 has)
 
+types-put : (gs : List Global) (g : Global) → AreTyped gs → IsTyped g.decl.form → AreTyped (gs ++ g ∷ [])
+types-put [] g are is = (is, tt)
+types-put (x ∷ gs) g are is = (are.0, types-put gs g are.1 is)
+
 -- One more declaration keeps an object whole.
 
 whole-extern : (unit : Module AsmFun) (d : Decl) → IsWhole unit → d.defined ≡ false → IsWhole (with_extern unit d)
@@ -87,12 +91,13 @@ whole-extern unit d whole e =
         globals = whole.definitions.globals ∙ ap data-of (sym kept);
         functions = whole.definitions.functions ∙ ap (λ ds. map (λ decl. decl.name) (functions-in ds)) (sym kept);
       };
+      types = whole.types;
       values = whole.values;
     }
 
 whole-data : (unit : Module AsmFun) (g : Global) → IsWhole unit → g.decl.defined ≡ true →
-    is_function g.decl.form ≡ false → HasValues g → IsWhole (with_data unit g)
-whole-data unit g whole defined other has =
+    is_function g.decl.form ≡ false → IsTyped g.decl.form → HasValues g → IsWhole (with_data unit g)
+whole-data unit g whole defined other typed has =
     let more = definitions-more unit.decls g.decl defined in
     let old = definitions unit.decls in
     record {
@@ -105,6 +110,7 @@ whole-data unit g whole defined other has =
             ∙ (ap (map (λ decl. decl.name)) (sym (filter-none (λ decl. is_function decl.form) old g.decl other))
             ∙ ap (λ ds. map (λ decl. decl.name) (functions-in ds)) (sym more));
       };
+      types = types-put unit.globals g whole.types typed;
       values = values-put unit.globals g whole.values has;
     }
 
@@ -124,6 +130,7 @@ whole-function unit b whole defined function =
             ∙ (ap (map (λ decl. decl.name)) (sym (filter-one (λ decl. is_function decl.form) old b.decl function))
             ∙ ap (λ ds. map (λ decl. decl.name) (functions-in ds)) (sym more))));
       };
+      types = whole.types;
       values = whole.values;
     }
 
@@ -144,7 +151,7 @@ abbrev IsWholeReading : Reading → Type 0
 IsWholeReading r = AreWhole r.units × IsWholeInside r.inside
 
 whole-empty : IsWhole empty
-whole-empty = record { definitions = record { globals = refl; functions = refl }; values = tt }
+whole-empty = record { definitions = record { globals = refl; functions = refl }; types = tt; values = tt }
 
 -- the first line of an object opens an empty one
 pub version-gives : (P : Inside → Type 0) (n : ℕ) (field : Field) → P (inside.Object empty) → Gives P (version n field)
@@ -182,7 +189,7 @@ data-whole : (n : ℕ) (unit : Module AsmFun) (found : DeclLine) → IsWhole uni
 data-whole n unit (Extern d) whole right = whole-extern unit d whole right
 data-whole n unit (Data g) whole right =
     gives-if IsWholeInside (nat_lt 65536 (words unit.globals + words_of_form g.decl.form)) (refused B5 n)
-    (Ok (inside.Object (with_data unit g))) (λ e. tt) (whole-data unit g whole right.0 right.1 right.2)
+    (Ok (inside.Object (with_data unit g))) (λ e. tt) (whole-data unit g whole right.0 right.1 right.2 right.3)
 data-whole n unit (Function d) whole right =
     gives-if IsWholeInside (nat_lt (length unit.funs) 1024) (Ok (inside.Function unit (opened d))) (refused B5 n)
     (λ e. (whole, right.0, right.1)) tt
