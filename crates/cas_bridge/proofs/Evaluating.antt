@@ -1,7 +1,7 @@
 -- Over both kinds of objects evaluation asks for the same, and an item's step does the same.
 use Rattle.std.proofs.Common.{◌≡◌, ℕ, ◌+◌, ◌<◌, List, [], ◌∷◌, Option, Some, None, Bool, true, false, if◌then◌else◌, slice_get, nat_eq, nat_lt, nat_le, eqb-true, ltb-true, arith, refl, sym, ap, subst}
 use Rattle.std.specs.Prelude.{ℤ, pos, negsuc, ◌+ℤ◌, neg_ℤ, ◌||◌, not, ◌==◌}
-use Rattle.cas_base.specs.Word.{narrowed, word_sub}
+use Rattle.cas_base.specs.Word.{narrowed}
 use Rattle.cas_base.specs.declared.act.Why.TheVariants.{Index, Across}
 use Rattle.cas_base.specs.declared.kind.Ty.{Ty}
 use Rattle.cas_base.specs.declared.kind.Ty.TheVariants.{Void, Int, Ptr, Array}
@@ -14,7 +14,7 @@ use Rattle.cas_step.specs.Asks as asks
 use Rattle.cas_step.specs.Asks.{Asks, and_then, word_in, pointed}
 use Rattle.cas_step.specs.Env.{length_of}
 use Rattle.cas_step.specs.Operators.{number_of, truth, place_below, or_index, or_undefined, quotient, remainder, binary_result, unary_result}
-use Rattle.cas_step.specs.Pointers.{live, moved, cell_behind, behind, places, difference, is_same_place, equal, compared}
+use Rattle.cas_step.specs.Pointers.{distance, live, moved, cell_behind, behind, places, difference, is_same_place, equal, compared}
 use Rattle.cas_step.specs.Evaluate as ev
 use Rattle.cas_step.specs.Evaluate.{EvalContext, value_of, values_of, condition, test_of, target_of, of_object, of_global, a_word, a_truth, on_both, forward, backward, only_place, place_among, element_place, global_value}
 use Rattle.cas_step.specs.Continuation as items
@@ -213,8 +213,8 @@ module _ (S C : Type 0) (Objects : S → C → Type 0) (Points : S → C → ℕ
     difference_alike : (a b : Option (S × ℕ)) (a' b' : Option (C × ℕ)) → SameAim a a' → SameAim b b' →
         Queries Same (difference s.same a b) (difference s'.same a' b')
     difference_alike a b a' b' h k = alike_then (places_alike a b a' b' h k)
-        (λ p q e. subst (λ (x : ℕ × ℕ). Queries Same (asks.gives (word_sub p.0 p.1))
-        (asks.gives (word_sub x.0 x.1))) e (gives refl))
+        (λ p q e. subst (λ (x : ℕ × ℕ). Queries Same (asks.gives (distance p.0 p.1))
+        (asks.gives (distance x.0 x.1))) e (gives refl))
 
     ordered : (f : ℕ × ℕ → Bool) (a b : Option (S × ℕ)) (a' b' : Option (C × ℕ)) → SameAim a a' → SameAim b b' →
         Queries Is (and_then (places s.same a b) (λ p. asks.gives (f p)))
@@ -225,7 +225,7 @@ module _ (S C : Type 0) (Objects : S → C → Type 0) (Points : S → C → ℕ
     place_same : (one : Bool) (p n r m : ℕ) → Queries Is (is_same_place s.same one p n r m)
         (is_same_place s'.same one p n r m)
     place_same true p n r m = gives refl
-    place_same false p n r m = by ((p == n) || (r == m))
+    place_same false p n r m = by (nat_le n p || nat_le m r)
       where
         by : (t : Bool) → Queries Is (if t then asks.fails Across else asks.gives false)
             (if t then asks.fails Across else asks.gives false)

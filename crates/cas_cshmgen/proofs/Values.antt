@@ -1,7 +1,7 @@
 -- What is made of an expression has its value.
 use Rattle.std.proofs.Common.{◌≡◌, ℕ, zero, suc, ◌+◌, List, Option, Some, None, Bool, true, false, if◌then◌else◌, slice_get, nat_lt, nat_eq, refl, sym, ap, subst}
 use Rattle.std.specs.Prelude.{ℤ, pos, negsuc, ◌+ℤ◌, neg_ℤ, not, ◌||◌, nat_le}
-use Rattle.cas_base.specs.Word.{narrowed, word_sub}
+use Rattle.cas_base.specs.Word.{narrowed}
 use Rattle.cas_base.specs.declared.act.Why.TheVariants.{Index, Across}
 use Rattle.cas_base.specs.declared.decl.Decl.{Decl}
 use Rattle.cas_syntax.specs.declared.tree.BinaryOperator.{BinaryOperator}
@@ -14,7 +14,7 @@ use Rattle.cas_step.specs.Asks.{Asks, word_in, and_then}
 use Rattle.cas_step.specs.Operators.{number_of, place_below, or_index, truth, is_true, binary_result, unary_result, or_undefined, quotient, remainder}
 use Rattle.cas_step.specs.Env as env
 use Rattle.cas_step.specs.Env.{Entity, length_of as length_in}
-use Rattle.cas_step.specs.Pointers.{behind as behind_of, if_live, live, moved as moves_to, places, difference, is_same_place, equal as source_equal, compared as source_compared}
+use Rattle.cas_step.specs.Pointers.{distance, behind as behind_of, if_live, live, moved as moves_to, places, difference, is_same_place, equal as source_equal, compared as source_compared}
 use Rattle.cas_step.specs.Evaluate as ev
 use Rattle.cas_step.specs.Evaluate.{value_of, values_of, condition, a_word, a_truth, global_value, place_among, on_both}
 use Rattle.cas_runs.specs.Held.{Activation, Held, Amounts, both_read, both_load, source_looks, target_looks, fails_too}
@@ -381,7 +381,7 @@ module _ {F G : Type 0} (r : Relation F CsharpState G ClightState) (w : Held F C
       different : (n : ℕ) (n' : Option ℕ) → Amount credit m (apart (Some n) p n' r k)
           (asked ds (and_then (if_live (λ size'. is_same_place same_object false p n r size') n') next) k')
       different n None = fails_too
-      different n (Some n') = apart_amounts n n' (nat_eq p n || nat_eq r n')
+      different n (Some n') = apart_amounts n n' (nat_le n p || nat_le n' r)
 
       differ : (n : Option ℕ) → Amount credit m (apart n p (length_of (m q.home)) r k)
           (asked ds (and_then (if_live (λ size. live q (λ size'. is_same_place same_object false p size r size')) n)
@@ -465,17 +465,17 @@ module _ {F G : Type 0} (r : Relation F CsharpState G ClightState) (w : Held F C
       Follow credit m k k' →
       Amount credit m
       (on_pointer (encoded u)
-      (λ a p. on_pointer (encoded v) (λ b r. only_if (same_home a b) (k (Number (word_sub p r))))))
+      (λ a p. on_pointer (encoded v) (λ b r. only_if (same_home a b) (k (Number (distance p r))))))
       (asked ds (on_both u v (λ a b. a_word (difference same_object a b))) k')
   differs_amounts credit m u v k k' more =
       subst (λ y. Amount credit m
       (on_pointer (encoded u)
-      (λ a p. on_pointer (encoded v) (λ b r. only_if (same_home a b) (k (Number (word_sub p r)))))) y)
+      (λ a p. on_pointer (encoded v) (λ b r. only_if (same_home a b) (k (Number (distance p r)))))) y)
       (ap (λ z. asked ds z k')
-      (sym (both_then u v (λ a b. places same_object a b) (λ ps. asks.gives (word_sub ps.0 ps.1))
+      (sym (both_then u v (λ a b. places same_object a b) (λ ps. asks.gives (distance ps.0 ps.1))
       (λ n. asks.gives (asks.word n)))))
-      (pair_amounts credit m u v (λ p r. k (Number (word_sub p r))) (λ ps. asks.gives (asks.word (word_sub ps.0 ps.1)))
-      k' (λ p r. more (asks.word (word_sub p r))))
+      (pair_amounts credit m u v (λ p r. k (Number (distance p r))) (λ ps. asks.gives (asks.word (distance ps.0 ps.1)))
+      k' (λ p r. more (asks.word (distance p r))))
 
   pub value_amounts : (e : TypedExprTree) → Valued e
   value_amounts (t.literal i) credit m k k' more = more (asks.word i)

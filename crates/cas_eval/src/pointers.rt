@@ -89,7 +89,7 @@ impl EvalContext<'_> {
     }
 
     /// How many elements the first lies after the second.
-    #[tactic(auto, using(crate::proofs::Answering::answer_then), unfolding(crate::specs::Answer::answer))]
+    #[tactic(auto, using(crate::proofs::Answering::answer_then, crate::proofs::Numbers::distance_is), unfolding(crate::specs::Answer::answer))]
     pub fn difference(&self, a: Pointed, b: Pointed) -> Result<u32, NoResult>
         ensures { result ≡ answer (eval_state self.now) (p.difference same_object (place_in a) (place_in b)) }
     {
@@ -97,7 +97,7 @@ impl EvalContext<'_> {
         Ok(sub(place, at))
     }
 
-    // Whether places of two objects are equal; neither may be the end.
+    // Whether places of two objects are equal; neither may be at the end or past it.
     #[tactic(auto, unfolding(crate::specs::Answer::answer))]
     fn is_same_place(&self, a: (Object, u32), b: (Object, u32)) -> Result<bool, NoResult>
         ensures { result ≡ answer (eval_state self.now) (p.equal same_object (place_in (Some a)) (place_in (Some b))) }
@@ -106,7 +106,7 @@ impl EvalContext<'_> {
         let other = self.live(b.0)?;
         if a.0.is(b.0) {
             Ok(a.1 == b.1)
-        } else if a.1 == size || b.1 == other {
+        } else if a.1 >= size || b.1 >= other {
             Err(NoResult::Bad(Why::Across))
         } else {
             Ok(false)

@@ -1,10 +1,11 @@
 -- What the operators of the languages between give. Null is the word 0; a pointer is a place in a block.
 use Rattle.std.specs.Prelude.{ℕ, ℤ, pos, negsuc, ◌+ℤ◌, neg_ℤ, nat_eq, nat_lt, nat_le, not, ◌||◌, Bool, true, false, Option, Some, None, if◌then◌else◌}
-use Rattle.cas_base.specs.Word.{narrowed, word_sub}
+use Rattle.cas_base.specs.Word.{narrowed}
 use Rattle.cas_syntax.specs.declared.tree.BinaryOperator.{BinaryOperator}
 use Rattle.cas_syntax.specs.declared.tree.BinaryOperator.TheVariants as op
 use Rattle.cas_typed.specs.declared.tree.Signedness.{Signedness}
 use Rattle.cas_step.specs.Asks.{Asks, gives}
+use Rattle.cas_step.specs.Pointers.{distance}
 use Rattle.cas_step.specs.Operators.{number_of, truth, is_true, binary_result, unary_result}
 use Rattle.cas_runs.specs.Naming.{Home, Value, Number, Pointer, Hidden, same_home}
 use Rattle.cas_runs.specs.Access.{Accesses, Looks, Fails, with_value}
@@ -65,9 +66,9 @@ module _ {L : Type 0} where
   only_if true x = x
   only_if false x = Fails
 
-  -- places in different blocks aren't equal; neither block may have ended, and neither place may be its block's length
+  -- places in different blocks aren't equal; neither block may have ended, and each place has to be below its block's length
   abbrev pub apart : Option ℕ → ℕ → Option ℕ → ℕ → (Bool → Accesses L) → Accesses L
-  apart (Some n) p (Some m) r next = if nat_eq p n || nat_eq r m then Fails else next false
+  apart (Some n) p (Some m) r next = if nat_le n p || nat_le m r then Fails else next false
   apart _ p _ r next = Fails
 
   -- whether two values are equal
@@ -99,5 +100,5 @@ module _ {L : Type 0} where
   binary (PlusPointer s) u v next = on_pointer v (λ home p. on_word u (λ n. moved home p (number_of s n) next))
   binary (PointerMinus s) u v next = on_pointer u (λ home p. on_word v (λ n. moved home p (neg_ℤ (number_of s n)) next))
   binary PointerDifference u v next =
-      on_pointer u (λ a p. on_pointer v (λ b r. only_if (same_home a b) (next (Number (word_sub p r)))))
+      on_pointer u (λ a p. on_pointer v (λ b r. only_if (same_home a b) (next (Number (distance p r)))))
   binary (Compare o) u v next = compared o u v (λ is. next (Number (truth is)))

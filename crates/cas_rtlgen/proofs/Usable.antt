@@ -3,7 +3,7 @@ use Rattle.std.proofs.Common.{◌≡◌, ℕ, List, [], ◌∷◌, Option, Some,
 use Rattle.std.specs.Prelude.{ℤ, nat_le, nat_lt, neg_ℤ}
 use Rattle.cas_syntax.specs.declared.tree.BinaryOperator.{BinaryOperator}
 use Rattle.cas_syntax.specs.declared.tree.BinaryOperator.TheVariants as bin
-use Rattle.cas_base.specs.Word.{word_sub}
+use Rattle.cas_step.specs.Pointers.{distance}
 use Rattle.cas_step.specs.Operators.{number_of, truth}
 use Rattle.cas_runs.specs.Naming.{Home, Value, Number, Pointer, Hidden, same_home, usable}
 use Rattle.cas_runs.specs.Access.{Accesses, Looks, Then, Fails, with_value}
@@ -76,7 +76,7 @@ apart_usable : (o : Option ℕ) (p : ℕ) (o' : Option ℕ) (r : ℕ) (next : Bo
     EndsUsable (apart o p o' r next)
 apart_usable None p o' r next h = tt
 apart_usable (Some n) p None r next h = tt
-apart_usable (Some n) p (Some m) r next h = if_usable (nat_eq p n || nat_eq r m) Fails (next false) tt (h false)
+apart_usable (Some n) p (Some m) r next h = if_usable (nat_le n p || nat_le m r) Fails (next false) tt (h false)
 
 equal_usable : (u v : Value) (next : Bool → Accesses Value) → OfTruth next → EndsUsable (equal u v next)
 equal_usable (Number m) (Number n) next h = h (nat_eq m n)
@@ -124,7 +124,7 @@ binary_usable (PointerMinus s) u v =
     pointer_usable u _ (λ home p. word_usable v _ (λ n. moved_usable home p (neg_ℤ (number_of s n))))
 binary_usable PointerDifference u v =
     pointer_usable u _ (λ a p. pointer_usable v _ (λ b r. only_usable (same_home a b)
-    (Then (Number (word_sub p r))) refl))
+    (Then (Number (distance p r))) refl))
 binary_usable (Compare o) u v = compared_usable o u v (λ is. Then (Number (truth is))) (λ is. refl)
 
 -- the answers of an operator

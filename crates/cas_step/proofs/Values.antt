@@ -1,7 +1,7 @@
 -- The value of a well-sorted expression is a word or a pointer as its sort says, and there is sense in it, where
 -- what answers is so.
 use Rattle.std.proofs.Common.{arith, ◌≡◌, inl, inr, ℕ, ◌^◌, ◌+◌, ◌<◌, ◌≤◌, ℤ, pos, neg_ℤ, Bool, true, false, List, [], Option, Some, None, refl, sym, subst, if◌then◌else◌}
-use Rattle.std.specs.Prelude.{⊤, slice_get, ◌⊎◌, ◌+ℤ◌, nat_lt, ◌==◌, ◌||◌}
+use Rattle.std.specs.Prelude.{⊤, slice_get, ◌⊎◌, ◌+ℤ◌, nat_lt, nat_le, ◌%◌, ◌||◌}
 use Rattle.std.proofs.lemmas.Bool.{ltb-true}
 use Rattle.cas_base.specs.Ty.{words_of_ty}
 use Rattle.cas_base.specs.declared.act.Why.TheVariants.{Index, Across}
@@ -166,7 +166,7 @@ module _ (Points : Kind → Object → ℕ → Type 0) (vs : List Ty) (ds : List
 
   same_place_sure : (one : Bool) (p n r m : ℕ) → Sure Any (is_same_place s.same one p n r m)
   same_place_sure true p n r m = tt
-  same_place_sure false p n r m = ends_sure ((p == n) || (r == m))
+  same_place_sure false p n r m = ends_sure (nat_le n p || nat_le m r)
 
   equal_sure : (a b : Option (Object × ℕ)) → Sure Any (equal s.same a b)
   equal_sure None None = tt
@@ -196,7 +196,7 @@ module _ (Points : Kind → Object → ℕ → Type 0) (vs : List Ty) (ds : List
 
   difference_sure : (a b : Option (Object × ℕ)) → Sure (OfSort Points so.word) (a_word (difference s.same a b))
   difference_sure a b = sure_then IsWord (OfSort Points so.word) (difference s.same a b) _
-      (sure_then Any IsWord (places s.same a b) _ (places_sure a b) (λ ps h. sub_word ps.0 ps.1)) (λ n h. h)
+      (sure_then Any IsWord (places s.same a b) _ (places_sure a b) (λ ps h. sub_word ps.0 (ps.1 % 2 ^ 32))) (λ n h. h)
 
   on_both_sure : {A : Type 0} (Q : A → Type 0) (k : Kind) (u v : Value Object)
       (next : Option (Object × ℕ) → Option (Object × ℕ) → Asks Object A) →

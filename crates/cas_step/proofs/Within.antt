@@ -1,6 +1,6 @@
 -- What evaluating reads: words of the globals that are named, at places below their lengths.
 use Rattle.std.proofs.Common.{arith, ◌≡◌, ℕ, ◌<◌, Bool, true, false, List, [], ◌∷◌, ◌++◌, Option, Some, None, refl, sym, subst}
-use Rattle.std.specs.Prelude.{⊤, ◌+◌, ℤ, pos, negsuc, neg_ℤ, ◌+ℤ◌, nat_eq, nat_lt, ◌==◌, ◌||◌, if◌then◌else◌, Contains}
+use Rattle.std.specs.Prelude.{⊤, ◌+◌, ℤ, pos, negsuc, neg_ℤ, ◌+ℤ◌, nat_eq, nat_lt, nat_le, ◌==◌, ◌||◌, if◌then◌else◌, Contains}
 use Rattle.std.proofs.lemmas.List.Elements.{Contains-append_left, Contains-append_right}
 use Rattle.std.proofs.lemmas.Bool.{ltb-true, eqb-true}
 use Rattle.cas_syntax.specs.declared.tree.BinaryOperator.{BinaryOperator}
@@ -101,7 +101,7 @@ module _ {O : Type 0} (entity : ℕ → Option Entity) (N : ℕ → Type 0) wher
   same_place_within : (same : O → O → Bool) (one : Bool) (p n r m : ℕ) →
       Within entity N (is_same_place same one p n r m) Any
   same_place_within same true p n r m = tt
-  same_place_within same false p n r m = if_within Any ((p == n) || (r == m)) _ _ tt tt
+  same_place_within same false p n r m = if_within Any (nat_le n p || nat_le m r) _ _ tt tt
 
   equal_within : (same : O → O → Bool) (p q : Option (O × ℕ)) → Within entity N (equal same p q) Any
   equal_within same None None = tt

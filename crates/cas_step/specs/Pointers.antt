@@ -1,11 +1,15 @@
 -- Operations on pointers. Each fails with the first reason of these that applies: Null, Dead, Across, Index.
-use Rattle.std.specs.Prelude.{ℕ, ◌+◌, ℤ, pos, ◌+ℤ◌, nat_lt, nat_le, ◌==◌, ◌||◌, Bool, true, false, not, Option, Some, None, if◌then◌else◌}
+use Rattle.std.specs.Prelude.{ℕ, ◌+◌, ◌%◌, ◌^◌, ℤ, pos, ◌+ℤ◌, nat_lt, nat_le, ◌==◌, ◌||◌, Bool, true, false, not, Option, Some, None, if◌then◌else◌}
 use Rattle.cas_base.specs.Word.{word_sub}
 use Rattle.cas_base.specs.declared.act.Why.TheVariants.{Index, Null, Dead, Across}
 use Rattle.cas_syntax.specs.declared.tree.BinaryOperator.{BinaryOperator}
 use Rattle.cas_syntax.specs.declared.tree.BinaryOperator.TheVariants as bin
 use Rattle.cas_step.specs.Asks.{Value, pointer, Asks, gives, fails, stuck, looks, loads, and_then}
 use Rattle.cas_step.specs.Operators.{place_below, or_index}
+
+-- how many elements a place is after another, modulo 2^32
+abbrev pub distance : ℕ → ℕ → ℕ
+distance p r = word_sub p (r % 2 ^ 32)
 
 module _ {O : Type 0} where
   -- an evaluation on the number of an object's cells, if the object is live
@@ -38,12 +42,13 @@ module _ {O : Type 0} (same : O → O → Bool) where
 
   -- how many elements the first is after the second
   abbrev pub difference : Option (O × ℕ) → Option (O × ℕ) → Asks O ℕ
-  difference a b = and_then (places a b) (λ ps. gives (word_sub ps.0 ps.1))
+  difference a b = and_then (places a b) (λ ps. gives (distance ps.0 ps.1))
 
-  -- whether places of two objects with these numbers of cells are equal; of different objects neither may be the end
+  -- whether places of two objects with these numbers of cells are equal; of different objects neither may be at the end
+  -- or past it
   abbrev pub is_same_place : (one : Bool) → (p n r m : ℕ) → Asks O Bool
   is_same_place true p n r m = gives (p == r)
-  is_same_place false p n r m = if (p == n) || (r == m) then fails Across else gives false
+  is_same_place false p n r m = if nat_le n p || nat_le m r then fails Across else gives false
 
   -- whether two pointers are equal
   abbrev pub equal : Option (O × ℕ) → Option (O × ℕ) → Asks O Bool
