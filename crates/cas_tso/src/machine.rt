@@ -13,6 +13,7 @@ ghost use Rattle.cas_tso.specs.declared.refused.Choice.TheVariants as choice;
 
 use crate::instruction::{drain_oldest, run_next};
 use crate::options::Options;
+use crate::pending::Pending;
 use crate::refused::{Choice, Refused};
 use crate::report::{Report, ThreadEnd};
 use crate::thread::ThreadCore;
@@ -85,6 +86,13 @@ impl<'a> Tso<'a> {
         self.memory.as_slice()
     }
 
+    /// The output, as pairs of thread and word, the oldest first.
+    pub fn output(&self) -> &[(u32, u32)]
+        ensures { result.now ≡ self.now.state.output }
+    {
+        self.output.as_slice()
+    }
+
     /// The registers, flags and place of a thread's processor.
     pub fn core(&self, thread: u32) -> Core
         requires { thread < length self.now.state.threads }
@@ -99,6 +107,14 @@ impl<'a> Tso<'a> {
         ensures { (c : Thread) → slice_get self.now.state.threads thread ≡ Some c → result ≡ length c.buffer }
     {
         self.threads[thread as usize].stores()
+    }
+
+    /// The store of a thread's buffer with this number, from 0 on, the oldest first.
+    pub fn store_at(&self, thread: u32, index: usize) -> Option<Pending>
+        requires { thread < length self.now.state.threads }
+        ensures { (c : Thread) → slice_get self.now.state.threads thread ≡ Some c → result ≡ slice_get c.buffer index }
+    {
+        self.threads[thread as usize].store_at(index)
     }
 
     /// Whether a store of the thread is due.

@@ -135,6 +135,13 @@ impl ThreadCore {
         self.buffer.len()
     }
 
+    /// The store of the buffer with this number, from 0 on, the oldest first.
+    pub fn store_at(&self, index: usize) -> Option<Pending>
+        ensures { result ≡ slice_get self.now.buffer index }
+    {
+        self.buffer.get(index).copied()
+    }
+
     /// The value of the newest store of the buffer to a word.
     pub fn newest(&self, at: u32) -> Option<u32>
         ensures { result ≡ newest self.now.buffer at }
