@@ -1,6 +1,6 @@
 //! The next instruction of a thread, with the memory and the output.
 
-ghost use Rattle.std.specs.Prelude.{◌+◌, false, ◌≡◌, ◌<◌, ◌≤◌, ℕ, [], List, length, slice_get, None, Some, OnErr, OnOk, MatchResult, vec_len, vec_capacity};
+ghost use Rattle.std.specs.Prelude.{◌+◌, false, true, ◌≡◌, ◌<◌, ◌≤◌, ℕ, [], List, length, slice_get, None, Some, OnErr, OnOk, MatchResult, vec_len, vec_capacity};
 ghost use Rattle.cas_asm.specs.Ask.{ask_of};
 ghost use Rattle.cas_asm.specs.declared.ask.Ask.TheVariants as ask;
 ghost use Rattle.cas_tso.specs.Refusal.{Drains, Goes, part, refused_drain, refused_run};
@@ -8,6 +8,7 @@ ghost use Rattle.cas_tso.specs.State.{Setup, newest, setup};
 ghost use Rattle.cas_tso.specs.Step.{IsRunning};
 ghost use Rattle.cas_tso.specs.Timed.{must_drain};
 ghost use Rattle.cas_tso.specs.declared.pending.Pending.{Pending};
+ghost use Rattle.cas_tso.specs.declared.refused.Refused.TheVariants.{MustDrain};
 
 use crate::end::End;
 use crate::options::Options;
@@ -33,9 +34,10 @@ fn forward(core: &mut ThreadCore, image: &Image, options: &Options, at: u32, wor
     ensures { (i : ℕ) (m : List ℕ) (o : List (ℕ × ℕ)) → Goes (setup image.now options.now) i (part core.old m o)
         (part core.new m o) }
 {
-    match core.stop_of(options, core.ask(image, Some(word))) {
+    let asked = core.ask(image, Some(word));
+    match core.stop_of(options, asked) {
         Some(end) => core.stop(end),
-        None => core.forward(image, options, at, word),
+        None => core.forward(image, options, at, word, asked),
     }
 }
 
@@ -50,9 +52,10 @@ fn load(core: &mut ThreadCore, image: &Image, options: &Options, memory: &[u32],
         (part core.new memory.now o) }
 {
     let word = word_at(memory, at);
-    match core.stop_of(options, core.ask(image, Some(word))) {
+    let asked = core.ask(image, Some(word));
+    match core.stop_of(options, asked) {
         Some(end) => core.stop(end),
-        None => core.load(image, options, at, word),
+        None => core.load(image, options, at, word, asked),
     }
 }
 
@@ -104,7 +107,8 @@ fn print(
     }
 }
 
-// The next instruction, which asks for this and can be had; or the end in place of it.
+// The next instruction of a running thread, or the end in place of it; or it is refused, and then nothing changes. What
+// it asks for is looked up once.
 fn execute(
     core: &mut ThreadCore,
     image: &Image,
@@ -112,28 +116,35 @@ fn execute(
     memory: &mut Vec<u32>,
     output: &mut Vec<(u32, u32)>,
     thread: u32,
-)
+) -> Result<(), Refused>
     requires running { IsRunning core.old }
-    requires free { must_drain (ask_of image.now core.old.cpu None) core.old.buffer ≡ false }
     requires fuel { core.old.counts.executed < 4000000000 }
     requires wide { vec_len memory.old ≡ length image.now.words }
     requires room { core.old.counts.outs < options.now.outs → vec_len output.old < vec_capacity output.old }
     ensures wide { vec_len memory.new ≡ vec_len memory.old }
     ensures capacity { vec_capacity output.new ≡ vec_capacity output.old }
-    ensures goes { Goes (setup image.now options.now) thread (part core.old memory.old.items output.old.items)
-        (part core.new memory.new.items output.new.items) }
+    ensures goes { OnOk result (Goes (setup image.now options.now) thread
+        (part core.old memory.old.items output.old.items) (part core.new memory.new.items output.new.items)) }
+    ensures answer { MatchResult result (λ _. must_drain (ask_of image.now core.old.cpu None) core.old.buffer ≡ false)
+        (λ why. (why ≡ MustDrain) × (must_drain (ask_of image.now core.old.cpu None) core.old.buffer ≡ true)) }
+    ensures still { OnErr result ((core.new ≡ core.old) × (memory.new.items ≡ memory.old.items)
+        × (output.new.items ≡ output.old.items)) }
 {
-    match core.ask(image, None) {
-        Ask::Plain | Ask::Finish => core.run(image, options),
+    let asked = core.ask(image, None);
+    if core.must_drain(asked) {
+        return Err(Refused::MustDrain);
+    }
+    match asked {
+        Ask::Plain | Ask::Finish => Ok(core.run(image, options, asked)),
         Ask::Load { at } => match core.newest(at) {
-            Some(word) => forward(core, image, options, at, word),
-            None => load(core, image, options, memory, at),
+            Some(word) => Ok(forward(core, image, options, at, word)),
+            None => Ok(load(core, image, options, memory, at)),
         },
-        Ask::Store { at, value } => core.store(image, options, at, value),
-        Ask::LockedDec { at } => decrement(core, image, options, memory, at),
-        Ask::Out { value } => print(core, image, options, output, thread, value),
-        Ask::Stack => core.stop(End::Stack),
-        Ask::Bad(why) => core.stop(End::Bad(why)),
+        Ask::Store { at, value } => Ok(core.store(image, options, at, value)),
+        Ask::LockedDec { at } => Ok(decrement(core, image, options, memory, at)),
+        Ask::Out { value } => Ok(print(core, image, options, output, thread, value)),
+        Ask::Stack => Ok(core.stop(End::Stack)),
+        Ask::Bad(why) => Ok(core.stop(End::Bad(why))),
     }
 }
 
@@ -161,11 +172,7 @@ pub(crate) fn run_next(
     if core.end().is_some() {
         return Err(Refused::Ended);
     }
-    if core.must_drain(core.ask(image, None)) {
-        return Err(Refused::MustDrain);
-    }
-    execute(core, image, options, memory, output, thread);
-    Ok(())
+    execute(core, image, options, memory, output, thread)
 }
 
 /// The thread's oldest store goes to memory, or it is refused, and then nothing changes.

@@ -149,29 +149,30 @@ impl ThreadCore {
         newest(&self.buffer, at)
     }
 
-    /// Step 1: the thread executes its next instruction, which touches no shared word.
-    pub fn run(&mut self, image: &Image, options: &Options)
+    /// Step 1: the thread executes its next instruction, which asks for this and touches no shared word.
+    pub fn run(&mut self, image: &Image, options: &Options, asked: Ask)
         requires running { IsRunning self.old }
-        requires plain { IsPlain (ask_of image.now self.old.cpu None) }
+        requires asked { asked ≡ ask_of image.now self.old.cpu None }
+        requires plain { IsPlain asked }
         requires fuel { self.old.counts.executed < 4000000000 }
         ensures { Takes (setup image.now options.now) self.old act.plain self.new }
     {
-        let asked = self.ask(image, None);
         cpu_step(image, &mut self.cpu, 0);
         self.executed += 1;
         self.end = end_after(options, asked, self.executed);
     }
 
-    /// Step 2: the thread executes its next instruction, which loads the newest store of its own buffer.
-    pub fn forward(&mut self, image: &Image, options: &Options, at: u32, word: u32)
+    /// Step 2: the thread executes its next instruction, which loads the newest store of its own buffer and, with this
+    /// word, asks for no more than this.
+    pub fn forward(&mut self, image: &Image, options: &Options, at: u32, word: u32, asked: Ask)
         requires running { IsRunning self.old }
         requires load { ask_of image.now self.old.cpu None ≡ ask.Load at }
         requires newest { newest self.old.buffer at ≡ Some word }
-        requires plain { IsPlain (ask_of image.now self.old.cpu (Some word)) }
+        requires asked { asked ≡ ask_of image.now self.old.cpu (Some word) }
+        requires plain { IsPlain asked }
         requires fuel { self.old.counts.executed < 4000000000 }
         ensures { Takes (setup image.now options.now) self.old (act.forwarded at word) self.new }
     {
-        let asked = self.ask(image, Some(word));
         cpu_step(image, &mut self.cpu, word);
         self.executed += 1;
         self.loads += 1;
@@ -179,16 +180,17 @@ impl ThreadCore {
         self.end = end_after(options, asked, self.executed);
     }
 
-    /// Step 2: the thread executes its next instruction, which loads a word from memory.
-    pub fn load(&mut self, image: &Image, options: &Options, at: u32, word: u32)
+    /// Step 2: the thread executes its next instruction, which loads a word from memory and, with this word, asks for no
+    /// more than this.
+    pub fn load(&mut self, image: &Image, options: &Options, at: u32, word: u32, asked: Ask)
         requires running { IsRunning self.old }
         requires load { ask_of image.now self.old.cpu None ≡ ask.Load at }
         requires newest { newest self.old.buffer at ≡ None }
-        requires plain { IsPlain (ask_of image.now self.old.cpu (Some word)) }
+        requires asked { asked ≡ ask_of image.now self.old.cpu (Some word) }
+        requires plain { IsPlain asked }
         requires fuel { self.old.counts.executed < 4000000000 }
         ensures { Takes (setup image.now options.now) self.old (act.loaded at word) self.new }
     {
-        let asked = self.ask(image, Some(word));
         cpu_step(image, &mut self.cpu, word);
         self.executed += 1;
         self.loads += 1;

@@ -26,7 +26,7 @@ returns-in-Stack-clause-goes c = (
     (
       c.requires.running,
       ap (stop_of c.args.options.now c.args.core.now)
-          (sym c.ask.ensures.asked ∙ c.in-Stack.is),
+          (sym c.ask-asked.ensures.asked ∙ c.in-Stack.is),
       c.stop.ensures,
     ),
     tt,
@@ -43,7 +43,7 @@ returns-in-Bad-clause-goes c = (
     (
       c.requires.running,
       ap (stop_of c.args.options.now c.args.core.now)
-          (sym c.ask.ensures.asked ∙ c.in-Bad.is),
+          (sym c.ask-asked.ensures.asked ∙ c.in-Bad.is),
       c.stop-in-Bad.ensures,
     ),
     tt,

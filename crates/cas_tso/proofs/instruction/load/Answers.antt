@@ -1,13 +1,14 @@
-use Rattle.std.proofs.Common.{◌∙◌, sym, ap, refl}
-use Rattle.cas_tso.specs.Step.{from_memory, loaded, stop_of, stopped}
+use Rattle.std.proofs.Common.{◌∙◌, sym, ap, refl, subst}
+use Rattle.cas_tso.specs.Step.{IsPlain, from_memory, loaded, stop_of, stopped}
 use Rattle.cas_tso.proofs.Going.{plain_after}
 use Rattle.cas_tso.proofs.instruction.load.Goals as goal
 
 pub load-requires-clause-plain : goal.load-requires-clause-plain
 load-requires-clause-plain c =
     let d = c.args.core.now in
-    plain_after c.args.image.now c.args.options.now d c.args.at c.word_at-word.result c.requires.load
-    (ap (stop_of c.args.options.now d) (sym c.ask.ensures.asked) ∙ (sym c.stop_of.ensures ∙ c.in-None.is))
+    subst IsPlain (sym c.ask-asked.ensures.asked)
+    (plain_after c.args.image.now c.args.options.now d c.args.at c.word_at-word.result c.requires.load
+    (ap (stop_of c.args.options.now d) (sym c.ask-asked.ensures.asked) ∙ (sym c.stop_of.ensures ∙ c.in-None.is)))
 
 pub returns-in-Some : goal.returns-in-Some
 returns-in-Some c = λ i o. (
@@ -19,7 +20,7 @@ returns-in-Some c = λ i o. (
       (
         c.requires.load,
         c.requires.newest,
-        ap (stop_of c.args.options.now c.args.core.now) (sym c.ask.ensures.asked)
+        ap (stop_of c.args.options.now c.args.core.now) (sym c.ask-asked.ensures.asked)
             ∙ (sym c.stop_of.ensures ∙ c.in-Some.is),
       ),
       c.stop.ensures,
