@@ -8,7 +8,8 @@ use std::test::Fail;
 const TEXT_LIMIT: usize = 1_048_576;
 
 const ACCEPTED: &str =
-    "lock:\n  lock dec [eax]\n  jns enter\nspin:\n  cmp [eax], 0\n  jle spin\n  jmp lock\nenter:\n  ret\nunlock:\n  mov [eax], 1\n  ret\n";
+    "lock:\n  lock dec [eax]\n  jns enter\nspin:\n  cmp [eax], 0\n  jle spin\n  jmp lock\nenter:\n  ret\n\
+     unlock:\n  mov [eax], 1\n  ret\n";
 
 // Whether a text is accepted.
 fn is_accepted(alloc: Global, text: &str) -> bool {
@@ -41,8 +42,10 @@ fn accepted_texts(rt: HostRuntime) -> Result<(), Fail> {
     let alloc: Global = rt.alloc();
     let texts = [
         ACCEPTED,
-        "lock: ; taken\nlock  dec[eax]\n\tjns over\nagain:\ncmp [ eax ] ,00\njle again\njmp lock\nover:\nret\nunlock:\nmov [eax],01\nret",
-        "lock:\nfirst:\nlock dec [eax]\njns b\na:\ncmp [eax], 0\njle a\njmp lock\nb:\nret\nunlock:\nmov [eax], 1\nret\nunlock:\n",
+        "lock: ; taken\nlock  dec[eax]\n\tjns over\nagain:\ncmp [ eax ] ,00\njle again\njmp lock\nover:\n\
+         ret\nunlock:\nmov [eax],01\nret",
+        "lock:\nfirst:\nlock dec [eax]\njns b\na:\ncmp [eax], 0\njle a\njmp lock\nb:\nret\nunlock:\n\
+         mov [eax], 1\nret\nunlock:\n",
     ];
     for text in texts {
         assert!(rt; is_accepted(alloc, text), "at {text}");
@@ -64,6 +67,11 @@ fn differing_bodies(rt: HostRuntime) -> Result<(), Fail> {
         ),
         ("lock:\nlock dec [eax]\njns enter\nspin:\ncmp [eax], 1\n", 2),
         (
+            "lock:\n  lock dec [eax]\n  jns enter\nspin:\n  jmp lock\nenter:\n  ret\nunlock:\n\
+               mov [eax], 1\n  ret\n",
+            2,
+        ),
+        (
             "lock:\nlock dec [eax]\njns e\ns:\ncmp [eax], 1\njle s\njmp lock\ne:\nret\nunlock:\nmov [eax], 1\nret\n",
             3,
         ),
@@ -76,7 +84,8 @@ fn differing_bodies(rt: HostRuntime) -> Result<(), Fail> {
             5,
         ),
         (
-            "lock:\nlock dec [eax]\njns e\ns:\ncmp [eax], 0\njle s\njmp lock\ne:\nret\nunlock:\nmov [eax], 1\nret\nlock:\n",
+            "lock:\nlock dec [eax]\njns e\ns:\ncmp [eax], 0\njle s\njmp lock\ne:\nret\nunlock:\n\
+             mov [eax], 1\nret\nlock:\n",
             5,
         ),
         (
@@ -92,7 +101,8 @@ fn differing_bodies(rt: HostRuntime) -> Result<(), Fail> {
             8,
         ),
         (
-            "lock:\nlock dec [eax]\njns e\ns:\ncmp [eax], 0\njle s\njmp lock\ne:\nret\nunlock:\nmov [eax], 1\nret\nret\n",
+            "lock:\nlock dec [eax]\njns e\ns:\ncmp [eax], 0\njle s\njmp lock\ne:\nret\nunlock:\n\
+             mov [eax], 1\nret\nret\n",
             9,
         ),
     ];

@@ -9,8 +9,12 @@ use std::test::Fail;
 const TEXT_LIMIT: usize = 16_777_216;
 
 // Two objects, with every kind of line outside functions. The first ends at line 24.
-const WHOLE: &str =
-    "object 1\nextern lock M\nextern shared a u8[4] M\nextern const b i16\nextern function g int 2 int u16* 1 M\nlock L\nshared x int L -5\nshared y unsigned[3] L 0 2147483647 -2147483648\nconst t i8[2] -128 127\nconst u u16 65535\nfunction f i8* 3 int unsigned i16* 2 L M\n.0\nmov eax, [@x+ecx*4-8]\njle .0\njmp .4294967295\n.4294967295\nret\nend\nfunction w void 1 int 0\ncall @f\nout eax\nret\nend\nend object\nobject 1\nend object\n";
+const WHOLE: &str = "object 1\nextern lock M\nextern shared a u8[4] M\nextern const b i16\n\
+     extern function g int 2 int u16* 1 M\nlock L\nshared x int L -5\n\
+     shared y unsigned[3] L 0 2147483647 -2147483648\nconst t i8[2] -128 127\nconst u u16 65535\n\
+     function f i8* 3 int unsigned i16* 2 L M\n.0\nmov eax, [@x+ecx*4-8]\njle .0\njmp .4294967295\n\
+     .4294967295\nret\nend\nfunction w void 1 int 0\ncall @f\nout eax\nret\nend\nend object\nobject 1\n\
+     end object\n";
 
 // The number of its last line, and that of the first line of its second object.
 const LAST_LINE: u32 = 26;
