@@ -1,0 +1,9 @@
+pub mod Plans
+pub mod Places
+pub mod Values
+pub mod Addresses
+pub mod Simulation
+pub mod Fitting
+pub mod Pass
+pub mod Rooms
+pub mod Units

@@ -1,0 +1,10 @@
+use Rattle.cas_runs.specs.Placing.{moved_blocks}
+use Rattle.cas_runs.proofs.Matched.{functions_pass}
+use Rattle.cas_runs.proofs.Bringing.{moved_is}
+use Rattle.cas_cminorgen.specs.Match.{cminorgen}
+use Rattle.cas_cminorgen.proofs.Pass.{cminorgen_shown}
+use Rattle.cas_cminorgen.proofs.laws.made_functions_refine.Goals as goal
+
+pub returns : goal.returns
+returns c = λ decls g f defined made. functions_pass (moved_blocks cminorgen) (moved_is cminorgen cminorgen_shown)
+    decls f g defined made
