@@ -241,7 +241,7 @@ number_before after z a b = by_first (print.is_joined after z) (int_eq z (pos 0)
     by_first false true = refl
     by_first false false = ap (λ (t : List ℕ). codes "+" ++ t) (integer_before z a b)
 
-mem_before : (place : Mem (List ℕ)) (rest : List ℕ) → print.mem place rest ≡ text (mem_pieces place []) ++ rest
+pub mem_before : (place : Mem (List ℕ)) (rest : List ℕ) → print.mem place rest ≡ text (mem_pieces place []) ++ rest
 mem_before place rest =
     ap (λ (t : List ℕ). codes "[" ++ t) (
     ap (print.symbol_part place.sym) (

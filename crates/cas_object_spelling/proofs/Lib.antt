@@ -1,0 +1,9 @@
+pub mod Before
+pub mod Declared
+pub mod Fields
+pub mod Marks
+pub mod Numbers
+pub mod Pieces
+pub mod Places
+pub mod Texts
+pub mod Written
