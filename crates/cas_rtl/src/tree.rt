@@ -49,6 +49,18 @@ impl Operands {
     {
         self.registers.as_slice()
     }
+
+    /// The same operands once more.
+    ///
+    /// # Errors
+    ///
+    /// `NoMemory` for want of memory.
+    pub fn copy(&self, alloc: Global) -> Result<Operands, NoMemory>
+        ensures { IfOk result (λ copied. copied ≡ self.now) }
+    {
+        let registers = SmallVec::from_slice(alloc, self.as_slice())?;
+        Ok(Operands { registers })
+    }
 }
 
 /// A node, with the numbers of the nodes that may follow.
@@ -73,6 +85,37 @@ pub enum RtlNode {
     Unlock(Name, u32),
     /// Puts out the word in a pseudo-register.
     Out(u32, u32),
+}
+
+impl RtlNode {
+    /// The same node once more.
+    ///
+    /// # Errors
+    ///
+    /// `NoMemory` for want of memory.
+    pub fn copy(&self, alloc: Global) -> Result<RtlNode, NoMemory>
+        ensures { IfOk result (λ copied. copied ≡ self.now) }
+    {
+        Ok(match self {
+            RtlNode::Nop(n) => RtlNode::Nop(*n),
+            RtlNode::Op(op, args, r, n) => RtlNode::Op(*op, args.copy(alloc)?, *r, *n),
+            RtlNode::Load(mode, args, r, n) => {
+                RtlNode::Load(mode.copy(alloc)?, args.copy(alloc)?, *r, *n)
+            }
+            RtlNode::Store(mode, args, r, n) => {
+                RtlNode::Store(mode.copy(alloc)?, args.copy(alloc)?, *r, *n)
+            }
+            RtlNode::Call(name, args, r, n) => {
+                RtlNode::Call(name.copy(alloc)?, args.copy(alloc)?, *r, *n)
+            }
+            RtlNode::Tail(name, args) => RtlNode::Tail(name.copy(alloc)?, args.copy(alloc)?),
+            RtlNode::Test(cond, args, n, m) => RtlNode::Test(*cond, args.copy(alloc)?, *n, *m),
+            RtlNode::Return(r) => RtlNode::Return(*r),
+            RtlNode::Lock(name, n) => RtlNode::Lock(name.copy(alloc)?, *n),
+            RtlNode::Unlock(name, n) => RtlNode::Unlock(name.copy(alloc)?, *n),
+            RtlNode::Out(r, n) => RtlNode::Out(*r, *n),
+        })
+    }
 }
 
 /// A function of RTL, which has one block of memory.

@@ -1,0 +1,11 @@
+pub mod Convention
+pub mod Reading
+pub mod Usable
+pub mod Together
+pub mod Moving
+pub mod Prices
+pub mod Nodes
+pub mod Calling
+pub mod Simulation
+pub mod Entry
+pub mod Pass

@@ -1,0 +1,4 @@
+pub mod Liveness
+pub mod Allocation
+pub mod Usable
+pub mod Match

@@ -1,0 +1,3 @@
+pub mod Successors
+pub mod Shortcut
+pub mod Match

@@ -1,0 +1,3 @@
+pub mod Locations
+pub mod Ltl
+pub mod Code
