@@ -1,0 +1,3 @@
+pub mod Tailcall
+pub mod Match
+pub mod Made
