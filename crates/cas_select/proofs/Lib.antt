@@ -1,0 +1,9 @@
+pub mod Improving
+pub mod Words
+pub mod Choosing
+pub mod Places
+pub mod Deciding
+pub mod Values
+pub mod Simulation
+pub mod Prices
+pub mod Pass
