@@ -1,5 +1,5 @@
 -- What is made of a function.
-use Rattle.std.proofs.Common.{◌≡◌, ℕ, ◌≤◌, List, true, sym, ap, subst, ◌∙◌, arith}
+use Rattle.std.proofs.Common.{◌≡◌, ℕ, List, true, sym, ap, subst, ◌∙◌, arith}
 use Rattle.cas_base.specs.declared.decl.Decl.{Decl}
 use Rattle.cas_runs.specs.Calls.{language}
 use Rattle.cas_runs.specs.Unit.{FunctionRefines, defines}

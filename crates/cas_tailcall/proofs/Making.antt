@@ -1,5 +1,5 @@
 -- The graph with tail calls: each node costs and weighs what its own did, and no call is left that may be a tail call.
-use Rattle.std.proofs.Common.{◌≡◌, ℕ, zero, suc, ◌+◌, ◌-◌, ◌*◌, ◌<◌, ◌≤◌, List, [], ◌∷◌, ◌++◌, ◌&&◌, Option, Some, None, Bool, true, false, map, length, slice_get, refl, sym, ap, ◌∙◌, subst, arith}
+use Rattle.std.proofs.Common.{◌≡◌, ℕ, zero, suc, ◌+◌, ◌-◌, ◌*◌, ◌<◌, List, [], ◌∷◌, ◌++◌, ◌&&◌, Option, Some, None, Bool, true, false, map, length, slice_get, refl, sym, ap, ◌∙◌, arith}
 use Rattle.cas_runs.specs.Label.{NameBytes}
 use Rattle.cas_runs.specs.Bounds.{total, weight_of}
 use Rattle.cas_mid.specs.Operators.{either}

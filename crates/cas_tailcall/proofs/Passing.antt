@@ -1,17 +1,17 @@
 -- What a call leaves is only passed on: the caller goes along Nops to a Return of it.
-use Rattle.std.proofs.Common.{◌≡◌, ℕ, zero, suc, ◌+◌, ◌≤◌, List, [], ◌∷◌, Option, Some, None, Bool, true, false, length, slice_get, nat_eq, nat_lt, refl, sym, ap, ◌∙◌, subst, eqb-true, arith}
+use Rattle.std.proofs.Common.{◌≡◌, ℕ, zero, suc, ◌+◌, ◌≤◌, List, [], ◌∷◌, Option, Some, None, Bool, true, false, length, slice_get, nat_eq, nat_lt, refl, sym, ap, ◌∙◌, subst, arith}
 use Rattle.std.proofs.lemmas.Bool.Decides.{nat_tests}
 use Rattle.cas_runs.specs.Naming.{Value, Number, Pointer, Hidden, usable}
-use Rattle.cas_runs.specs.Bounds.{total, step_price}
+use Rattle.cas_runs.specs.Bounds.{total}
 use Rattle.cas_runs.specs.Access.{Accesses, Then, with_value}
-use Rattle.cas_runs.specs.Calls.{Last, Goes, Returns}
+use Rattle.cas_runs.specs.Calls.{Last, Returns}
 use Rattle.cas_runs.specs.Passing.{Relation, PassesOn, cannot_go_on, fails_then, goes_then, returns_first}
 use Rattle.cas_runs.proofs.Tests.{eq_self}
 use Rattle.cas_mid.specs.Operators.{either}
 use Rattle.cas_rtl.specs.Graph.{Node, nop, op, load, store, call, tail, test, return_, lock, unlock, out, Graph, Point, some_if, set, left_of, read, resumed, step_at, price_at, operands_at}
 use Rattle.cas_rtl.specs.Rtl.{pseudo_registers, rtl_prices}
 use Rattle.cas_graphs.specs.Match.{point_of}
-use Rattle.cas_graphs.proofs.Nodes.{Pair, relation}
+use Rattle.cas_graphs.proofs.Nodes.{relation}
 use Rattle.cas_tailcall.specs.Tailcall.{past_nop, landing, returns_at, is_returned}
 use Rattle.cas_tailcall.proofs.Together.{Together, pair}
 

@@ -5,9 +5,8 @@ use Rattle.cas_runs.specs.Naming.{Value, Number, Memory}
 use Rattle.cas_runs.specs.Bounds.{total, first_price}
 use Rattle.cas_runs.specs.Access.{Accesses, Then, with_value}
 use Rattle.cas_runs.specs.Calls.{Last, Tails, set_blocks, fresh}
-use Rattle.cas_runs.specs.Edge.{results_of}
-use Rattle.cas_runs.specs.Held.{Activation, Leads, meets_there, steps_alone, fails_alone, Alone, at_last, passing_held, Steps, BeginIf, begins_at_once, begins_later}
-use Rattle.cas_runs.specs.Passing.{OnlyPasses, MadeOf}
+use Rattle.cas_runs.specs.Held.{Activation, Leads, meets_there, steps_alone, fails_alone, Alone, at_last, passing_held, Steps, BeginIf, begins_later}
+use Rattle.cas_runs.specs.Passing.{MadeOf}
 use Rattle.cas_runs.specs.Unit.{Setting}
 use Rattle.cas_runs.specs.Unmoved.{IsUnmoved, bare, places, unmoved}
 use Rattle.cas_mid.specs.Operators.{either, only_if}
@@ -18,7 +17,7 @@ use Rattle.cas_rtl.proofs.Tariffs.{rtl_tariff}
 use Rattle.cas_graphs.specs.Successors.{redirected}
 use Rattle.cas_graphs.specs.Match.{point_of}
 use Rattle.cas_graphs.proofs.Nodes.{relation, held, Does, Redirection, value_too, same_values, equal_values, node_too}
-use Rattle.cas_tailcall.specs.Tailcall.{may_be_tail, is_returned, tail_node, tailed}
+use Rattle.cas_tailcall.specs.Tailcall.{may_be_tail, tail_node, tailed}
 use Rattle.cas_tailcall.specs.Match.{MatchStates, matches, tailcall}
 use Rattle.cas_tailcall.proofs.Together.{Together, pair}
 use Rattle.cas_tailcall.proofs.Passing.{passes_on}
