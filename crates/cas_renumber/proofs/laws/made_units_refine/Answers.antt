@@ -1,0 +1,13 @@
+use Rattle.cas_runs.specs.Unmoved.{unmoved}
+use Rattle.cas_runs.proofs.Matched.{units_pass}
+use Rattle.cas_runs.proofs.Unmoved.{unmoved_is}
+use Rattle.cas_rtl.specs.Code.{rtl_graph}
+use Rattle.cas_rtl.specs.Rtl.{pseudo_registers, rtl_prices}
+use Rattle.cas_graphs.specs.Match.{shortcut}
+use Rattle.cas_renumber.proofs.Pass.{shown, all_other}
+use Rattle.cas_renumber.proofs.laws.made_units_refine.Goals as goal
+
+pub returns : goal.returns
+returns c = λ s t decls globals defined made. units_pass (unmoved (shortcut pseudo_registers rtl_prices rtl_graph))
+    (unmoved_is (shortcut pseudo_registers rtl_prices rtl_graph) shown)
+    t s decls globals defined (all_other s.decls t.funs s.funs made)
