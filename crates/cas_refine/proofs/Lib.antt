@@ -7,3 +7,4 @@ pub mod Returning
 pub mod Opening
 pub mod Tables
 pub mod Runs
+mod Room
